@@ -1,6 +1,6 @@
 -- An arc, whoever wrote it: its code gives its newest value, and leaves its tail.
 use Rattle.crx_compact.proofs.Words.{◌≡◌, refl, ℕ, ℤ, List, [], ◌∷◌, Option, Some, None, Ok, ap, sym, ◌∙◌, length, min}
-use Rattle.crx_compact.proofs.Words.{subst, inl, inr, difference, value_of_code, arc_of_code, differences_of, values_of}
+use Rattle.crx_compact.proofs.Words.{inl, inr, difference, value_of_code, arc_of_code, differences_of, values_of}
 use Rattle.crx_compact.proofs.Words.{IsWithin, IsMissingOrWithin, ArcTail, in_range, arith, common_steps}
 use Rattle.crx_compact.proofs.arcs.Inversion.{numbers_of, value-numbers}
 use Rattle.crx_compact.proofs.arcs.Stepping.{values-by_tail, first-differences}
@@ -30,24 +30,16 @@ step n x y ys =
     ap (λ vs. arc_after_number d (tail_at n vs)) (sym (values-back n (y ∷ ys)))
     ∙ sym tails ∙ ap (tail_at n) (values-back n (x ∷ y ∷ ys))
 
-within : (width : ℕ) (x : ℤ) → IsWithin width x → in_range width x ≡ Ok (Some x)
-within width x h = cc ((within-is width x).1 h)
-
-next : (width n : ℕ) (x y : ℤ) (ys : List ℤ) → IsWithin width x
-    → Goes width (Some (record { order = n; newest = y; older = ys })) (Some (record { order = n; newest = x; older = y ∷ ys }))
-next width n x y ys h = record {
-  value = ap (λ t. in_range width (value_of_tail t)) (step n x y ys)
-      ∙ ap (in_range width) (difference-zero x (y ∷ ys)) ∙ within width x h;
-  leaves = ap {B = Option ArcTail} Some (step n x y ys);
-}
-
 by_older : (width n : ℕ) (x : ℤ) (older : List ℤ) (before : Option Arc) → IsWithin width x
     → MayFollow before (Some (record { order = n; newest = x; older = older }))
     → Goes width before (Some (record { order = n; newest = x; older = older }))
-by_older width n x [] before h f = grind (arith, common_steps, within, first-differences)
+by_older width n x [] before h f = grind (arith, common_steps, (within-is width x).1 h, first-differences)
 by_older width n x (y ∷ ys) before h (inl e) = absurd (cc e)
-by_older width n x (y ∷ ys) before h (inr e) =
-    subst (λ b. Goes width b (Some (record { order = n; newest = x; older = y ∷ ys }))) e (next width n x y ys h)
+by_older width n x (y ∷ ys) before h (inr e) = rw (← e) (record {
+  value = ap (λ t. in_range width (value_of_tail t)) (step n x y ys)
+      ∙ ap (in_range width) (difference-zero x (y ∷ ys)) ∙ cc ((within-is width x).1 h);
+  leaves = ap {B = Option ArcTail} Some (step n x y ys);
+})
 
 -- whatever was there, and whichever choice was made
 pub goes : (width : ℕ) (before now : Option Arc) → MayFollow before now → IsMissingOrWithin width (value_now now)

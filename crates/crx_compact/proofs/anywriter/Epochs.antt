@@ -8,7 +8,7 @@ use Rattle.crx_compact.proofs.Words.{raw_row_tail_after, raw_tail_after, tail_na
 use Rattle.crx_compact.proofs.SoundTexts.{patched-trimmed, trimmed-again}
 use Rattle.crx_compact.proofs.reading.RawTailing.{place-by_tail, left-by_tail}
 use Rattle.crx_compact.proofs.soundness.Soundness.{reads-soundly}
-use Rattle.crx_compact.proofs.wayback.Facts.{IsTypedRow, typed-rows, text-kept, satellites_of_rows}
+use Rattle.crx_compact.proofs.wayback.Facts.{IsTypedRow, typed-rows, text-kept}
 use Rattle.crx_compact.proofs.wayback.Reading.{text-other, text-columns, text-good}
 use Rattle.crx_compact.proofs.Words.{append-nil, map-map, rules}
 use Rattle.crx_compact.specs.OpenEpochs.{held_after, placed_as}
@@ -25,9 +25,6 @@ use Rattle.crx_compact.proofs.{wayback.Facts.{text-head, head-counted}}
 
 abbrev satellites_written : List WrittenRow → List Satellite
 satellites_written rows = map (λ (r : WrittenRow). record { name = r.name; count = length r.arcs }) rows
-
-satellites-same : (rows : List WrittenRow) → satellites_of_rows (map row_now rows) ≡ satellites_written rows
-satellites-same rows = simp (map-map, length-map)
 
 record RowsRead (base : WrittenEpoch) (rows : List WrittenRow) (lines : List (List ℕ)) : Type 0 where
   reads : List ReadRow
@@ -89,7 +86,8 @@ module _ (types : List Count) (base now : WrittenEpoch) (line clock : List ℕ) 
   printable = search (rules, marks-printable, text-kept)
 
   satellites : satellites_of_line types (past_of_tail (epoch_left base)) line ≡ Ok (satellites_written now.rows)
-  satellites = rw (printable, text-made) (text-good types (epoch_now now) whole ∙ ap Ok (satellites-same now.rows))
+  satellites = rw (printable, text-made)
+      (text-good types (epoch_now now) whole ∙ ap Ok (simp (map-map, length-map)))
 
   clock-other : begins_epoch clock ≡ false
   clock-other = ap (λ c. begins_epoch (c ∷ [])) (sym (at-without_end_blanks clock 0))
@@ -112,9 +110,7 @@ module _ (types : List Count) (base now : WrittenEpoch) (line clock : List ℕ) 
       pick : (b : Bool) → begins_epoch line ≡ b → (if b then Some nothing_written else before) ≡ Some base
           → is_event_line line ≡ false
       pick false e f = rw e refl
-      pick true e f =
-          let made : patched [] line ≡ without_end_blanks (epoch_text (epoch_now now)) = search (rules) in
-          rw (e, full-no_event types (epoch_now now) line whole made) refl
+      pick true e f = rw (e, full-no_event types (epoch_now now) line whole (search rules)) refl
 
   rows-good : RowsRead base now.rows lines
   rows-good = rows-read types base now.rows lines (typed-rows types (epoch_now now) whole) h.satellites

@@ -11,7 +11,7 @@ use Rattle.crx_compact.proofs.{EpochTexts.blank-after, PlaceByPlace.at-padded}
 use Rattle.crx_compact.proofs.Words.{ArcTail, Satellite}
 use Rattle.crx_compact.specs.ArcSteps.{arc_after_number, value_of_tail}
 use Rattle.crx_compact.proofs.Words.{ReadRow, past_of_tail, tail_named, cell_of_tail, flags_of_tail, OBSERVATION_WIDTH, columns, is_printable}
-use Rattle.crx_compact.proofs.Words.{at, at-without_end_blanks, patched, and_parts, true}
+use Rattle.crx_compact.proofs.Words.{at, at-without_end_blanks, patched, and_parts}
 use Rattle.crx_compact.proofs.Characters.{at-by_position}
 use Rattle.crx_compact.proofs.{wayback.Overlays.at_past}
 use Rattle.crx_compact.proofs.SoundTexts.{patched-trimmed, trimmed-again, same-cut, cut-all}
@@ -113,11 +113,6 @@ pub columns-all : (n : ℕ) (text : List ℕ) → ((p : ℕ) → at text (n + p)
 columns-all n text h =
     same-cut n (text ++ replicate n 32) text (λ p less. at-padded n text p) ∙ cut-all n text h
 
--- marks with nothing but blanks past some columns, over a text that ends there, make a text that ends there
-pub patched-blank : (k : ℕ) (old m : List ℕ) → length old ≤ k → list_all is_blank (drop k m) ≡ true → (p : ℕ)
-    → at (patched old m) (k + p) ≡ 32
-patched-blank k old m h b p = grind (arith, at-without_end_blanks, at-by_position, at_past, blank-after)
-
 pub row-back : (before : WrittenEpoch) (satellite : Satellite) (line : List ℕ) (read : ReadRow)
     → length (flags_in (row_before before satellite)) ≤ 2 * satellite.count
     → RowFacts (past_of_tail (epoch_left before)) satellite line read
@@ -133,7 +128,7 @@ row-back before satellite line read few h =
     let many : length back.arcs ≡ n = grind (arith, length-map) in
     let marks = and_parts (list_all is_printable m) (list_all is_blank (drop (2 * n) m)) h.marks_ok in
     let old : patched (flags_of_tail tail) m ≡ patched (flags_in found) m =
-    ap (λ t. patched t m) (ap flags_of_tail (tail-found satellite.name before) ∙ flags-found found) ∙ patched-trimmed (flags_in found) m in
+    grind (arith, tail-found, flags-found, patched-trimmed) in
     let flags = columns (patched (flags_of_tail tail) m) 1 (2 * length h.cells) in
     record {
       now = record { name = satellite.name; arcs = back.arcs; flags = flags };
@@ -145,8 +140,9 @@ row-back before satellite line read few h =
         marks = m;
         spelled = back.spelled;
         written = line-back n line;
-        marked = grind (arith, columns-all, found, patched-blank, trimmed-again);
-        no_more = ap (λ k. list_all is_blank (drop (2 * k) m)) many ∙ marks.1;
+        marked = grind (arith, columns-all, found, trimmed-again, at-without_end_blanks, at-by_position,
+            at_past, blank-after);
+        no_more = grind (arith, many);
         follows = back.follows;
       };
     }

@@ -4,8 +4,8 @@ use Rattle.crx_compact.proofs.Words.{◌≡◌, refl, ℕ, ℤ, suc, List, [], �
 use Rattle.crx_compact.proofs.Words.{None, map, length, arith, ap, sym, ◌∙◌, ◌≤◌, drop}
 use Rattle.crx_compact.proofs.Words.{list_all, AllByRecursion, option_map, rules, if◌then◌else◌, slice_index_or, get_or_past}
 use Rattle.crx_compact.proofs.Words.{Count, Row, Epoch, Marked, AreWhole, IsWholeEpoch, epoch_text, newest_text, since_full, run_of, arc_of, clock_arc, row_named, stretch, named, codes_of, indicators_before, satellite_line, epoch_line, compact_epoch}
-use Rattle.crx_compact.proofs.Words.{without_end_blanks, patched, text_difference}
-use Rattle.crx_compact.proofs.Words.{is_blank, begins_epoch, common_steps}
+use Rattle.crx_compact.proofs.Words.{without_end_blanks, text_difference}
+use Rattle.crx_compact.proofs.Words.{is_blank, common_steps}
 use Rattle.crx_compact.proofs.Words.{code_at, code_text, code_of-code_text, WRITTEN_ORDER, each_place, map-each_place, index-each_place, each_place-same, length-each_place}
 use Rattle.crx_compact.proofs.Identifiers.{each-own}
 use Rattle.crx_compact.proofs.anywriter.Texts.{code-characters}
@@ -146,9 +146,9 @@ lines-after : (types : List Count) (full : Bool) (e : Epoch) (older : List Marke
 lines-after types full e older h =
     let printable = clock-printable types (since_full (marked full e ∷ older)) h in
     record {
-      marked = ap (λ t. patched t (epoch_line (marked full e) older)) (old-same types full e older h)
-          ∙ patched-again (if full then [] else newest_text older) (epoch_text e) (unmarked (epoch_text e) (text-kept types e h.0))
-          ∙ ap (λ q. without_end_blanks (epoch_text q)) (sym (epoch-same types full e older h.0));
+      marked = rw (old-same types full e older h)
+          (patched-again _ (epoch_text e) (unmarked (epoch_text e) (text-kept types e h.0))
+          ∙ ap (λ q. without_end_blanks (epoch_text q)) (sym (epoch-same types full e older h.0)));
       spelled = grind (arith, no-end_blanks, code-characters, printable, code_of-code_text, code-written);
       follows = grind (arith, follow);
       satellites = rows-here types full e older h e.rows (each-own (λ (r : Row). r.name) e.rows h.0.sound.apart);
@@ -159,16 +159,11 @@ pub full-lines : (types : List Count) (e : Epoch) (older : List Marked) (before 
     → AreWhole types (since_full (marked true e ∷ older))
     → AreEpochLines before (epoch_written (marked true e) older) (compact_epoch (marked true e ∷ older))
 full-lines types e older before h =
-    let begins : begins_epoch (epoch_line (marked true e) older) ≡ true = begins_full (epoch_text e) (text-begins types e h.0) in
-    (nothing_written, ap (λ b. if b then Some nothing_written else before) begins, lines-after types true e older h)
+    (nothing_written, search (rules, begins_full, text-begins), lines-after types true e older h)
 
 pub later-lines : (types : List Count) (e : Epoch) (m : Marked) (older : List Marked)
     → AreWhole types (since_full (marked false e ∷ m ∷ older))
     → AreEpochLines (Some (epoch_written m older)) (epoch_written (marked false e) (m ∷ older)) (compact_epoch (marked false e ∷ m ∷ older))
 later-lines types e m older h =
-    let other : begins_epoch (epoch_line (marked false e) (m ∷ older)) ≡ false =
-    begins_later (epoch_text m.epoch) (epoch_text e) (text-begins types m.epoch h.1.0) (text-begins types e h.0) in (
-      epoch_written m older,
-      ap (λ b. if b then Some nothing_written else Some (epoch_written m older)) other,
-      lines-after types false e (m ∷ older) h,
-    )
+    let lines = lines-after types false e (m ∷ older) h in
+    (epoch_written m older, search (rules, begins_later, text-begins), lines)

@@ -1,5 +1,5 @@
 -- What was written here is read back, since any writer may write it.
-use Rattle.crx_compact.proofs.Words.{◌≡◌, refl, ℤ, List, [], ◌∷◌, Bool, true, false, Option, Some, None, map}
+use Rattle.crx_compact.proofs.Words.{◌≡◌, refl, ℤ, List, [], ◌∷◌, Bool, false, Option, Some, None, map}
 use Rattle.crx_compact.proofs.Words.{arith, ap, sym, ◌∙◌}
 use Rattle.crx_compact.proofs.Words.{append_assoc, length-map, map-append, drop-append_seam, subst}
 use Rattle.crx_compact.proofs.Words.{IsWholeEpoch}
@@ -47,15 +47,13 @@ pub record OwnLines (types : List Count) (full : Bool) (e : Epoch) (older : List
 pub own-lines : (types : List Count) (full : Bool) (e : Epoch) (older : List Marked) (tail : Option Tail)
     → AreWhole types (since_full (marked full e ∷ older)) → (full ≡ false → tail ≡ tail_or_nothing older)
     → OwnLines types full e older tail
-own-lines types true e older tail h k =
-    record { before = None; left = λ b e. absurd (cc e); lines = full-lines types e older None h }
-own-lines types false e [] tail h k =
-    record { before = None; left = λ b e. absurd (cc e); lines = full-lines types e [] None h }
 own-lines types false e (m ∷ older) tail h k = record {
   before = Some (epoch_written m older);
   left = λ b is. let own = own-left types m.in_full m.epoch older h.1 in let tail = k refl in cc;
   lines = later-lines types e m older h;
 }
+own-lines types full e older tail h k =
+    record { before = None; left = λ b e. absurd (cc e); lines = full-lines types e older None h }
 
 -- ---- an epoch
 

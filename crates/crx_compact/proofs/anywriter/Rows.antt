@@ -69,19 +69,13 @@ arcs-left (a ∷ arcs) b h = cc (h 0, arcs-left arcs (λ j. b (suc j)) (λ j. h 
 pub at-same : (a b : List ℕ) → without_end_blanks a ≡ without_end_blanks b → (p : ℕ) → at a p ≡ at b p
 at-same a b e p = sym (at-without_end_blanks a p) ∙ ap (λ t. at t p) e ∙ at-without_end_blanks b p
 
-pub patched-same : (old a b : List ℕ) → without_end_blanks a ≡ without_end_blanks b → patched old a ≡ patched old b
-patched-same old a b e = grind (arith, same_characters, at-by_position, at-same)
-
-mark-printable : (old mark new : ℕ) → character_of old mark ≡ new → is_kept new ≡ true → is_printable mark ≡ true
-mark-printable old mark new e h = grind arith
-
 -- marks that make a text of characters that may be there are printable
 pub marks-printable : (old marks new : List ℕ) → patched old marks ≡ without_end_blanks new
     → list_all is_kept new ≡ true → list_all is_printable marks ≡ true
 marks-printable old marks new e h = list_all-from_at is_printable marks (λ p.
-    mark-printable (at old p) (at marks p) (at new p)
-    (sym (at-by_position character_of refl old marks p)
-    ∙ at-same (by_position character_of old marks) new e p) (list_all-at is_kept refl new h p))
+    let same = at-same (by_position character_of old marks) new e p in
+    let kept = list_all-at is_kept refl new h p in
+    grind (arith, at-by_position))
 
 -- texts that are the same without the blanks at their ends meet the same test, where a blank does
 pub all-same : (p : ℕ → Bool) → p 32 ≡ true → (a b : List ℕ) → without_end_blanks a ≡ without_end_blanks b
@@ -131,7 +125,8 @@ module _ (before : WrittenEpoch) (now : WrittenRow) (line : List ℕ) (sound : I
   cell-held j = grind (arith, tail-found, cell-found, named)
 
   flags-made : patched (flags_of_tail tail) marks ≡ without_end_blanks now.flags
-  flags-made = grind (arith, named, tail-found, flags-found, patched-trimmed, patched-same, marks-same)
+  flags-made = grind (arith, named, tail-found, flags-found, patched-trimmed, same_characters, at-by_position,
+      at-same, marks-same)
 
   goes-at : (j : ℕ) → Goes OBSERVATION_WIDTH (arc_in found j) (arc_at now.arcs j)
   goes-at j = goes OBSERVATION_WIDTH (arc_in found j) (arc_at now.arcs j) (h.follows j)
@@ -157,13 +152,10 @@ module _ (before : WrittenEpoch) (now : WrittenRow) (line : List ℕ) (sound : I
       let printable = marks-printable (flags_of_tail tail) marks now.flags flags-made sound.kept in
       grind (arith, other, cells, cells-good, cell-held, goes-at, blanks-same, marks-same, made)
 
-  leaves-here : (j : ℕ) → arc_of_code (code_now (arc_at now.arcs j)) (cell_of_tail j tail) ≡ arc_left
-      (arc_at now.arcs j)
-  leaves-here j = ap (arc_of_code (code_now (arc_at now.arcs j))) (cell-held j) ∙ (goes-at j).leaves
-
   leaves-row : raw_row_tail_after tail read.raw ≡ row_left now
   leaves-row =
-      let cells = arcs-left now.arcs (λ j. cell_of_tail j tail) leaves-here in
+      let cells = arcs-left now.arcs (λ j. cell_of_tail j tail)
+      (λ j. ap (arc_of_code (code_now (arc_at now.arcs j))) (cell-held j) ∙ (goes-at j).leaves) in
       let held = held-columns (length now.arcs) (patched (flags_of_tail tail) marks) in
       cc (length-map now.arcs code_now, flags-again)
 

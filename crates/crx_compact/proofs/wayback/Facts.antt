@@ -40,22 +40,20 @@ unmarked text h p = (grind (arith, common_steps))
 
 -- ---- an epoch's head and text
 
-names-kept : (types : List Count) (rows : List Row)
-    → AllByRecursion (IsTypedRow types) rows → list_all is_kept (flat_map (λ (r : Row). r.name) rows) ≡ true
-names-kept types [] h = refl
-names-kept types (r ∷ rs) h = list_all-append _ r.name _ (sound-name_kept r h.0.0) (names-kept types rs h.1)
-
-length-names : (types : List Count) (rows : List Row)
-    → AllByRecursion (IsTypedRow types) rows → length (flat_map (λ (r : Row). r.name) rows) ≡ 3 * length rows
-length-names types [] h = refl
-length-names types (r ∷ rs) h = search (rules, length-append, flat_map, length-names types rs h.1)
+names-text : (types : List Count) (rows : List Row) → AllByRecursion (IsTypedRow types) rows
+    → (list_all is_kept (flat_map (λ (r : Row). r.name) rows) ≡ true)
+    × (length (flat_map (λ (r : Row). r.name) rows) ≡ 3 * length rows)
+names-text types [] h = (refl, refl)
+names-text types (r ∷ rs) h =
+    let rest = names-text types rs h.1 in
+    (list_all-append _ r.name _ (sound-name_kept r h.0.0) rest.0, search (rules, length-append, flat_map))
 
 module _ (types : List Count) (e : Epoch) (h : IsWholeEpoch types e) where
   pub head-kept : list_all is_kept e.head ≡ true
   head-kept = grind (arith, common_steps, and_parts, if_some, head-counted)
 
   pub text-kept : list_all is_kept (epoch_text e) ≡ true
-  text-kept = list_all-append is_kept e.head _ head-kept (names-kept types e.rows (typed-rows types e h))
+  text-kept = list_all-append is_kept e.head _ head-kept (names-text types e.rows (typed-rows types e h)).0
 
   pub text-head : (p : ℕ) → p < 41 → at (epoch_text e) p ≡ at e.head p
   text-head p less = at-append e.head _ p (omega (arith, h.sound.head_sound.width))
@@ -65,11 +63,8 @@ module _ (types : List Count) (e : Epoch) (h : IsWholeEpoch types e) where
 
   pub length-text : length (epoch_text e) ≡ 41 + 3 * length e.rows
   length-text =
-      let names = length-names types e.rows (typed-rows types e h) in
+      let names = (names-text types e.rows (typed-rows types e h)).1 in
       grind (arith, length-append e.head (flat_map (λ (r : Row). r.name) e.rows))
-
-  pub text-names : (p : ℕ) → at (epoch_text e) (41 + p) ≡ at (flat_map (λ (r : Row). r.name) e.rows) p
-  text-names p = at-append_past e.head _ 41 p h.sound.head_sound.width
 
 -- ---- identifiers
 

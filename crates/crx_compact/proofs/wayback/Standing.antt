@@ -106,8 +106,7 @@ lines-short types full e older h =
     let fits = stretch-within CLOCK_WIDTH (map (λ (e : Epoch). e.clock) (since_full ms))
     (clocks-fit types (since_full ms) h) in
     let clock = code-length 13 (clock_arc ms) (omega arith) (omega arith) (omega arith) fits in
-    let kept = typed-rows types e h.0 in
-    let rows = rows-short types ms h e.rows kept in
+    let rows = rows-short types ms h e.rows (typed-rows types e h.0) in
     (omega arith, (omega arith, rows))
 
 -- ---- characters

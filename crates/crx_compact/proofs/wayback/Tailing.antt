@@ -2,8 +2,8 @@
 use Rattle.crx_compact.proofs.Words.{◌≡◌, text_difference, satellite_line, index-each_place, lines_after_tail}
 use Rattle.crx_compact.proofs.Words.{refl, [], Option, Epoch, Marked, run_of, arc_of, tail_of, no_tail}
 use Rattle.crx_compact.proofs.Words.{ℕ, ℤ, Bool, true, List, ◌∷◌, map, Some, Row, Tail, common_steps}
-use Rattle.crx_compact.proofs.Words.{if◌then◌else◌, without_end_blanks, indicators_before, tail_written_after}
-use Rattle.crx_compact.proofs.Words.{option_map, get_or_past, newest_text, row_line_in, row_tail_in}
+use Rattle.crx_compact.proofs.Words.{if◌then◌else◌, indicators_before, tail_written_after}
+use Rattle.crx_compact.proofs.Words.{option_map, epoch_line, get_or_past, row_line_in, row_tail_in}
 use Rattle.crx_compact.proofs.Words.{WRITTEN_ORDER, cell_of_tail, flags_of_tail, are_different, compact_epoch}
 use Rattle.crx_compact.proofs.Words.{back_to, stretch, epoch_text, row_named, RowTail, tail_named, tail_after}
 use Rattle.crx_compact.proofs.{Words.{arc_tail, rules, arith, IsSoundEpoch}, arcs.Arcs.{code-next, arc-next}}
@@ -12,11 +12,6 @@ use Rattle.crx_compact.proofs.{wayback.Runs.{marked, named-made, rows_before}, S
 use Rattle.crx_compact.specs.{Tails.{row_tail, tail_or_nothing}, Laws.{EpochByTail}}
 
 -- ---- what a tail holds of a satellite
-
--- a satellite's row in the newest epoch of a run
-abbrev head_flags : List Row → List ℕ
-head_flags [] = []
-head_flags (r ∷ rs) = without_end_blanks r.flags
 
 abbrev start : Bool → List Marked → Tail
 start full older = if full then no_tail else tail_of older
@@ -30,32 +25,25 @@ cell-left : (full : Bool) (name : List ℕ) (older : List Marked) (j : ℕ) → 
     (tail_named name (start full older)) ≡ arc_tail WRITTEN_ORDER (arc_of j (rows_before full name older))
 cell-left full name older j = grind (arith, common_steps, tail-found, index-each_place, get_or_past)
 
-flags-left : (full : Bool) (name : List ℕ) (older : List Marked)
-    → flags_of_tail (tail_named name (start full older)) ≡ head_flags (rows_before full name older)
-flags-left full name older = grind (arith, common_steps, tail-found)
+flags-left : (full : Bool) (older : List Marked) (r : Row)
+    → text_difference (indicators_before (r ∷ rows_before full r.name older)) r.flags
+    ≡ text_difference (flags_of_tail (tail_named r.name (start full older))) r.flags
+flags-left full older r = grind (arith, common_steps, tail-found, before-trimmed)
 
 -- ---- one row more
-
-before-flags : (r : Row) (rs : List Row)
-    → text_difference (indicators_before (r ∷ rs)) r.flags ≡ text_difference (head_flags rs) r.flags
-before-flags r rs = grind (arith, before-trimmed)
 
 row-by_tail : (full : Bool) (e : Epoch) (older : List Marked) (r : Row)
     → row_named r.name e.rows ≡ Some r
     → (satellite_line (run_of r.name (marked full e ∷ older)) r ≡ row_line_in (start full older).rows r)
     × (row_tail (run_of r.name (marked full e ∷ older)) r ≡ row_tail_in (start full older).rows r)
 row-by_tail full e older r own =
-    search (rules, run-begins, code-next, cell-left, before-flags, flags-left, arc-next)
+    search (rules, run-begins, code-next, cell-left, flags-left, arc-next)
 
 -- ---- one epoch more
 
 abbrev clocks_before : Bool → List Marked → List (Option ℤ)
 clocks_before full older = map (λ (q : Epoch). q.clock)
     (map (λ (m : Marked). m.epoch) (if full then [] else back_to (λ (m : Marked). m.in_full) older))
-
-text-left : (full : Bool) (older : List Marked) (new : List ℕ) → text_difference
-    (if full then [] else newest_text older) new ≡ text_difference (start full older).text new
-text-left full older new = grind (arith, before-trimmed)
 
 pub epoch-by_tail : (m : Marked) (older : List Marked) → are_different m.epoch.rows ≡ true
     → EpochByTail m older
@@ -73,7 +61,8 @@ epoch-by_tail m older h =
     (λ r here. (row-by_tail full e older r here).1) e.rows own in
     let clock : arc_tail WRITTEN_ORDER (stretch (clocks_before full older)) ≡ (start full older).clock =
     grind arith in
-    let text = text-left full older (epoch_text e) in
+    let text : epoch_line m older ≡ text_difference (start full older).text (epoch_text e) =
+    grind (arith, before-trimmed) in
     record { lines = cc; tail = cc }
 
 -- ---- an epoch coded after others
