@@ -88,12 +88,7 @@ names-joined : (text : List ℕ) (k count : ℕ)
     → joined (each_place count (λ i. columns text (k + 1 + 3 * i) 3)) ≡ columns text (k + 1) (3 * count)
 names-joined text k zero = refl
 names-joined text k (suc count) =
-    let later = each_place-same count (λ i. columns text (k + 1 + 3 * suc i) 3)
-    (λ i. columns text (k + 3 + 1 + 3 * i) 3)
-    (λ i. ap (λ n. columns text n 3) (omega arith)) in
-    let first : k + 1 + 3 * 0 ≡ k + 1 = omega arith in
-    let many : 3 + 3 * count ≡ 3 * suc count = omega arith in
-    cc (later, names-joined text (k + 3) count, columns-append text k 3 (3 * count))
+    grind (arith, each_place-same, names-joined text (k + 3) count, columns-append text k 3 (3 * count))
 
 -- ---- the epoch
 

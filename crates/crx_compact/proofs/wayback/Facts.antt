@@ -62,9 +62,7 @@ module _ (types : List Count) (e : Epoch) (h : IsWholeEpoch types e) where
   text-begins = grind (arith, common_steps, nat_eq, text-head)
 
   pub length-text : length (epoch_text e) ≡ 41 + 3 * length e.rows
-  length-text =
-      let names = (names-text types e.rows (typed-rows types e h)).1 in
-      grind (arith, length-append e.head (flat_map (λ (r : Row). r.name) e.rows))
+  length-text = grind (arith, length-append, names-text types e.rows (typed-rows types e h))
 
 -- ---- identifiers
 

@@ -87,8 +87,7 @@ run-printable types name run h j =
 pub clock-printable : (types : List Count) (epochs : List Epoch) → AreWhole types epochs
     → IsPrintable (code_at WRITTEN_ORDER (stretch (map (λ (e : Epoch). e.clock) epochs)))
 clock-printable types epochs h =
-    let arc = stretch _ in
-    code-printable (10 ^ (CLOCK_WIDTH - 1)) arc (omega arith) (near-all CLOCK_WIDTH arc
+    code-printable (10 ^ (CLOCK_WIDTH - 1)) _ (omega arith) (near-all CLOCK_WIDTH _
     (stretch-within CLOCK_WIDTH (map (λ (e : Epoch). e.clock) epochs) (clocks-fit types epochs h)))
 
 pub are-printable : (types : List Count) (m : Marked) (older : List Marked)
