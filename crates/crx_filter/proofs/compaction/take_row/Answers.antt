@@ -1,7 +1,6 @@
 use Rattle.crx_filter.proofs.{Words.{common_steps, arith, inl, inr, refl, ap, not, ◌∙◌, false≢true}}
 use Rattle.crx_filter.proofs.{steps.Together.{row-lost, rows-few}}
 use Rattle.crx_filter.proofs.steps.Together.{row-known, row-refused, row-written, rows-there}
-use Rattle.std.proofs.lemmas.Result.{err_from_is_err_and}
 use Rattle.crx_filter.proofs.compaction.take_row.Goals as goal
 
 pub encode_row-requires : goal.encode_row-requires
