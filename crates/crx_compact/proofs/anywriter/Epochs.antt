@@ -159,7 +159,8 @@ module _ (types : List Count) (base now : WrittenEpoch) (line clock : List ℕ) 
       ≡ Done (record { raw = raw; epoch = epoch_now now }) (2 + length now.rows) =
       λ rest. place-by_tail types raws (map Content (line ∷ clock ∷ lines) ++ rest)
       ∙ epoch-reads (tail_left raws) rest e in
-      let single = (reads-soundly types raws (map Content (line ∷ clock ∷ lines) ++ []) _ _ (here [])).single in
+      let single = (reads-soundly types raws (map Content (line ∷ clock ∷ lines) ++ []) _ _
+      (here [])).single in
       record {
         raw = raw;
         reads = here;

@@ -124,8 +124,7 @@ only-epoch types before raws lines read count left whole e =
     let text = patched (without_end_blanks (epoch_text (epoch_now base))) h.line in
     let n = h.line_ok.count in
     let names : columns text 42 (3 * n) ≡ flat_map (λ (r : Row). r.name) (map row_now rows.rows) =
-    let same = names-joined text 41 n in
-    grind (arith, flat_map-map, h.line_ok.named.same, rows.names) in
+    grind (arith, flat_map-map, names-joined text 41 n, h.line_ok.named.same, rows.names) in
     record {
       now = record { head = columns text 1 41; clock = arc.now; rows = rows.rows };
       epoch = search rules;

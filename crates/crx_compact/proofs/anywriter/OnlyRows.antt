@@ -36,9 +36,7 @@ number-back : (n : ℕ) (d y : ℤ) (ys : List ℤ)
 number-back n d y ys =
     let c = difference (min (length ys) n) (y ∷ ys) in
     let nums = numbers_of n ys in
-    let value = (values-by_tail n d c nums).value in
-    let back = values-back n (y ∷ ys) in
-    cc (numbers-values n (d ∷ c ∷ nums))
+    cc ((values-by_tail n d c nums).value, values-back n (y ∷ ys), numbers-values n (d ∷ c ∷ nums))
 
 pub arc-back : (width : ℕ) (found : Option Arc) (code : Code) (v : Option ℤ)
     → value_of_code width code (arc_left found) ≡ Ok v → ArcBack found code v

@@ -73,8 +73,7 @@ each-reads_back types m older raws h k =
 pub one-tail : OneTail
 one-tail types m older raws rest read count h k e =
     let r = each-reads_back types m older raws h k in
-    let reads = r.reads rest in
-    cc (r.tail)
+    cc (r.reads rest, r.tail)
 
 -- line by line, after a tail
 pub steps-read_back : StepsReadBack
@@ -87,9 +86,8 @@ steps-read_back types m older tail h k =
     let agree = steps-agree types tail (lines_of_epoch (m ∷ older)) in
     let held =
     held-reads types lines.0 now _ _ _ (subst (IsWholeEpoch types) (sym same) h.0) lines.2 tail found in
-    let left = own-left types m.in_full m.epoch older h in
     let many = length-map m.epoch.rows (λ (r : Row). row_written (run_of r.name (m ∷ older)) r) in
-    cc
+    cc (own-left types m.in_full m.epoch older h)
 
 -- ---- the epochs of a list
 

@@ -1,5 +1,5 @@
 -- What follows of an epoch and its rows from their being ones that can be written.
-use Rattle.crx_compact.proofs.Words.{◌≡◌, refl, suc, true, List, Some, at, nat_eq, length, arith, rules}
+use Rattle.crx_compact.proofs.Words.{◌≡◌, refl, true, List, Some, at, nat_eq, length, arith, rules}
 use Rattle.crx_compact.proofs.Words.{◌+◌, ◌-◌, ◌*◌, ◌<◌, ℕ, not, ◌∷◌, map, ◌∙◌, Row, sym, [], Epoch}
 use Rattle.crx_compact.proofs.Words.{epoch_count, columns-are, name-length, common_steps, Count}
 use Rattle.crx_compact.proofs.Words.{columns, is_kept, list_all, flat_map}
@@ -79,9 +79,7 @@ names-read types text offset (r ∷ rs) h e =
     let rest = names-read types text (offset + 3) rs h.1
     (λ p. let place : offset + 3 + p ≡ offset + (3 + p) = omega arith in
     cc (e (3 + p), at-append_past r.name (flat_map (λ (q : Row). q.name) rs) 3 p long)) in
-    let later = each_place-same (length rs) (λ k. columns text (offset + 1 + 3 * suc k) 3)
-    (λ k. columns text (offset + 3 + 1 + 3 * k) 3) (λ k. ap (λ n. columns text n 3) (omega arith)) in
-    cc
+    grind (arith, each_place-same, first, rest)
 
 -- the satellites of some rows, with their counts of types
 abbrev pub satellites_of_rows : List Row → List Satellite
