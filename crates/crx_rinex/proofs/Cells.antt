@@ -112,15 +112,13 @@ more_empty values flags k empty =
     let one : 2 * k + 1 ≡ suc (2 * k) = omega arith in
     let count : length values - k ≡ suc (length values - (k + 1)) = omega (arith, within) in
     let twice : 2 * (length values - k) ≡ suc (suc (2 * (length values - (k + 1)))) = omega (arith, within) in
+    let long = length-set values k None in
     record {
       pairs = grind (arith, common_steps, length-set);
-      within = omega (arith, within, length-set values k None);
-      missing = drop-set values k None within ∙ ap (λ t. None ∷ t) empty.missing
-          ∙ ap (λ n. replicate n None) (sym count ∙ ap (λ n. n - k) (sym (length-set values k None)));
-      blank = ap (λ i. drop (2 * k) (slice_set (slice_set flags (2 * k) 32) i 32)) one
-          ∙ drop_pair flags (2 * k) (omega (arith, within, pairs)) ∙ ap (λ n. 32 ∷ 32 ∷ drop n flags) place
-          ∙ ap (λ t. 32 ∷ 32 ∷ t) empty.blank
-          ∙ ap (λ n. replicate n 32) (sym twice ∙ ap (λ n. 2 * (n - k)) (sym (length-set values k None)));
+      within = omega (arith, within, long);
+      missing = rw (long, count, drop-set values k None within, empty.missing) refl;
+      blank = rw (long, twice, one, drop_pair flags (2 * k) (omega (arith, within, pairs)), place,
+          empty.blank) refl;
     }
   where
     drop_pair : (fs : List ℕ) (i : ℕ) → suc i < length fs
@@ -130,40 +128,32 @@ more_empty values flags k empty =
     drop_pair fs i h = absurd (omega (arith, h))
 
 -- later cells are empty too
+later_empty : {X : Type 0} (xs : List X) (x : X) (first later count rest : ℕ)
+    → drop first xs ≡ replicate count x → first ≤ later → rest ≡ count - (later - first)
+    → drop later xs ≡ replicate rest x
+later_empty xs x first later count rest empty less is =
+    let sum : first + (later - first) ≡ later = omega (arith, less) in
+    ap (λ n. drop n xs) (sym sum) ∙ sym (drop-drop (later - first) first xs)
+    ∙ rw (empty, is) (drop-replicate (later - first) count x)
+
 pub less_empty : (values : List (Option ℤ)) (flags : List ℕ) (first later : ℕ)
     → AreEmptyFrom first values flags
     → first ≤ later → later ≤ length values → AreEmptyFrom later values flags
 less_empty values flags first later empty less within =
-    let sum : first + (later - first) ≡ later = omega (arith, less) in
-    let twice : 2 * first + 2 * (later - first) ≡ 2 * later = omega (arith, less) in
-    let rest : length values - first - (later - first) ≡ length values - later = omega (arith, less) in
-    let pairs : 2 * (length values - first) - 2 * (later - first) ≡ 2 * (length values - later) = omega
-    (arith, less) in
     record {
       pairs = empty.pairs;
       within = within;
-      missing = ap (λ n. drop n values) (sym sum) ∙ sym (drop-drop (later - first) first values)
-          ∙ ap (drop (later - first)) empty.missing ∙ drop-replicate (later - first)
-          (length values - first) None
-          ∙ ap (λ n. replicate n None) rest;
-      blank = ap (λ n. drop n flags) (sym twice) ∙ sym (drop-drop (2 * (later - first)) (2 * first) flags)
-          ∙ ap (drop (2 * (later - first))) empty.blank
-          ∙ drop-replicate (2 * (later - first)) (2 * (length values - first)) 32 ∙ ap
-          (λ n. replicate n 32) pairs;
+      missing = later_empty values None first later _ _ empty.missing less (omega (arith, less, within));
+      blank = later_empty flags 32 (2 * first) (2 * later) _ _ empty.blank (omega (arith, less))
+          (omega (arith, less, within));
     }
 
 -- where they are missing, they aren't counted
 pub observed : (values : List (Option ℤ)) (flags : List ℕ) (first m : ℕ) → AreEmptyFrom first values flags
     → first ≤ m → length (filter is_some (take first values)) ≡ length (filter is_some (take m values))
 observed values flags first m empty within =
-    let sum : first + (m - first) ≡ m = omega (arith, within) in
-    sym (ap (λ n. length (filter is_some (take n values))) (sym sum)
-    ∙ ap (λ t. length (filter is_some t)) (take-add first (m - first) values ∙ ap
-    (λ t. take first values ++ take (m - first) t) empty.missing)
-    ∙ ap length (filter-append is_some (take first values) (take (m - first) (replicate
-    (length values - first) None)))
-    ∙ ap (λ t. length (filter is_some (take first values) ++ t)) (none (m - first) (length values - first))
-    ∙ ap length (append-nil _))
+    let parts = take-add first (m - first) values in
+    grind (arith, common_steps, filter-append, none, append-nil)
   where
     none : (a b : ℕ) → filter is_some (take a (replicate {A = Option ℤ} b None)) ≡ []
     none (suc a) (suc b) = none a b
@@ -261,12 +251,11 @@ cells_past line n (suc d) vs fs short values flags =
     let pair : 2 * suc d ≡ suc (suc (2 * d)) = omega arith in
     let rest = cells_past line (n + 1) d (vs ++ None ∷ []) (fs ++ 32 ∷ 32 ∷ []) (λ _. omega (arith, end))
     (values_in_more line n vs None values (field_past line n end))
-    (flags_in_more line n ∙ ap (λ t. t ++ flags_at line n) flags ∙ ap (λ t. fs ++ t)
-    (flags_past line n end)) in (
-      ap (λ m. values_in m line) (sym place) ∙ rest.0 ∙ ap Some (append_assoc vs (None ∷ [])
-          (replicate d None)),
-      ap (λ m. flags_in m line) (sym place) ∙ rest.1 ∙ append_assoc fs (32 ∷ 32 ∷ []) (replicate (2 * d) 32)
-          ∙ ap (λ m. fs ++ replicate m 32) (sym pair),
+    (flags_in_more line n ∙ ap (λ t. t ++ flags_at line n) flags
+    ∙ ap (λ t. fs ++ t) (flags_past line n end)) in
+    rw (← place, pair) (
+      rest.0 ∙ ap Some (append_assoc vs (None ∷ []) (replicate d None)),
+      rest.1 ∙ append_assoc fs (32 ∷ 32 ∷ []) (replicate (2 * d) 32),
     )
 cells_past line n d vs fs short values flags = grind (arith, common_steps, append-nil)
 
@@ -278,6 +267,12 @@ cells_none line k m less none = ap (row_with m line) (values_in_none line k m le
 all_kept_blanks : (n : ℕ) → list_all is_kept (replicate n 32) ≡ true
 all_kept_blanks zero = refl
 all_kept_blanks (suc n) = all_kept_blanks n
+
+-- all up to a place past one from which all are the same
+take_past : {X : Type 0} (xs : List X) (x : X) (n d count : ℕ) → drop n xs ≡ replicate count x → d ≤ count
+    → take (n + d) xs ≡ take n xs ++ replicate d x
+take_past xs x n d count same few =
+    take-add n d xs ∙ rw same (ap (λ t. take n xs ++ t) (take-replicate d count x few))
 
 -- a row whose cells that the line reaches were read, after which the others became empty: its indicators
 -- decide
@@ -294,15 +289,12 @@ row_made line read_values values read_flags flags n m b read empty within same_v
     (arith, some)))
     (read.cells.values_read ∙ ap Some (sym same_values)) (sym (same_flags ∙ read.cells.flags_read)) in
     let twice : 2 * n + 2 * d ≡ 2 * m = omega (arith, sum) in
-    let vs : take m values ≡ take n values ++ replicate d None = ap (λ i. take i values) (sym sum)
-    ∙ take-add n d values
-    ∙ ap (λ t. take n values ++ take d t) empty.missing ∙ ap (λ t. take n values ++ t)
-    (take-replicate d (length values - n) None (omega (arith, sum, within))) in
-    let fs : take (2 * m) flags ≡ take (2 * n) flags ++ replicate (2 * d) 32 = ap (λ i. take i flags)
-    (sym twice)
-    ∙ take-add (2 * n) (2 * d) flags ∙ ap (λ t. take (2 * n) flags ++ take (2 * d) t) empty.blank
-    ∙ ap (λ t. take (2 * n) flags ++ t) (take-replicate (2 * d) (2 * (length values - n)) 32 (omega
-    (arith, sum, within))) in
+    let vs : take m values ≡ take n values ++ replicate d None =
+    ap (λ i. take i values) (sym sum)
+    ∙ take_past values None n d _ empty.missing (omega (arith, sum, within)) in
+    let fs : take (2 * m) flags ≡ take (2 * n) flags ++ replicate (2 * d) 32 =
+    ap (λ i. take i flags) (sym twice)
+    ∙ take_past flags 32 (2 * n) (2 * d) _ empty.blank (omega (arith, sum, within)) in
     by_kept (take m values) (take (2 * m) flags) b
     (ap (λ i. values_in i line) (sym sum) ∙ past.0 ∙ ap Some (sym vs)) (ap (λ i. flags_in i line) (sym sum)
     ∙ past.1 ∙ sym fs)

@@ -1,6 +1,6 @@
 -- Epochs whose lines come one after another.
 use Rattle.std.proofs.Common.{rules, ◌≡◌, ℕ, ◌-◌, ◌<◌, zero, suc, List, [], ◌∷◌, ◌++◌, length, Option, Some}
-use Rattle.std.proofs.Common.{None, Result, refl, ap, sym, ◌∙◌, inl, inr, arith, append-nil}
+use Rattle.std.proofs.Common.{None, Result, refl, inl, inr, arith, append-nil}
 use Rattle.std.{proofs.lemmas.{Grind.common_steps, Option.none-some}, specs.Prelude.⊤}
 use Rattle.crx_base.specs.{declared.fault.Fault.Fault, meaning.AsRead.{ReadLine, Content, Overlong}}
 use Rattle.crx_rinex.proofs.Steady.{steady-here, steady-first_line, steady-then}
@@ -179,16 +179,14 @@ place_by_open : (types : List Count) (line : ReadLine) (lines : List ReadLine) (
     ≡ after_lines 1 (as_unit (after_lines (length lines) (rest_at later more))))
 place_by_open types line lines later h =
     let from = open_from types line lines _ later refl h in
-    let b = from.1 in
-    let on = from.2 in (on.wants, λ more. b.place _ ∙ ap (λ p. after_lines 1 (as_unit p)) (on.rest more))
+    grind (arith, common_steps)
 
 wanted_by_open : (types : List Count) (lines : List ReadLine) (later : OpenEpoch)
     → open_with types lines ≡ Some later → epoch_place types lines ≡ NeedsMore
 wanted_by_open types [] later h = refl
 wanted_by_open types (line ∷ lines) later h =
     let by = place_by_open types line lines later h in
-    ap (λ ls. epoch_place types (line ∷ ls)) (sym (append-nil lines)) ∙ by.1 [] ∙ ap
-    (λ p. after_lines 1 (as_unit (after_lines (length lines) p))) (nothing_yet later by.0)
+    grind (arith, common_steps, append-nil, nothing_yet, by.1 [])
 
 pub wanted-open : (types : List Count) (lines : List ReadLine) → IsWantedWhereOpen types lines
 wanted-open types [] = (λ w. inl refl, λ o. refl)
@@ -211,8 +209,6 @@ pub next-by_open : (types : List Count) (lines : List ReadLine) (line : ReadLine
 next-by_open types [] line so_far h = absurd (none-some so_far h)
 next-by_open types (first ∷ lines) line so_far h =
     let by = place_by_open types first lines so_far h in
-    record {
-      place = by.1 _ ∙ ap (λ p. after_lines 1 (as_unit (after_lines (length lines) p)))
-          (step_at so_far line [] by.0) ∙ step_place _ _ (step_wants so_far line);
-      left_open = open_next lines _ line so_far h;
-    }
+    let step = step_at so_far line [] by.0 in
+    let place = step_place (length lines) (epoch_step so_far line) (step_wants so_far line) in
+    grind (arith, by.1 (line ∷ []), open_next)

@@ -104,11 +104,8 @@ minus_printed None cs n form is e = absurd (none-some n e)
 minus_printed (Some z) [] n form is e = absurd (omega (arith, long_enough z [] is))
 minus_printed (Some z) (c ∷ cs) n form is e =
     let long = long_enough z (c ∷ cs) is in
-    let formed = form_rest 45 (c ∷ cs) form long in
-    let wide : length (c ∷ cs) ≡ length (c ∷ cs) - 4 + 4 = omega (arith, long) in
-    let printed = led_printed (length (c ∷ cs) - 4) z 45 c cs refl wide (omega (arith, form.0)) formed is in
-    subst (λ n. spelling 3 n ≡ 45 ∷ c ∷ cs) (same_Some _ _ e)
-    (below z (some_behind (length (c ∷ cs) - 4) z c cs wide formed is printed) printed)
+    let printed = led_printed (length (c ∷ cs) - 4) z 45 c cs refl in
+    grind (arith, common_steps, form_rest 45 (c ∷ cs), below, some_behind (length (c ∷ cs) - 4) z c cs)
   where
     below : (z : ℕ) → 0 < z → size_text 3 z ≡ c ∷ cs → spelling 3 (neg_ℤ (pos z)) ≡ 45 ∷ c ∷ cs
     below zero some printed = absurd (omega (arith, some))

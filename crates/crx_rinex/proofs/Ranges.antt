@@ -1,11 +1,10 @@
 -- What is read out of columns fits them.
-use Rattle.std.proofs.Common.{◌≡◌, ℕ, ◌+◌, ◌-◌, ◌<◌, ◌≤◌, ◌^◌, Bool, true, false, cond, eqb, ◌&&◌, List, []}
-use Rattle.std.proofs.Common.{◌∷◌, ◌++◌, length, take, drop, Option, Some, None, refl, subst, inl, inr, arith}
+use Rattle.std.proofs.Common.{◌≡◌, ℕ, ◌+◌, ◌-◌, ◌<◌, ◌≤◌, ◌^◌, Bool, true, false, cond, eqb, List, []}
+use Rattle.std.proofs.Common.{◌∷◌, ◌++◌, length, Option, Some, None, refl, subst, inl, inr, arith}
 use Rattle.std.proofs.lemmas.{Bool.{cases_Bool, and_parts, eqb-true}, Grind.common_steps, List.length-append}
 use Rattle.std.proofs.lemmas.{List.{length-take, length-drop}, Option.{cond_some, same_Some, none-some}}
 use Rattle.std.proofs.lemmas.Str.Parse.{digits_value_short, numerals_by_value, tells_all_ascii_digits}
-use Rattle.std.specs.{Bool.nat_lt, Option.option_map, Prelude.{ℤ, slice_index}, Str.all_ascii_digits}
-use Rattle.std.specs.Str.Parse.{digits_value}
+use Rattle.std.specs.{Option.option_map, Prelude.ℤ, Str.all_ascii_digits}
 use Rattle.crx_text.{proofs.Sizes.{signed_is_within, IsWithin_more}}
 use Rattle.crx_text.specs.meaning.{Columns.without_first_blanks, Numbers.{size_of, decimal_number}}
 use Rattle.crx_text.specs.meaning.Numbers.{signed_number, missing_or_number, number_of, observation_of}
@@ -22,21 +21,9 @@ size_small : (decimals : ℕ) (text : List ℕ) (n : ℕ) → size_of decimals t
     → n < 10 ^ (length text - 1)
 unfolding size_of
 size_small decimals text n h =
-    let point = length text - (decimals + 1) in
-    let whole = take point text in
-    let fraction = drop (point + 1) text in
-    let long = nat_lt decimals (length text) in
-    let dot = eqb (slice_index text point) 46 in
-    let s = cond_some (long && dot && all_ascii_digits whole && all_ascii_digits fraction)
-    (digits_value 10 (whole ++ fraction)) n h in
-    let a = and_parts (long && dot && all_ascii_digits whole) (all_ascii_digits fraction) s.0 in
-    let b = and_parts (long && dot) (all_ascii_digits whole) a.0 in
-    let within : length (whole ++ fraction) ≤ length text - 1 =
-    omega (arith, length-append whole fraction, length-take point text, length-drop (point + 1) text) in
     let small = digits_value_short
-    (numerals_by_value (λ ds. all_ascii_digits ds ≡ true) tells_all_ascii_digits)
-    (whole ++ fraction) (length text - 1) (digits-append whole fraction b.1 a.1) within in
-    subst (λ m. m < 10 ^ (length text - 1)) s.1 small
+    (numerals_by_value (λ ds. all_ascii_digits ds ≡ true) tells_all_ascii_digits) in
+    grind (arith, common_steps, digits-append, length-append, length-take, length-drop, cond_some, and_parts)
 
 -- a number fits the columns of its spelling
 mapped : {P : Type 0} (f : ℕ → ℤ) (o : Option ℕ) (v : ℤ)

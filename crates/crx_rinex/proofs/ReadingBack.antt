@@ -242,19 +242,12 @@ rows-back : (so_far : OpenEpoch) (rows : List Row) (lines : List ReadLine)
     ≡ Done (epoch_of (with_rows so_far rows)) (length rows)
 rows-back so_far [] lines h typed apart = grind (arith, common_steps, epoch_of, append-nil)
 rows-back so_far (row ∷ rows) lines h typed apart =
-    let sound : IsSoundRow row = All-head IsSoundRow row rows h in
-    let its : HasItsTypes so_far.types row = All-head (HasItsTypes so_far.types) row rows typed in
-    let same : (so_far.rows ++ row ∷ []) ++ rows ≡ so_far.rows ++ row ∷ rows =
-    append_assoc so_far.rows (row ∷ []) rows in
-    let rest : rows_at (with_next_row so_far row) (length rows) (map Content (map printed_row rows) ++ lines)
-    ≡ Done (epoch_of (with_rows (with_next_row so_far row) rows)) (length rows) =
-    rows-back (with_next_row so_far row) rows lines (All-tail IsSoundRow row rows h)
+    let same = append_assoc so_far.rows (row ∷ []) rows in
+    let rest = rows-back (with_next_row so_far row) rows lines (All-tail IsSoundRow row rows h)
     (All-tail (HasItsTypes so_far.types) row rows typed) (ap are_different same ∙ apart) in
-    let one : 1 + length rows ≡ suc (length rows) = omega arith in
-    row-then so_far row (length rows) (printed_row row) (map Content (map printed_row rows) ++ lines)
-    (next-read so_far row sound its (row-new so_far.rows row rows apart)) ∙ ap (after_lines 1) rest
-    ∙ ap (λ (all : List Row). Done (epoch_of (record so_far { rows = all })) (1 + length rows)) same
-    ∙ ap (λ n. Done (epoch_of (with_rows so_far (row ∷ rows))) n) one
+    let next = next-read so_far row (All-head IsSoundRow row rows h)
+    (All-head (HasItsTypes so_far.types) row rows typed) (row-new so_far.rows row rows apart) in
+    grind (arith, row-then)
 
 epoch-begun : (types : List Count) (line : List ℕ) (head : ObservationHead) (lines : List ReadLine)
     → beginning_of line ≡ Ok (EpochBegins head) → epoch_place types (Content line ∷ lines) ≡ after_lines 1

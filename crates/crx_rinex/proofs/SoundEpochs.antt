@@ -1,6 +1,6 @@
 -- What is read of an observation epoch is sound.
 use Rattle.std.proofs.Common.{rules, ◌≡◌, ℕ, ℤ, ◌+◌, ◌*◌, ◌≤◌, zero, suc, Bool, true, false, not, cond, List}
-use Rattle.std.proofs.Common.{[], ◌∷◌, length, drop, Option, Some, None, IfSome, OnSome, unwrap_or, Result}
+use Rattle.std.proofs.Common.{[], ◌∷◌, length, drop, Option, Some, None, IfSome, unwrap_or, Result}
 use Rattle.std.proofs.{Common.{Ok, Err, refl, ap, subst, ◌∙◌, arith}, lemmas.Bool.and_from}
 use Rattle.std.proofs.lemmas.{Grind.common_steps, List.{length_push, length-append}}
 use Rattle.std.proofs.lemmas.{List.Elements.{All-push}}
@@ -8,13 +8,13 @@ use Rattle.std.{proofs.lemmas.Option.none-some, specs.{List.{list_all, AllByRecu
 use Rattle.crx_text.proofs.{Characters.length-columns, EachPlace.{each_place-all, length-each_place}}
 use Rattle.crx_text.specs.meaning.{Columns.{character_at, columns, is_blank}, EachPlace.each_place}
 use Rattle.crx_text.specs.meaning.{Numbers.{observation_of, clock_of, IsValue}, Texts.is_kept}
-use Rattle.crx_base.specs.declared.fault.Fault.{Fault, TheVariants.{BadEpoch, BadField, BadClock, BadFlags}}
+use Rattle.crx_base.specs.declared.fault.Fault.{Fault, TheVariants.{BadEpoch, BadClock, BadFlags}}
 use Rattle.crx_base.specs.{declared.limits.TheConstants.SATELLITES_LIMIT, meaning.AsRead.{ReadLine, Content}}
 use Rattle.crx_base.specs.meaning.AsRead.{Overlong}
 use Rattle.crx_header.proofs.{Apart.apart-push, Counts.{allowed_of, system_of}}
 use Rattle.crx_header.{proofs.FirstColumns.identifier_columns, specs.ObservationTypes.AreCounts}
 use Rattle.crx_header.specs.meaning.{EpochColumns.epoch_count, InOrder.◌or_else◌with◌, ObservationTypes.Count}
-use Rattle.crx_header.specs.meaning.ObservationTypes.{IsAllowedCount, is_system, count_of}
+use Rattle.crx_header.specs.meaning.ObservationTypes.{IsAllowedCount, count_of}
 use Rattle.crx_header.specs.meaning.Satellites.{types_of_satellite, has_number, is_identifier}
 use Rattle.crx_rinex.proofs.{Cells.flags_in_more, Ranges.{value_fits, clock_fits, tested}}
 use Rattle.crx_rinex.{proofs.Rows.satellites_few, specs.meaning.EpochLines.{HeadLine, EventHead, EpochHead}}
@@ -25,7 +25,7 @@ use Rattle.crx_rinex.specs.meaning.EpochPlaces.{next_row, rows_at, rest_at, begu
 use Rattle.crx_rinex.specs.meaning.{Epochs.{has_satellite, are_different, IsWholeEpoch}, Observations.Row}
 use Rattle.crx_rinex.specs.meaning.{Observations.Epoch, Places.{Place, Done, Fails, NeedsMore, after_lines}}
 use Rattle.crx_rinex.specs.meaning.{Places.{then_place, one_line}, SatelliteLines.{row_of, row_of_types}}
-use Rattle.crx_rinex.specs.meaning.SatelliteLines.{row_with, values_in, flags_in, flags_at, field, all_some}
+use Rattle.crx_rinex.specs.meaning.SatelliteLines.{row_with, values_in, flags_in, field, all_some}
 use Rattle.crx_rinex.specs.meaning.{SatelliteLines.{IsSoundRow, HasItsTypes}, Units.{Unit, Observation}}
 
 -- ---- a row
@@ -57,12 +57,8 @@ flags_long : (line : List ℕ) (m : ℕ) → length (flags_in m line) ≡ 2 * m
 flags_long line zero = refl
 flags_long line (suc m) =
     let ih = flags_long line m in
-    let one : suc m ≡ m + 1 = omega arith in
-    let more : length (flags_in (m + 1) line) ≡ length (flags_in m line) + 2 =
-    ap (λ (fs : List ℕ). length fs) (flags_in_more line m) ∙ length-append (flags_in m line) (flags_at line m)
-    in
-    let same = ap (λ n. length (flags_in n line)) one in
-    omega (arith, ih, more, same)
+    let more = ap (λ (fs : List ℕ). length fs) (flags_in_more line m) ∙ length-append (flags_in m line) _ in
+    grind arith
 
 -- what a satellite line is read as
 abbrev IsSoundRead : List Count → Result Row Fault → Type 0
@@ -78,14 +74,9 @@ typed : (types : List Count) (line : List ℕ) (m : ℕ)
     → AreCounts types → types_of_satellite types line ≡ Some m → IsTyped line m
 typed types line m counts h =
     let parts = tested (has_number line) (count_of types (character_at line 1)) m h in
-    let system : is_system (character_at line 1) ≡ true = subst (λ (o : Option ℕ). OnSome o
-    (is_system (character_at line 1) ≡ true)) parts.1 (system_of types (character_at line 1) counts) in
-    record {
-      named = identifier_columns line ∙ and_from (is_system (character_at line 1)) (has_number line) system
-          parts.0;
-      counted = subst (λ (o : Option ℕ). IfSome o IsAllowedCount) parts.1
-          (allowed_of types (character_at line 1) counts);
-    }
+    let system = system_of types (character_at line 1) counts in
+    let allowed = allowed_of types (character_at line 1) counts in
+    grind (arith, identifier_columns line, and_from)
 
 flags_case : (types : List Count) (line : List ℕ) (m : ℕ) (values : List (Option ℤ))
     → types_of_satellite types line ≡ Some m → IsTyped line m → AreValues m values
@@ -102,12 +93,7 @@ values_case types line m e t (Some values) h =
     let v : AreValues m values = subst (λ n. AreValues n values) (length-each_place m f)
     (values_sound (each_place m f) values (each_place-all
     (λ (o : Option (Option ℤ)). IfSome o IsValue) m f (λ k. if_some (f k) (value_fits (field line k)))) h) in
-    elim (list_all is_blank (drop (16 * m + 3) line)) as (λ b.
-    IsSoundRead types (cond (not b) (Err BadField) (cond (not (list_all is_kept (flags_in m line)))
-    (Err BadFlags) (Ok (record { name = columns line 1 3; values = values; flags = flags_in m line }))))) [
-      | true ↦ flags_case types line m values e t v (list_all is_kept (flags_in m line)) refl
-      | false ↦ tt
-    ]
+    search (rules, flags_case)
 
 types_case : (types : List Count) (line : List ℕ)
     → AreCounts types → (o : Option ℕ) → types_of_satellite types line ≡ o
@@ -136,13 +122,9 @@ clock_case : (line : List ℕ) (count : ℕ) → epoch_count (columns line 1 41)
     → IsSoundHead (with_clock (columns line 1 41) count o)
 clock_case line count e None c = tt
 clock_case line count e (Some clock) c =
-    record {
-      width = length-columns line 1 41;
-      counted = e;
-      within = subst (λ (o : Option ℕ). unwrap_or o 0 ≤ SATELLITES_LIMIT) e
-          (satellites_few (columns line 1 41));
-      ranged = clock_fits (columns line 42 15) clock c;
-    }
+    let few = subst (λ (o : Option ℕ). unwrap_or o 0 ≤ SATELLITES_LIMIT) e
+    (satellites_few (columns line 1 41)) in
+    search (rules, length-columns, clock_fits)
 
 count_case : (line : List ℕ) (o : Option ℕ) → epoch_count (columns line 1 41) ≡ o
     → IsSoundHead (epoch_head line o)
