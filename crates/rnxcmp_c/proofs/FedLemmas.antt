@@ -11,27 +11,9 @@ module _ (task : Task) (fed : List ℕ) (taken : BothTexts) (bytes allowed : Lis
   pub takes-some : (0 < length bytes → 0 < length allowed) → IsTaken old new (length allowed) used
       → (0 < used → StopsSoon (run_for task) fed taken allowed used)
       → TakesBytes (run_for task) fed taken bytes used (texts_of_held old) (texts_of_held new) false
-  takes-some some count soon = record {
-    allowed = allowed;
-    allowed_is = first;
-    within = count.within;
-    some = grind (arith, common_steps, length-append, count.some);
-    all = grind (arith, common_steps, length-append, count.all);
-    soon = λ _ more. soon more;
-    still = grind (arith, common_steps, length-append, count.still);
-    over = grind arith;
-  }
+  takes-some some count soon = grind (arith, common_steps, length-append)
 
   -- all that the input may still have ended it
   pub takes-all : used ≡ length allowed → (0 < length allowed → ready_in old < READY_LIMIT)
       → TakesBytes (run_for task) fed taken bytes used (texts_of_held old) (texts_of_held new) true
-  takes-all all low = record {
-    allowed = allowed;
-    allowed_is = first;
-    within = grind arith;
-    some = grind arith;
-    all = grind arith;
-    soon = grind arith;
-    still = grind (arith, common_steps, length-append);
-    over = grind arith;
-  }
+  takes-all all low = grind (arith, common_steps, length-append)

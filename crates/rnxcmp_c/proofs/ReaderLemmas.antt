@@ -62,22 +62,8 @@ module _ {mid held : HandleState} {taken : BothTexts} {outcome : Outcome} where
   -- what stopped a run is how it has ended, once the message of a fault was put down
   pub put-ends : {P : FilterResult → Type 0} {limit : ℕ} (stop : Stop) → StopsAs limit P mid taken stop
       → EndsRunBy mid held outcome stop → EndsWithin limit P held taken outcome
-  put-ends (Fault at) stopped put = record {
-    ended = record {
-      result = stopped.result;
-      is = stopped.is;
-      ends = grind (arith, common_steps, append_assoc, put.said);
-    };
-    few = grind (arith, put.output, stopped.output, stopped.within);
-  }
-  put-ends Limit stopped (said, same) = record {
-    ended = record {
-      result = stopped.result;
-      is = stopped.is;
-      ends = inl (grind (arith, common_steps, append-nil));
-    };
-    few = grind (arith, stopped.output, stopped.within);
-  }
+  put-ends (Fault at) stopped put = grind (arith, common_steps, append_assoc, put, stopped)
+  put-ends Limit stopped (said, same) = grind (arith, common_steps, append-nil, stopped)
 
   -- it has the result of the input, or stopped early
   pub stops-over : (task : Task) (is_line : ℕ → Type 0) (input : List ℕ) (stop : Stop)
