@@ -13,7 +13,7 @@ use Rattle.rnxcmp_c.proofs.Words.{StepStops, ready_in, LINE_ROOM}
 use Rattle.rnxcmp_c.proofs.Words.{on_ok_weaker, IfErr-weaker, Result}
 use Rattle.rnxcmp_c.proofs.Words.{READY_LIMIT, Stop, Fault, Limit, line_reached, memory_next}
 use Rattle.rnxcmp_c.specs.{Counting.take-of_taken, Past.StopsSoon}
-use Rattle.rnxcmp_c.specs.Going.{AreTaken, EndStaysWithin, IsLineEnded, IsStopped, LastIsTaken, StopsEarly}
+use Rattle.rnxcmp_c.specs.Going.{AreTaken, EndStaysWithin, IsLineEnded, IsStopped, LastIsTaken, StopsAs, StopsEarly}
 use Rattle.rnxcmp_c.specs.{declared.piece.Piece.Piece}
 use Rattle.crx_lines.proofs.ProgressLemmas.{lines-first, lines-last, ended_lines-first, ended_lines-none}
 use Rattle.crx_runs.specs.Engines.{Awaited}
@@ -173,33 +173,26 @@ module _ {run : TaskRun} {held : HandleState} {taken : BothTexts} {lines : List 
         (is.number ∙ ap length (sym whole)) stop e) step.1,
   )
 
--- memory ran out at a line of more kinds
-pub early-weaker : {run : TaskRun} {P Q : ℕ
-    → Type 0} {input : List ℕ} {held : HandleState} {result : FilterResult}
-    → ((n : ℕ) → P n → Q n) → StopsEarly P run input held result → StopsEarly Q run input held result
-early-weaker weaker (inl limit) = inl limit
-early-weaker weaker (inr ran) = inr (record {
-  stops = search (
-    rules,
-    weaker,
-    ran.stops,
-  );
-  lacking = ran.lacking;
-})
+-- memory ran out at a line of more kinds, and what is held has no other failures
+pub early-weaker : {run : TaskRun} {P Q : ℕ → Type 0} {input : List ℕ} {mid held : HandleState}
+    {result : FilterResult} → ((n : ℕ) → P n → Q n) → held.output.failures ≡ mid.output.failures
+    → held.messages.failures ≡ mid.messages.failures → StopsEarly P run input mid result
+    → StopsEarly Q run input held result
+early-weaker weaker output messages (inl limit) = inl limit
+early-weaker weaker output messages (inr ran) =
+    inr (record { stops = search (rules, weaker, ran.stops); lacking = grind (arith, ran.lacking) })
 
-pub stopped-weaker : {run : TaskRun} {P Q : ℕ
-    → Type 0} {input : List ℕ} {held : HandleState} {taken : BothTexts}
+-- a run that was stopped as it ends with one of some results was stopped as with one of more
+pub stopped-as : {P Q : FilterResult → Type 0} {limit : ℕ} {held : HandleState} {taken : BothTexts} {stop : Stop}
+    → StopsAs limit P held taken stop → ((result : FilterResult) → P result → Q result)
+    → StopsAs limit Q held taken stop
+stopped-as = grind arith
+
+pub stopped-weaker : {run : TaskRun} {P Q : ℕ → Type 0} {input : List ℕ} {held : HandleState} {taken : BothTexts}
     {stop : Stop} → ((n : ℕ) → P n → Q n) → IsStopped P run input held taken stop
     → IsStopped Q run input held taken stop
-stopped-weaker weaker is = record {
-  result = is.result;
-  is = ⊎_elim (λ fails. inl fails) (λ early. inr (early-weaker weaker early)) is.is;
-  status = is.status;
-  fault = is.fault;
-  output = is.output;
-  messages = is.messages;
-  within = is.within;
-}
+stopped-weaker weaker is = stopped-as is
+    (λ result. ⊎_elim (λ fails. inl fails) (λ early. inr (early-weaker weaker refl refl early)))
 
 -- ---- bytes
 

@@ -23,7 +23,7 @@ fed-stands : (before : List ℕ) (task : Task) (reader : Reader) (fed : List ℕ
 fed-stands before task reader fed taken None runs = runs
 fed-stands before task reader fed taken (Some outcome) over =
     ended-as (rw append-nil at (over [])) (λ result is. ⊎_elim (λ failed. inl failed.0)
-    (λ early. inr (inl (early-weaker (λ n at. omega (arith, at.1, ended-within fed)) early))) is)
+    (λ early. inr (inl (early-weaker (λ n at. omega (arith, at.1, ended-within fed)) refl refl early))) is)
 
 ended-stands : {P : FilterResult → Type 0} (task : Task) (reader : Reader) (fed : List ℕ) (taken : BothTexts)
     (outcome : Option Outcome) → HasEndedBy task P reader taken outcome
@@ -79,7 +79,7 @@ pub ends-stands : (task : Task) (old new : Reader) (fed : List ℕ) (taken : Bot
     → ReaderStands task new fed taken
 ends-stands task old new fed taken answer None stands (ended, answers) =
     ended-stands task new fed taken new.outcome ended (λ result is. ⊎_elim (λ whole. inl whole)
-    (λ early. inr (inl (early-weaker (λ n at. omega (arith, at)) early))) is)
+    (λ early. inr (inl (early-weaker (λ n at. omega (arith, at)) refl refl early))) is)
 ends-stands task old new fed taken answer (Some outcome) stands (misused, same) = rw same stands
 
 -- before the first byte

@@ -3,7 +3,7 @@ use Rattle.std.proofs.{lemmas.Grind.common_steps}
 use Rattle.rnxcmp_c.proofs.Words.{◌≡◌, ◌⊎◌, inl, inr, ⊎_elim, ℕ, List, ◌++◌, Some, None, refl, ◌≤◌, ◌+◌}
 use Rattle.rnxcmp_c.proofs.Words.{◌∷◌, []}
 use Rattle.rnxcmp_c.proofs.Words.{ap, arith, length, append-nil, append_assoc, length-append, InputLine}
-use Rattle.rnxcmp_c.proofs.Words.{lines_of}
+use Rattle.rnxcmp_c.proofs.{GoingLemmas.early-weaker, Words.lines_of}
 use Rattle.rnxcmp_c.proofs.Words.{INPUT_LIMIT, At, InputTooLong, IsLawful, Filter, with_next, Begins}
 use Rattle.rnxcmp_c.proofs.Words.{with_one_more}
 use Rattle.rnxcmp_c.proofs.Words.{Course, check-lawful, compaction-lawful, expansion-lawful, Outcome, IsAll}
@@ -40,20 +40,6 @@ pub ended-as : {P Q : FilterResult
     → EndsWithin limit Q held taken outcome
 ended-as = grind arith
 
--- where memory ran out there was none, or a write failed
-pub still-early : {mid held : HandleState} → held.output.failures ≡ mid.output.failures
-    → held.messages.failures ≡ mid.messages.failures → {is_line : ℕ → Type 0} {run : TaskRun} {input : List ℕ}
-    {result : FilterResult} → StopsEarly is_line run input mid result
-    → StopsEarly is_line run input held result
-still-early output messages (inl limit) = inl limit
-still-early output messages (inr ran) = inr (record {
-  stops = ran.stops;
-  lacking = grind (
-    arith,
-    ran.lacking,
-  );
-})
-
 same-failures : (mid held : HandleState) (outcome : Outcome) (stop : Stop) → EndsRunBy mid held outcome stop
     → (held.output.failures ≡ mid.output.failures) × (held.messages.failures ≡ mid.messages.failures)
 same-failures = grind arith
@@ -77,7 +63,7 @@ module _ {mid held : HandleState} {taken : BothTexts} {outcome : Outcome} where
         fails.result_is,
         fails.fault,
       )))
-      (λ early. let same = same-failures mid held outcome stop put in inr (still-early same.0 same.1 early))
+      (λ early. let same = same-failures mid held outcome stop put in inr (early-weaker (λ n at. at) same.0 same.1 early))
       is)
 
   -- a byte more than an input may have ended it

@@ -79,10 +79,7 @@ module _ (task : Task) {left rest given : List ℕ} {ends then_ends : ℕ} {outc
   pub take-enough : {output_room messages_room counted_most told_most most : ℕ}
       → IsEmpty output_room counted_most output_before → IsEmpty messages_room told_most messages_before
       → counted_most ≡ taken_of most → told_most ≡ 2 ^ 64 - 1 → TakeEnough output_after messages_after most
-  take-enough empty none_told counted all = record {
-    output_is = runs.front.wrote.most ∙ empty.most_is ∙ counted;
-    messages_are = (told outcome.fault refl).1.most ∙ none_told.most_is ∙ all;
-  }
+  take-enough empty none_told counted all = grind (arith, runs.front, told outcome.fault refl)
 
 -- what a run wrote and reported for a task, to sinks with the rooms of a call
 module _ (task : Task) {left rest given text : List ℕ} {ends then_ends : ℕ} {outcome : Outcome}

@@ -4,7 +4,7 @@ use Rattle.rnxcmp_c.proofs.Words.{◌≡◌, inl, inr, ⊎_elim, ℕ, List, ◌+
 use Rattle.rnxcmp_c.proofs.Words.{append_assoc, KeepsToLimit, Outcome, StandsBy, limit_for, BothTexts}
 use Rattle.rnxcmp_c.proofs.Words.{joined_texts, rooms}
 use Rattle.rnxcmp_c.proofs.Words.{Task, waiting, Pending, Reader}
-use Rattle.rnxcmp_c.proofs.ReaderLemmas.{still-early}
+use Rattle.rnxcmp_c.proofs.GoingLemmas.{early-weaker}
 
 module _ (task : Task) (old : Reader) (fed : List ℕ) (taken : BothTexts) (output messages : Pending)
     (text told : List ℕ)
@@ -31,7 +31,7 @@ module _ (task : Task) (old : Reader) (fed : List ℕ) (taken : BothTexts) (outp
     ended = record {
       result = over.ended.result;
       is = ⊎_elim (λ whole. inl whole) (λ other. inr (⊎_elim
-          (λ early. inl (still-early output_good messages_good early)) (λ full. inr full) other))
+          (λ early. inl (early-weaker (λ n at. at) output_good messages_good early)) (λ full. inr full) other))
           over.ended.is;
       ends = grind (arith, common_steps, over.ended.ends, same-output, same-messages);
     };

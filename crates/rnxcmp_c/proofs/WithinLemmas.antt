@@ -41,9 +41,7 @@ module _ (number : ℕ) (memory : Option (List At)) (before after : Course) (old
   pub part-of : (halt : Halt)
       → StopsBy number memory before after old.output mid.output old.messages mid.messages halt
       → HasPart before after old mid
-  part-of (Faulty at) stopped = grind (arith, common_steps, same-output)
-  part-of Unwritten loses = grind arith
-  part-of Unreported loses = grind arith
+  part-of = grind (arith, common_steps, same-output)
 
   lost-stops : (new counted : HandleState) (mark : Mark) → IsMark mark old → counted ≡ record mid
       { left = counted.left }
