@@ -12,10 +12,8 @@ use Rattle.crx_filter.specs.meaning.Accounts.{is_clean}
 
 pub clock-printable : (value : Code → Result (Option ℤ) Fault) (line : List ℕ) (cell : ReadCell)
     → IsReadCell value (without_end_blanks line) cell → list_all is_printable line ≡ true
-clock-printable value line cell h = all-same is_printable refl (without_end_blanks line) line
-    (trimmed-again line)
-    (code-printable (without_end_blanks line) (spelled-characters
-    (without_end_blanks line) cell.code h.coded))
+clock-printable value line cell h =
+    search (all-same, trimmed-again, code-printable, spelled-characters)
 
 cells-texts : (value : ℕ → Code → Result (Option ℤ) Fault) (texts : List (List ℕ)) (cells : List ReadCell)
     → AreReadCells value texts cells → AreTexts texts

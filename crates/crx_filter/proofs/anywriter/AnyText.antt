@@ -8,7 +8,6 @@ use proofs.Words.{Content, Epoch, Done}
 use proofs.Words.{FileUnit, HeaderLine, EventLine, EventRecord, Observation, Item, Accepted, Count}
 use proofs.Words.{RawEpoch, ReadEpoch}
 use proofs.Words.{header_has_ended, records_left, records_count_types, types_in_force, types_fault}
-use proofs.Words.{header_line_fault}
 use proofs.Words.{Reading, AtLines, reading_from, ended_reading, compact_place, compact_epoch_place}
 use proofs.Words.{is_event_line, records_in, raws_kept}
 use proofs.Words.{IsWholeEpoch, expanded_unit, expanded, printed_items, warnings_in, lines_text, result_of}
@@ -113,8 +112,7 @@ module _ (items : List (Item ReadEpoch)) (units : List (FileUnit Epoch)) (before
       → IsInPlace (as_items units) unit → AreLinesOfUnit (as_items units) before unit lines now
       → UnitRead items unit lines now
   unit-read now (HeaderLine line) lines h w = rw (w.0, w.1) (one-line (HeaderLine line) line None
-      (header-here compact_beginning items line (k.header ∙ h.0)
-      (ap (λ b. header_line_fault b line) k.start ∙ h.1)) (none-left None))
+      (search (header-here, k.header, k.start)) (none-left None))
   unit-read now (EventLine line) lines h w = rw (w.0, w.1) (one-line (EventLine line) line before
       (body-place compact_beginning items (Content line ∷ []) (k.header ∙ h.0) (k.left ∙ h.1)
       ∙ event-begins (types_in_force items) (raws_kept items) line _ refl h.3 h.2) left)
@@ -202,11 +200,8 @@ in-place (unit ∷ before) h = (h.0, in-place before h.1)
 
 pub any-text : ExpandsAnyText
 any-text text choices units file h =
-    let skip = choices.skip in
-    let r = all-read skip 3 units h.lines h.last (in-place units file.in_place) h.written in
-    rw (h.cut, whole-read skip h.version h.program (map Content h.lines) h.first h.second, r.reads)
-    (units-well skip r.items (3 + length h.lines) units (r.like.header ∙ file.header) (r.like.left
-    ∙ file.complete) r.known)
+    let r = all-read choices.skip 3 units h.lines h.last (in-place units file.in_place) h.written in
+    grind (arith, common_steps, whole-read, units-well)
 
 pub one-file : IsOfOneFile
 one-file text one two h k first second =

@@ -1,7 +1,7 @@
 -- What was compacted comes back: its compact text is one that any writer may write.
 use Rattle.crx_filter.proofs
 use proofs.Words.{common_steps, arith, ℕ, ◌≡◌, true, false, List, map, None, ap, sym, ◌∙◌, lines_of}
-use proofs.Words.{lines_text, subst}
+use proofs.Words.{lines_text}
 use proofs.Words.{pieces_of, as_read, Epoch, FileUnit, Choices, is_date, compacted, expanded, Item}
 use proofs.Words.{FilterResult, compact_lines, printed_items, whole_of, IsStandard}
 use proofs.Words.{HaveNoReturns, written_well}
@@ -42,10 +42,8 @@ standard-comes_back input compacting expanding dated standard =
 pub standard-where_kept : (input : List ℕ) (compacting expanding : Choices)
     → is_date compacting.date ≡ true → (whole_of input).fault ≡ None → HaveNoReturns (whole_of input).items
     → (expanded (compacted input compacting).output expanding).output ≡ input → IsStandard input
-standard-where_kept input compacting expanding dated good none same = subst IsStandard
-    (sym (ap (λ (r : FilterResult). r.output) (normal-comes_back input compacting expanding dated good none))
-    ∙ same)
-    (standard-as_normal input (record { good = good; no_returns = none }))
+standard-where_kept input compacting expanding dated good none same =
+    grind (arith, common_steps, normal-comes_back, standard-as_normal)
 
 -- two files have the same compact text exactly where they have the same normal form
 pub canonical : (one other : List ℕ) (choices : Choices) → IsCanonical one other choices

@@ -1,6 +1,6 @@
 -- A reading of compact text that gave no fault and no warning: its lines are those of the units that it shows.
 use Rattle.crx_filter.proofs
-use proofs.Words.{ℕ, ◌≡◌, Bool, List, [], ◌∷◌, ◌++◌, map, Option, None, refl}
+use proofs.Words.{arith, common_steps, ℕ, ◌≡◌, Bool, List, [], ◌∷◌, ◌++◌, map, Option, None, refl}
 use proofs.Words.{append_assoc, map-append, ReadLine, Content, FileUnit, Item, ReadEpoch}
 use proofs.Words.{warnings_in, WholeReading, whole_reading, compact_place, Epoch}
 use proofs.reading.KeptThroughout.{IsKept, whole-kept}
@@ -44,11 +44,4 @@ EndsBack lines w = w.fault ≡ None → Back lines w.items []
 pub reading-back : (skip : Bool) (number : ℕ) (lines : List ReadLine)
     → EndsBack lines (whole_reading compact_place skip number lines)
 reading-back skip number lines = whole-kept compact_place skip (Back lines) (back-kept skip lines) number lines
-    (λ none. record {
-      units = [];
-      own = [];
-      last = None;
-      cut = refl;
-      stands = record { known = refl; left = refl; whole = λ b e. absurd (cc e); good = tt };
-      written = (refl, refl);
-    })
+    (λ none. grind (arith, common_steps))

@@ -1,7 +1,7 @@
 -- A unit that is read at some lines of compact text is one whose lines these are, whoever wrote them.
 use Rattle.crx_filter.proofs
 use proofs.Words.{ℕ, ◌≡◌, ◌+◌, false, List, [], ◌∷◌, ◌++◌, map, length, drop, take, Option, Some, arith}
-use proofs.Words.{None, refl, ap, sym, ◌∙◌, subst, common_steps}
+use proofs.Words.{refl, ap, sym, ◌∙◌, subst, common_steps}
 use proofs.Words.{ReadLine, Content, Epoch, Done, FileUnit, HeaderLine, EventLine, EventRecord}
 use proofs.Words.{Observation, Item, Accepted, ReadEpoch}
 use proofs.Words.{records_count_types, declaring_lines, types_in_force, raws_kept}
@@ -47,24 +47,8 @@ module _ (items : List (Item ReadEpoch)) (units : List (FileUnit Epoch)) (before
       (λ on. rw on (types_of-push (declaring_lines items) line ∙ rw (rw on at e) refl)) (λ off. rw off refl)
 
   record-back : (line : List ℕ) → UnitBack items units before (EventRecord line) (Content line ∷ [])
-  record-back line = by_bool (empties_state (records_count_types items) line) (λ on. record {
-    own = line ∷ [];
-    cut = refl;
-    now = None;
-    stands = record { known = cc s.known; left = rw on refl; whole = λ b k. absurd (cc k); good = s.good };
-    written = (refl, rw (← count-same, on) refl);
-  }) (λ off. record {
-    own = line ∷ [];
-    cut = refl;
-    now = before;
-    stands = record {
-      known = cc s.known;
-      left = rw off s.left;
-      whole = rw (steady-types line off) s.whole;
-      good = s.good;
-    };
-    written = (refl, rw (← count-same, off) refl);
-  })
+  record-back line = by_bool (empties_state (records_count_types items) line)
+      (λ on. grind (arith, common_steps, count-same)) (λ off. grind (arith, common_steps, count-same, steady-types))
 
   epoch-back : (read : ReadEpoch) (lines : List ReadLine) (count : ℕ)
       → epoch_at (types_in_force items) (raws_kept items) lines ≡ Done read count

@@ -1,7 +1,7 @@
 -- A file is named as standard exactly where it is; and that is where it comes back.
 use Rattle.crx_filter.proofs.Words.{ℕ, ◌≡◌, ◌+◌, Bool, true, List, [], ◌∷◌, length, Option, None, refl}
 use Rattle.crx_filter.proofs.Words.{arith, list_all, none-some, and_parts, InputLine, Choices}
-use Rattle.crx_filter.proofs.Words.{first_not_standard, common_steps, by_bool, bytes_eq, is_standard_line}
+use Rattle.crx_filter.proofs.Words.{first_not_standard, common_steps}
 use Rattle.crx_filter.proofs.{reading.Each.contents, standard.CheckEnded.whole-many}
 use Rattle.crx_filter.proofs.wayback.ReturnsLost.{standard-where_same}
 use Rattle.crx_filter.{proofs.anywriter.ComesBack.standard-comes_back, specs.CheckingLaws.IsNamedWhereNot}
@@ -17,12 +17,9 @@ none-named : (number : ℕ) (lines : List InputLine) (texts : List (List ℕ)) �
 none-named number [] [] many e = (refl, refl)
 none-named number [] (text ∷ texts) many e = absurd (cc)
 none-named number (line ∷ lines) [] many e = absurd (cc)
-none-named number (line ∷ lines) (text ∷ texts) many e = by_bool (is_standard_line line text) (λ on.
-    let rest = none-named (number + 1) lines texts (omega (arith, many)) (rw on at e) in
-    let both = and_parts line.is_plain (bytes_eq line.content text) on in
-    (rw both.0 rest.0, cc (bytes_eq-is line.content text both.1, rest.1))) (λ off.
-    let never = rw off at e in
-    absurd (none-some number (cc)))
+none-named number (line ∷ lines) (text ∷ texts) many e =
+    let rest = none-named (number + 1) lines texts (omega (arith, many)) in
+    grind (arith, common_steps, rest, and_parts, bytes_eq-is line.content text, none-some)
 
 -- and the converse
 all-standard : (number : ℕ) (lines : List InputLine)

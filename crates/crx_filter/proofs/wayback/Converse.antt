@@ -4,9 +4,8 @@ use Rattle.crx_filter.proofs
 use proofs.Words.{ℕ, ℤ, zero, suc, ◌≡◌, ◌+◌, ◌-◌, ◌<◌, ◌≤◌, true, List, [], ◌∷◌, ◌++◌, map}
 use proofs.Words.{drop, replicate, Option, Some, None, refl, ap, arith, All, AllByRecursion}
 use proofs.Words.{list_all, All-head, All-tail, and_from, clock_text, IsSoundRow, IsWholeEpoch}
-use proofs.Words.{Count, OBSERVATION_WIDTH, CLOCK_WIDTH, InputLine, lines_of}
+use proofs.Words.{Count, InputLine, lines_of}
 use proofs.Words.{is_printable, is_kept, Row, Epoch, printed_row, printed_epoch, printed_cells, lines_text}
-use Rattle.crx_base.specs.declared.limits.TheConstants.{OBSERVATION_DECIMALS, CLOCK_DECIMALS}
 use Rattle.crx_compact.proofs.wayback.{Facts.{head-kept, sound-name_kept}, Standing.trimmed-printable}
 use Rattle.crx_text.proofs.{ReadBack.decimal_is_digits, Spellings.abs_within}
 use Rattle.crx_text.specs.meaning.Numbers.{IsMissingOrWithin, number_text, size_text}
@@ -60,18 +59,12 @@ cells-printable : (values : List (Option ℤ)) (flags : List ℕ) → All IsValu
     → list_all is_printable flags ≡ true → list_all is_printable (printed_cells values flags) ≡ true
 cells-printable [] flags h k = refl
 cells-printable (value ∷ values) flags h k =
-    let first = number-printable OBSERVATION_WIDTH OBSERVATION_DECIMALS value (omega arith)
-    (All-head IsValue value values h) in
-    let others = cells-printable values (drop 2 flags) (All-tail IsValue value values h)
-    (all-drop is_printable 2 flags k) in
-    search (rules, list_all-append, all-take)
+    let others = cells-printable values (drop 2 flags) in
+    search (rules, arith, list_all-append, all-take, number-printable, others, All-head, All-tail, all-drop)
 
 row-printable : (row : Row) → IsSoundRow row → list_all is_printable (printed_row row) ≡ true
 row-printable row sound =
-    let cells = cells-printable row.values row.flags sound.ranged (kept-text row.flags sound.kept) in
-    let name = kept-text row.name (sound-name_kept row sound) in
-    trimmed-printable (row.name ++ printed_cells row.values row.flags)
-    (list_all-append is_printable row.name (printed_cells row.values row.flags) name cells)
+    search (cells-printable, kept-text, sound-name_kept, trimmed-printable, list_all-append)
 
 -- what holds of each printed row holds of all
 pub rows-all : (P : List ℕ → Type 0) → ((row : Row) → IsSoundRow row → P (printed_row row)) → (rows : List Row)
@@ -84,11 +77,8 @@ rows-all P f (row ∷ rows) h =
 pub epoch-printable : (types : List Count) (epoch : Epoch) → IsWholeEpoch types epoch
     → AllByRecursion (λ (line : List ℕ). list_all is_printable line ≡ true) (printed_epoch epoch)
 epoch-printable types epoch h =
-    let clock = number-printable CLOCK_WIDTH CLOCK_DECIMALS epoch.clock
-    (omega arith) h.sound.head_sound.ranged in
     let head = kept-text epoch.head (head-kept types epoch h) in (
-      trimmed-printable (epoch.head ++ clock_text epoch.clock)
-          (list_all-append is_printable epoch.head (clock_text epoch.clock) head clock),
+      trimmed-printable (epoch.head ++ clock_text epoch.clock) (search (arith, number-printable, list_all-append)),
       rows-all (λ line. list_all is_printable line ≡ true) row-printable epoch.rows h.sound.rows_sound,
     )
 

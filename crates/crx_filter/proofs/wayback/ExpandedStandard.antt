@@ -88,9 +88,7 @@ printed-read (Warned at ∷ before) = printed-read before
 cut-plain : (lines : List (List ℕ)) → AllByRecursion CanStand lines
     → has_plain_lines (lines_text lines) ≡ true → AllByRecursion NoReturn lines
 cut-plain [] h e = tt
-cut-plain (line ∷ lines) h e =
-    let both = and_parts _ _ (cc (first-cut line lines h.0.0, e)) in
-    (not-true _ both.0, cut-plain lines h.1 both.1)
+cut-plain (line ∷ lines) h e = grind (arith, first-cut, and_parts, not-true, cut-plain lines)
 
 copied-plain : (items : List (Item Epoch))
     → AllByRecursion NoReturn (printed_items items) → HaveNoReturns items

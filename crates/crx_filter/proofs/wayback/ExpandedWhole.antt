@@ -43,10 +43,7 @@ pub epochs-good : (items : List (Item ReadEpoch)) → ItemsAreRead compact_place
 epochs-good [] h = tt
 epochs-good (Accepted (Observation read) ∷ before) h =
     let rest = epochs-good before h.1 in
-    let stands = compact-stands before (h.0).0 (Observation read) (h.0).1 (h.0).2 in (
-      reads-whole _ (raws_kept before) (h.0).0 read (h.0).1 (counts-in_force before)
-          (marks-printable before rest) stands.2,
-      rest,
-    )
+    let stands = compact-stands before (h.0).0 (Observation read) (h.0).1 (h.0).2 in
+    search (reads-whole, counts-in_force, marks-printable)
 epochs-good (Accepted unit ∷ before) h = epochs-good before h.1
 epochs-good (Warned at ∷ before) h = epochs-good before h.1

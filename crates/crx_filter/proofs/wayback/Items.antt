@@ -5,7 +5,7 @@ use Words.{common_steps, ℕ, ◌≡◌, false, List, [], ◌∷◌, Option, ref
 use Words.{Epoch, FileUnit, HeaderLine, EventLine}
 use Words.{EventRecord, Observation, Marked, compact_epoch}
 use Words.{LinesCanStand, Item, Accepted, types_in_force, is_interrupted, is_in_full}
-use Words.{marked_epochs, AreInPlace, by_bool}
+use Words.{marked_epochs, AreInPlace}
 use Rattle.crx_compact.proofs.wayback.Standing.{lines-stand}
 use Rattle.crx_compact.specs.Laws.{AreWhole}
 use Rattle.crx_compact.specs.meaning.Compaction.{since_full}
@@ -31,11 +31,8 @@ not-interrupted every before e = grind (arith, common_steps)
 -- they are whole by the types in force: types change only at an event, and the next epoch after it is in full
 whole-since : (every : Option ℕ) (items : List (Item Epoch)) → AreInPlace items
     → is_interrupted items ≡ false → AreWhole (types_in_force items) (since_full (marked_epochs every items))
-whole-since every (Accepted (Observation epoch) ∷ before) h e = (
-  (h.0).2,
-  by_bool (is_in_full every before)
-      (λ on. rw on tt) (λ off. rw off (whole-since every before h.1 (not-interrupted every before off))),
-)
+whole-since every (Accepted (Observation epoch) ∷ before) h e =
+    grind (arith, common_steps, whole-since every before h.1, not-interrupted)
 whole-since every items h e = absurd (cc)
 
 pub whole-next : (every : Option ℕ) (before : List (Item Epoch)) (epoch : Epoch)

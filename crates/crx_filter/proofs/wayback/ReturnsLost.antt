@@ -2,7 +2,7 @@
 -- 13. So it is standard.
 use Rattle.crx_filter.proofs
 use proofs.Words.{ℕ, ◌≡◌, ◌+◌, ◌<◌, ◌≤◌, Bool, true, List, [], ◌∷◌, map, drop, refl}
-use proofs.Words.{arith, ◌⊎◌, inl, AllByRecursion, HasNoFeed}
+use proofs.Words.{arith, ◌⊎◌, inl}
 use proofs.Words.{lines_of, ReadLine, as_read, Epoch, printed_epoch, lines_text}
 use proofs.Words.{Observation, ReadEpoch, LinesCanStand, IsGood}
 use proofs.Words.{Choices, is_date, Item, Accepted, Warned, types_in_force, WholeReading}
@@ -12,7 +12,7 @@ use proofs.Words.{HaveNoReturns, compact_unit, false, reading_from, whole_of, ap
 use proofs.reading.{Each.{all-from}, Resuming.by_place, WhatWasRead.{compact-whole_read, of-ended}}
 use proofs.{anywriter.ComesBack.standard-where_kept, wayback.{Converse.epoch-printable, Items.epoch-stands}}
 use proofs.wayback.{Standard.same-reading, ExpandedWhole.{AreGoodEpochs, epochs-good}}
-use proofs.wayback.{WayBack.{IsSettled, whole-settled, lines-same, lines-hold}, Cut.{IsClean, CanStand}}
+use proofs.wayback.{WayBack.{IsSettled, whole-settled, lines-same, lines-hold}, Cut.{CanStand}}
 use proofs.wayback.Returns.{returns, returns-kept, returns-fewer, returns_in, read-append, total-append}
 use proofs.wayback.Returns.{in-printable, returns_read, returns_left, left-kept, read-written, in-text}
 use proofs.wayback.{Carried.started, Returns.{read-input, read-cut}, Reading.{copied, own-counted}}
@@ -76,16 +76,7 @@ compacted-returns : (choices : Choices) (items : List (Item Epoch)) → is_date 
 compacted-returns choices items dated h =
     let stand = lines-hold CanStand (λ line c. (c.one_line, c.short)) choices.every items h.in_place h.copied
     in
-    let one : AllByRecursion HasNoFeed (compact_lines choices items) =
-    rw (lines-same choices items h.in_place (started items h.header)) (
-      IsClean.one_line version-clean,
-      (
-        IsClean.one_line (program-clean choices.date dated),
-        all-from CanStand HasNoFeed
-            (λ line c. c.0) _ stand,
-      ),
-    ) in
-    omega (arith, read-written (compact_lines choices items) one, lines-left choices dated items h.in_place)
+    grind (arith, lines-same, started, version-clean, program-clean, all-from, read-written, lines-left)
 
 -- ---- a file that comes back
 

@@ -2,12 +2,12 @@
 -- gives back its lines.
 use Rattle.crx_filter.proofs.Words
 use Words.{common_steps, arith, ℕ, zero, suc, ◌≡◌, ◌+◌, Bool, true, false, List, []}
-use Words.{◌∷◌, map, length, drop, Option, Some, None, refl, ap, ◌∙◌, AllByRecursion, list_all}
+use Words.{◌∷◌, map, length, Option, Some, None, refl, ap, ◌∙◌, AllByRecursion, list_all}
 use Words.{eqb_tells, and_parts, Piece, InputLine, pieces_of, ends_with_return, line_of, lines_of}
-use Words.{ReadLine, as_read, Fault, At, Place, FileUnit, Item, Accepted, WholeReading}
-use Words.{after_fault, reading_within, fault_at_end, ended_with, ended_reading, lines_text, rinex_place}
+use Words.{ReadLine, as_read, Fault, At, Place, FileUnit, Item, WholeReading}
+use Words.{after_fault, reading_within, ended_with, ended_reading, lines_text, rinex_place}
 use Words.{whole_rinex, not-true, by_bool}
-use Rattle.crx_filter.proofs.{reading.Resuming.by_place, wayback.Cut.{OfContent, return-kept}}
+use Rattle.crx_filter.proofs.{wayback.Cut.{OfContent, return-kept}}
 use Rattle.crx_lines.proofs.PieceLemmas.{EachEnded}
 
 -- ---- where nothing is wrong, nothing is skipped
@@ -26,11 +26,7 @@ within-same : {E : Type 0} (place : List (Item E) → List ReadLine → Place (F
     skip units items number lines) ≡ ended_reading false (reading_within place false units items number lines)
 within-same place skip zero items number lines f = ended-same skip items _ _ f
 within-same place skip (suc units) items number lines f =
-    by_place (place items lines) (λ unit count e. rw (e, reading_within) (within-same place skip units
-    (Accepted unit ∷ items) (number + count) (drop count lines) (rw (e, reading_within) at f)))
-    (λ offset fault e. not-ended (record { line = number + offset; fault = fault })
-    (rw (e, reading_within, after_fault) at f)) (λ e. rw (e, reading_within)
-    (ended-same skip items (number + length lines) (fault_at_end items lines) (rw (e, reading_within) at f)))
+    grind (arith, common_steps, reading_within, after_fault, ended-same, not-ended, within-same place skip units)
 
 pub same-reading : (skip : Bool) (lines : List ReadLine)
     → WholeReading.fault (whole_rinex false lines) ≡ None → whole_rinex skip lines ≡ whole_rinex false lines
