@@ -12,9 +12,6 @@ use Rattle.crx_runs.specs.declared.one_line.Halt.TheVariants.{Fault, Unwritten, 
 use Rattle.crx_runs.specs.meaning.{Messages.notices_text, Results.{Course, are_some}}
 use Rattle.crx_runs.specs.meaning.{Spans.{Device, TookAll, AreNext}}
 
-none-some : {A : Type 0} (x : A) → ◌≡◌ {A = Option A} None (Some x) → ⊥
-none-some x e = cc
-
 -- an ending, by devices that took at least the same
 pub carried-ends : {writer writer' messages messages' : Device} → Carries writer writer' → Carries messages
     messages' → (memory : Option (List At)) (number : ℕ) (before after : Course) (halt : Halt) → EndsAt memory
@@ -59,18 +56,13 @@ module _ {writer1 writer2 writer messages1 messages2 messages : Device} (w : Joi
     over-both halt e = carried-ends (carry-on w _ [] _ (sym (append-nil _)) wrote)
         (carry-on m _ _ _ (notices-append _ _) reported) memory number before after halt e
 
-    answered : (at : At) → (earlier ≡ []) ⊎ AreNext before after earlier
-        → ((at.fault ≡ OutOfMemory) × (at.line ≡ number) × (memory ≡ Some earlier)) ⊎ EndsWith before after
-        earlier at → TookAll writer2 [] → TookAll messages2 [] → EndsAt memory number
-        (resumed writer2 before.output) (resumed messages2 (notices_text told)) before after (Fault at)
-    answered = grind (arith, common_steps, none-resumed)
-
     -- a fault was answered
     pub answer-ends : (at : At) → (earlier ≡ []) ⊎ AreNext before after earlier
         → ((at.fault ≡ OutOfMemory) × (at.line ≡ number) × (memory ≡ Some earlier)) ⊎ EndsWith before after
         earlier at → TookAll writer2 [] → TookAll messages2 []
         → EndsFrom memory number writer messages before after (Fault at)
-    answer-ends at next by still quiet = over-both (Fault at) (answered at next by still quiet)
+    answer-ends at next by still quiet = over-both (Fault at)
+        (grind (arith, common_steps, none-resumed))
 
     -- what a step made couldn't be written or reported
     pub step-ends : (text : List ℕ) (notices : List At) → (0 < length text → Adds before after text (earlier
@@ -78,8 +70,7 @@ module _ {writer1 writer2 writer messages1 messages2 messages : Device} (w : Joi
         messages2 (record { output = []; warnings = []; fault = None })
         (record { output = text; warnings = notices; fault = None }) halt
         → EndsFrom memory number writer messages before after halt
-    step-ends text notices adds next (Fault at) (inl e) = absurd (none-some e.notices e.allowed)
-    step-ends text notices adds next (Fault at) (inr e) = absurd (none-some at e.ends.fault)
+    step-ends text notices adds next (Fault at) e = grind arith
     step-ends text notices adds next Unwritten e =
         let a = adds (omega (arith, e.wrote.less)) in
         over-both Unwritten (record {

@@ -19,34 +19,19 @@ use Rattle.crx_runs.specs.meaning.{Filters.{Filter, with_next}, Messages.notices
 use Rattle.crx_runs.specs.meaning.{Results.{Course, are_some}}
 use Rattle.crx_runs.specs.meaning.Spans.{Device, TookAll, TookPart, AreNext, IsPart}
 
--- a course that goes on by some lines adds their text
-adds-of : {before after : Course} {texts : List (List ℕ)} {notices : List At} (text : List ℕ) (all : List At)
-    → GoesOn before after texts notices → lines_text texts ≡ text → notices ≡ all → Adds before after text all
-adds-of text all a t n = rw (← t, ← n) (record { output = a.output; warnings = a.warnings; good = a.good })
-
 -- what a line adds that doesn't come a second time
 answers-add : (filter : Filter) (shows : List InputLine → List Awaited → Type 0) (ready : List (List ℕ))
     (lines : List InputLine) (notices : List Awaited) (line : InputLine) (step : Step) → Stays step
     → IsDrainedAfter step ready → EngineAnswers filter shows ready lines notices line (Ok step)
     → shows (with_next lines line) [] × Adds (filter.so_far lines) (filter.so_far (with_next lines line))
     (lines_text ready) (awaited_notices notices ++ step_notices step)
-answers-add _ _ _ _ _ _ Quiet stays drained a =
-    (a.0, adds-of _ _ a.1 (ap lines_text (sym drained)) (sym (append-nil _)))
-answers-add _ _ _ _ _ _ Ready stays drained a = (a.0, adds-of _ _ a.1 refl (sym (append-nil _)))
-answers-add _ _ _ _ _ _ (Warned notice true) stays drained a = absurd stays
-answers-add _ _ _ _ _ _ (Warned notice false) stays drained a = search
+answers-add _ _ _ _ _ _ step stays drained a = grind (arith, common_steps, append-nil)
 
 -- a line comes a second time once at most
 pub stays-then : (filter : Filter) (shows : List InputLine → List Awaited → Type 0) (ready : List (List ℕ))
     (lines : List InputLine) (first : Awaited) (line : InputLine) (step : Step)
     → EngineAnswers filter shows ready lines (first ∷ []) line (Ok step) → Stays step
 stays-then = grind arith
-
-either-out : (filter : Filter) (lines : List InputLine) (line : InputLine) (notices : List At) (at : At)
-    → RunsOutAt filter lines line notices at ⊎ EndsWith (filter.so_far lines) (filter.so_far (with_next lines
-    line)) notices at → ((at.fault ≡ OutOfMemory) × (at.line ≡ length lines + 1) × (filter.memory_after lines
-    line ≡ Some notices)) ⊎ EndsWith (filter.so_far lines) (filter.so_far (with_next lines line)) notices at
-either-out = grind arith
 
 -- lines that were ready were written, or in part
 pub ready-all : (writer messages : Device) (ready : List (List ℕ)) → TookAll writer (lines_text ready)
@@ -89,7 +74,7 @@ module _ {writer1 writer2 writer messages1 messages2 messages : Device} (w : Joi
       → (awaited_notices earlier ≡ []) ⊎ AreNext (filter.so_far lines) (filter.so_far (with_next lines line))
       (awaited_notices earlier) → TookAll writer2 [] → TookAll messages2 [] → LineBecomes ⊤ (Err (Fault at))
   line-refused at a first still quiet = answer-ends w m _ _ (awaited_notices earlier) wrote reported _ _
-      at first (either-out filter lines line (awaited_notices earlier) at a) still quiet
+      at first (grind arith) still quiet
 
   cut-by : (step : Step) → Stays step → IsDrainedAfter step ready
       → EngineAnswers filter shows ready lines earlier line (Ok step) → (halt : Halt)
@@ -112,23 +97,16 @@ module _ {writer1 writer2 writer messages1 messages2 messages : Device} (w : Joi
   line-cut (Warned notice false) drained a halt e = cut-by (Warned notice false) tt drained a halt e
 
   -- what was answered was written and reported, after which the line doesn't come a second time; or that failed
-  settled-becomes : (step : Step) → IsDrainedAfter step ready
-      → EngineAnswers filter shows ready lines earlier line (Ok step) → (shown : Type 0)
-      → (shows (with_next lines line) [] → shown) → (made : Result Bool Halt) → IfOk made (λ warned. Stays step)
-      → IsSettled writer2 messages2 (made_by ready step) made → LineBecomes shown (after_first earlier made)
-  settled-becomes step drained a shown kept (Ok warned) stays s =
-      let adds = answers-add filter shows ready lines earlier line step stays drained a in
-      step-done w m _ _ (awaited_notices earlier) wrote reported _ _ (kept adds.0) adds.1 s.0 _
-      (ap (λ b. are_some (awaited_notices earlier) || b) s.1 ∙ are-some-append (awaited_notices earlier) _)
-  settled-becomes step drained a shown kept (Err halt) stays s = line-cut step drained a halt s
-
   pub line-becomes : (step : Step) → IsDrainedAfter step ready
       → EngineAnswers filter shows ready lines earlier line (Ok step) → (shown : Type 0)
       → (shows (with_next lines line) [] → shown) → (made result : Result Bool Halt)
       → result ≡ after_first earlier made → IfOk made (λ warned. Stays step)
       → IsSettled writer2 messages2 (made_by ready step) made → LineBecomes shown result
-  line-becomes step drained a shown kept made result is stays s =
-      rw (is) (settled-becomes step drained a shown kept made stays s)
+  line-becomes step drained a shown kept (Ok warned) result is stays s =
+      let adds = answers-add filter shows ready lines earlier line step stays drained a in
+      rw (is) (step-done w m _ _ (awaited_notices earlier) wrote reported _ _ (kept adds.0) adds.1 s.0 _
+      (ap (λ b. are_some (awaited_notices earlier) || b) s.1 ∙ are-some-append (awaited_notices earlier) _))
+  line-becomes step drained a shown kept (Err halt) result is stays s = rw (is) (line-cut step drained a halt s)
 
   -- a line that hands lines out
   pub handed-becomes : (out : HandedOut) (stored : Result Step At)

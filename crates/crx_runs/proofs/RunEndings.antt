@@ -193,15 +193,9 @@ module _ (filter : Filter) (lawful : IsLawful filter) (input : Input)
     start-stands s =
         let at : At = record { line = 0; fault = OutOfMemory } in
         let done : Finishes writer2 messages2 last warned (Some (halt.Fault at)) status fault = grind arith in
-        let wrote = written [] s.wrote done.0 in (
-          stands-after [] _ done.3 done.2 (inl (record {
-            line = refl;
-            nothing = refl;
-            wrote = wrote;
-            reported = reported [] at s.reported done.1;
-          })),
-          grind arith,
-        )
+        let wrote = written [] s.wrote done.0 in
+        let told = reported [] at s.reported done.1 in
+        (stands-after [] _ done.3 done.2 (inl (grind arith)), grind arith)
 
   -- the flush alone failed
   pub flush-stands : (has_ended : List InputLine → Type 0) (now : ReaderState) (last : ℕ) (warned : Bool)

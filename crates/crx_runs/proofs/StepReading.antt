@@ -100,10 +100,7 @@ held-long old new at_end tally at (is, p, ended, takes, long, line) fault same =
 
 held-answers : (old new : ReaderState) (at_end : Type 0) (tally : Tally) (r : Result (Option Line) At)
     → AnswersHeld line_shown line_number old r new → (r ≡ Ok None → ⊥) → ReaderAnswers old [] at_end tally tally r new
-held-answers old new at_end tally (Ok (Some line)) (p, ended, takes, shown, number) some =
-    (p, takes-any at_end ended takes, shown, number, held-line p tally ended)
-held-answers old new at_end tally (Ok None) same some = absurd (some refl)
-held-answers old new at_end tally (Err at) held some = held-long old new at_end tally at held at.fault refl
+held-answers old new at_end tally r held some = grind (arith, common_steps, takes-any, held-line, held-long)
 
 -- what is answered out of what is held, as an answer for which the reader gave nothing
 pub held-asked : {step : List ℕ → Type 0} {at_end : Type 0} {tally : Tally} {old new : ReaderState}

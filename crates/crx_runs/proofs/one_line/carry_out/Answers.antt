@@ -9,20 +9,7 @@ returns-in-Err-clause-settled = grind arith
 
 pub returns-in-Ok-write_all_counted-clause-settled : goal.returns-in-Ok-write_all_counted-clause-settled
 unfolding warning_text
-returns-in-Ok-write_all_counted-clause-settled g c =
-    let drained = rw c.in-Warned.is at c.requires in
-    rw (c.in-Warned.is, drained) (
-      record {
-        good = refl;
-        wrote = (
-          c.hand_on.ensures.none_taken,
-          ap₂ sink_tally_of c.hand_on.ensures.good
-              c.hand_on.ensures.unasked,
-        );
-        reported = grind (arith, common_steps, append-nil);
-      },
-      refl,
-    )
+returns-in-Ok-write_all_counted-clause-settled = grind (arith, common_steps, append-nil)
 
 pub returns-in-Err-write_all_counted-clause-settled : goal.returns-in-Err-write_all_counted-clause-settled
 unfolding warning_text

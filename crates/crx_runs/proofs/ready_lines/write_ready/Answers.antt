@@ -25,10 +25,6 @@ returns-in-Err-write_all_counted-clause-part g c =
 
 pub returns-in-Err-write_all_counted-2-clause-part : goal.returns-in-Err-write_all_counted-2-clause-part
 returns-in-Err-write_all_counted-2-clause-part g c =
-    let old = c.args.writer.now in
-    let now = c.loop-line.writer in
-    let mid = c.write_all_counted-in-Some-next_line.new.writer in
-    let then = c.write_all_counted-in-Some-next_line-2.new.writer in
     let line = c.in-Some-next_line.line.now in
     let so_far = c.loop-line.invariant.0 in
     let d = c.in_default-write_all_counted.ensures in
@@ -41,10 +37,6 @@ returns-in-Err-write_all_counted-2-clause-part g c =
 
 pub loop-line-preserved : goal.loop-line-preserved
 loop-line-preserved g c =
-    let old = c.args.writer.now in
-    let now = c.loop-line.writer in
-    let mid = c.write_all_counted-in-Some-next_line.new.writer in
-    let then = c.write_all_counted-in-Some-next_line-2.new.writer in
     let line = c.in-Some-next_line.line.now in
     let lines = g.E.Engine.ready _ in
     let kept = c.next_line.follows.holds-at-none in
@@ -60,10 +52,6 @@ loop-line-preserved g c =
         one-written _ _ line lines so_far.2 (first-and-rest lines line c.in-Some-next_line.ensures.value) ∙ ap
             (λ ls. (so_far.0 ++ line ++ 10 ∷ []) ++ lines_text ls) (sym kept.0),
       ),
-      record {
-        filter = kept.1.filter ∙ i.1.filter;
-        shows = λ ls notices h. kept.1.shows ls notices (i.1.shows ls notices h);
-        ended = λ ls h. kept.1.ended ls (i.1.ended ls h);
-      },
+      grind (arith, common_steps),
       e.awaited ∙ d.awaited ∙ i.2,
     )

@@ -17,8 +17,7 @@ after-error (Err error) is = is
 stays-fault : (writer messages : Device) (last : ℕ) (warned : Bool) (halt : Option Halt) (status : ℕ)
     (fault : Option At) (at : At) → halt ≡ Some (Stopped at)
     → Finishes writer messages last warned halt status fault → is_some fault ≡ true
-stays-fault writer messages last warned halt status fault at is h =
-    ap is_some (subst (λ (o : Option Halt). Finishes writer messages last warned o status fault) is h).2
+stays-fault writer messages last warned halt status fault at is h = grind arith
 
 pub returns-in-Ok : goal.returns-in-Ok
 returns-in-Ok = grind arith
