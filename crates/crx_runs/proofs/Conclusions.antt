@@ -142,12 +142,6 @@ module _ (filter : Filter) (lawful : IsLawful filter) (input : Input)
         (λ at bad. ap filter.whole (all-lines h s.ended rest none)) s.ends finished wn mn memory)
         (asked-once h (inr s.ended)) (λ other. none-failed h (inr s.ended))
 
-    stopped-at-start : StoppedAtStart input writer1 messages1 last halt
-        → Comes filter input writer messages has_ended status fault
-    stopped-at-start s = interrupted [] s.gave (start-stands filter lawful input w m now last warned halt
-        status fault finished s) (grind arith) (inl (ap (λ t. t.ends) s.counts)) (λ other. ap (λ t. t.failures)
-        s.counts)
-
   pub runs-as : (has_ended : List InputLine → Type 0) (now : ReaderState) (last : ℕ) (warned : Bool)
       (halt : Option Halt) (status : ℕ) (fault : Option At) → WorkEnds filter has_ended input writer1
       messages1 now last warned halt → Finishes writer2 messages2 last warned halt status fault → Comes filter
@@ -190,7 +184,9 @@ module _ (filter : Filter) (lawful : IsLawful filter) (input : Input)
   runs-as has_ended now last warned (Some halt) status fault (inr (inl s)) finished =
       stopped-by-end has_ended now last warned halt status fault finished s
   runs-as has_ended now last warned (Some halt) status fault (inr (inr s)) finished =
-      stopped-at-start has_ended now last warned halt status fault finished s
+      interrupted has_ended now last warned halt status fault finished [] s.gave
+      (start-stands filter lawful input w m now last warned halt status fault finished s) (grind arith)
+      (inl (ap (λ t. t.ends) s.counts)) (λ other. ap (λ t. t.failures) s.counts)
 
   -- memory ran out before the first line was asked for
   pub runs-nothing : (has_ended : List InputLine → Type 0) (last : ℕ) (warned : Bool) (stop : Option Halt)

@@ -144,12 +144,6 @@ none-first : (xs ys : List At) → [] ≡ xs ++ ys → xs ≡ []
 none-first [] ys is = refl
 none-first (x ∷ xs) ys is = absurd (cc)
 
-end-warns : (filter : Filter) (ready : List (List ℕ)) (lines : List InputLine) (step : Step)
-    (writer messages : Device) (halt : Halt) → IsDrainedAfter step ready → Concludes filter ready lines
-    (Ok step) → IsSettled writer messages (made_by ready step) (Err halt) → WarnsAtEnd (filter.so_far lines)
-    (filter.whole lines) halt
-end-warns = grind (arith, common_steps, append-nil, no-part, none-first)
-
 pub end-becomes : (filter : Filter) (ready : List (List ℕ)) (lines : List InputLine) (step : Step)
     (shown : Type 0) → shown → (writer messages : Device) (result : Result Bool Halt)
     → IsDrainedAfter step ready → Concludes filter ready lines (Ok step)
@@ -165,5 +159,5 @@ end-becomes filter ready lines step shown is writer messages (Err halt) drained 
     let adds = concludes-add filter ready lines step drained a in (
       step-ends joins-idle joins-idle _ _ [] (refl, refl) (refl, refl) None (length lines) _ _ (λ some. adds)
           (all-next adds) halt settled,
-      end-warns filter ready lines step _ _ halt drained a settled,
+      grind (arith, common_steps, append-nil, no-part, none-first),
     )

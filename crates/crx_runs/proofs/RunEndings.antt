@@ -118,13 +118,6 @@ module _ (filter : Filter) (lawful : IsLawful filter) (input : Input)
           front-before wrote.0,
         )
 
-  -- the reading stopped
-  stopped-stands : (given : List ℕ) (lines : List InputLine) (f : Fault) (at : At) → IsStopped f input.start
-      input.counted given lines → at.line ≡ length lines + 1 → (filter.so_far lines).fault ≡ None → IsWritten
-      writer (filter.so_far lines).output → AreReported messages (filter.so_far lines).warnings at → Stands
-      filter input given writer messages at f
-  stopped-stands = grind (arith, common_steps, complete-stopped)
-
   -- ---- the work of a run
 
   module _ (now : ReaderState) (last : ℕ) (warned : Bool) (stop : Halt) (status : ℕ) (fault : Option At)
@@ -162,9 +155,9 @@ module _ (filter : Filter) (lawful : IsLawful filter) (input : Input)
         let h = s.read in
         let stopped = HasRead-stopped _ _ _ _ _ _ h at s.stopped in
         let wrote = written _ s.out.wrote done.0 in
-        let same = complete-stopped h.given lines at.fault input.start input.counted stopped.0 in (
-          stands-after h.given at done.3 done.2 (stopped-stands h.given lines at.fault at stopped.0
-              stopped.1 s.out.good wrote (reported _ at s.out.reported done.1)),
+        let same = complete-stopped h.given lines at.fault input.start input.counted stopped.0 in
+        let told = reported _ at s.out.reported done.1 in (
+          stands-after h.given at done.3 done.2 (grind (arith, common_steps, same, told)),
           record { written = _; wrote = wrote.0; first = first-complete lawful input h.given lines same },
         )
 
