@@ -15,7 +15,7 @@ use Rattle.crx_runs.specs.{Runs.result_by, Lawful.IsLawful, meaning.Spans.{Devic
 use Rattle.crx_runs.specs.meaning.{Filters.{Filter, with_next}, Interruptions.IsFrontPart, Runs.IsResult}
 use Rattle.crx_runs.specs.meaning.{Runs.{NoneFailed, FaultIs, RunsAs}, Results.{Course, result_of_course}}
 use Rattle.crx_runs.specs.{meaning.Results.status_after, Endings.{EndedByFault, EndsAt, Finishes}}
-use Rattle.crx_runs.specs.Endings.{FlushFailed, IsFlushed, StopsAt, StoppedAtStart, StoppedByEnd, WorkEnds}
+use Rattle.crx_runs.specs.Endings.{FlushFailed, IsFlushed, StopsAt, WorkEnds}
 use Rattle.crx_runs.specs.{declared.one_line.Halt.Halt, meaning.Messages.{error_text, notices_text}}
 use Rattle.crx_runs.specs.declared.one_line.Halt.TheVariants as halt
 
@@ -130,18 +130,6 @@ module _ (filter : Filter) (lawful : IsLawful filter) (input : Input)
         writer2 messages2 last warned (Some stop) status fault) is finished).0.1 wn))
         (asked-once h s.going) (λ other. none-failed h s.going)
 
-    stopped-by-end : StoppedByEnd filter input writer1 messages1 now last halt
-        → Comes filter input writer messages has_ended status fault
-    stopped-by-end s =
-        let h = s.read in
-        interrupted h.given h.lead (end-stands filter lawful input w m now last warned halt status fault
-        finished s)
-        (λ rn wn mn memory rest none within.
-        ends-whole None (length s.lines) (filter.so_far s.lines) (filter.whole s.lines) _ halt last warned
-        status fault
-        (λ at bad. ap filter.whole (all-lines h s.ended rest none)) s.ends finished wn mn memory)
-        (asked-once h (inr s.ended)) (λ other. none-failed h (inr s.ended))
-
   pub runs-as : (has_ended : List InputLine → Type 0) (now : ReaderState) (last : ℕ) (warned : Bool)
       (halt : Option Halt) (status : ℕ) (fault : Option At) → WorkEnds filter has_ended input writer1
       messages1 now last warned halt → Finishes writer2 messages2 last warned halt status fault → Comes filter
@@ -182,7 +170,13 @@ module _ (filter : Filter) (lawful : IsLawful filter) (input : Input)
   runs-as has_ended now last warned (Some halt) status fault (inl s) finished =
       stopped-in-lines has_ended now last warned halt status fault finished s.0 s.1 s.2
   runs-as has_ended now last warned (Some halt) status fault (inr (inl s)) finished =
-      stopped-by-end has_ended now last warned halt status fault finished s
+      let h = s.read in
+      interrupted has_ended now last warned halt status fault finished h.given h.lead
+      (end-stands filter lawful input w m now last warned halt status fault finished s)
+      (λ rn wn mn memory rest none within.
+      ends-whole None (length s.lines) (filter.so_far s.lines) (filter.whole s.lines) _ halt last warned
+      status fault (λ at bad. ap filter.whole (all-lines h s.ended rest none)) s.ends finished wn mn memory)
+      (asked-once h (inr s.ended)) (λ other. none-failed h (inr s.ended))
   runs-as has_ended now last warned (Some halt) status fault (inr (inr s)) finished =
       interrupted has_ended now last warned halt status fault finished [] s.gave
       (start-stands filter lawful input w m now last warned halt status fault finished s) (grind arith)

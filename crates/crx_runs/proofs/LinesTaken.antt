@@ -4,19 +4,19 @@ use Rattle.std.proofs.Common.{◌≡◌, ◌⊎◌, ℕ, ◌+◌, Bool, true, fa
 use Rattle.std.proofs.Common.{Some, None, Result, Ok, Err, IfOk, IfErr, refl, sym, ap, ◌∙◌, ◌||◌}
 use Rattle.std.specs.Prelude.{⊤}
 use Rattle.std.proofs.Common.{arith, append_assoc, append-nil}
-use Rattle.crx_base.specs.{declared.fault.{At.At, Fault.TheVariants.OutOfMemory}, meaning.Lines.InputLine}
+use Rattle.crx_base.specs.{declared.fault.At.At, meaning.Lines.InputLine}
 use Rattle.crx_base.specs.meaning.Lines.{lines_text}
 use Rattle.crx_runs.proofs.{DeviceSpans.{Joins, joins-idle}, LineEndings.{all-next, answer-ends, step-done, step-ends}}
 use Rattle.crx_runs.specs.Endings.{Adds, WarnsAtEnd}
-use Rattle.crx_runs.specs.Engines.{Awaited, awaited_notices, EngineAnswers, IsDrainedAfter, EndsWith}
+use Rattle.crx_runs.specs.Engines.{Awaited, awaited_notices, EngineAnswers, IsDrainedAfter}
 use Rattle.crx_runs.specs.Engines.{Concludes}
-use Rattle.crx_runs.specs.Engines.{GoesOn, RunsOutAt, Stays, answer_given}
+use Rattle.crx_runs.specs.Engines.{Stays, answer_given}
 use Rattle.crx_runs.specs.Taking.{Becomes, IsSettled, made_by, step_notices}
 use Rattle.crx_runs.specs.declared.engine.HandedOut.{HandedOut, TheVariants.{Nothing, Lines, AsItIs}}
 use Rattle.crx_runs.specs.declared.{engine.Step.{Step, TheVariants.{Quiet, Ready, Warned}}, one_line.Halt.Halt}
 use Rattle.crx_runs.specs.declared.one_line.Halt.TheVariants.{Fault, Unwritten}
 use Rattle.crx_runs.specs.meaning.{Filters.{Filter, with_next}, Messages.notices_text}
-use Rattle.crx_runs.specs.meaning.{Results.{Course, are_some}}
+use Rattle.crx_runs.specs.meaning.Results.{are_some}
 use Rattle.crx_runs.specs.meaning.Spans.{Device, TookAll, TookPart, AreNext, IsPart}
 
 -- what a line adds that doesn't come a second time

@@ -2,7 +2,7 @@
 use Rattle.std.proofs.lemmas.Grind.{common_steps}
 use Rattle.std.proofs.Common.{◌≡◌, ◌⊎◌, inl, inr, ℕ, ◌+◌, Bool, true, List, [], ◌++◌, length, Option}
 use Rattle.std.proofs.Common.{Some, None, ◌∷◌, refl, sym, ap, subst, ◌∙◌, arith, length-append}
-use Rattle.crx_lines.{proofs.ProgressLemmas.HasRead-stopped, specs.Progress.IsStopped}
+use Rattle.crx_lines.proofs.ProgressLemmas.{HasRead-stopped}
 use Rattle.crx_lines.specs.Reading.{ReaderState}
 use Rattle.crx_base.specs.declared.fault.{At.At, Fault.Fault, Fault.TheVariants.OutOfMemory}
 use Rattle.crx_base.specs.meaning.Lines.{InputLine}

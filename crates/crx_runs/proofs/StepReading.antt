@@ -1,7 +1,7 @@
 -- What a reader of lines answers, by the lines that were read before.
 use Rattle.std.proofs.lemmas.Grind.{common_steps}
 use Rattle.std.proofs.Common.{◌≡◌, ◌⊎◌, ⊎_elim, ℕ, ◌+◌, true, List, [], ◌++◌, length, Option, Some, None}
-use Rattle.std.proofs.Common.{Result, Ok, Err, arith, refl, ◌∙◌, ◌≢◌}
+use Rattle.std.proofs.Common.{Result, Ok, Err, arith, ◌∙◌, ◌≢◌}
 use Rattle.std.{proofs.lemmas.List.Elements.{All-from_get_or}, specs.List.{Contains}}
 use Rattle.crx_lines.{proofs.ProgressLemmas.HasRead-next, specs.Progress.{AtAnswer, HasRead}}
 use Rattle.crx_lines.specs.Devices.{tally_after_line}

@@ -1,4 +1,4 @@
-use Rattle.std.proofs.Common.{arith, refl, ap, subst, ◌≡◌, ℕ, Bool, true, Option, Some, is_some, Result}
+use Rattle.std.proofs.Common.{arith, refl, ◌≡◌, ℕ, Bool, true, Option, Some, is_some, Result}
 use Rattle.std.{proofs.Common.{Ok, Err, OnErr}, specs.Prelude.⊤}
 use Rattle.crx_base.specs.declared.fault.{At.At, Fault.TheVariants.OutOfMemory}
 use Rattle.crx_runs.specs.Endings.{Finishes}
