@@ -106,7 +106,8 @@ module _ {writer1 writer2 writer messages1 messages2 messages : Device} (w : Joi
       let adds = answers-add filter shows ready lines earlier line step stays drained a in
       rw (is) (step-done w m _ _ (awaited_notices earlier) wrote reported _ _ (kept adds.0) adds.1 s.0 _
       (ap (λ b. are_some (awaited_notices earlier) || b) s.1 ∙ are-some-append (awaited_notices earlier) _))
-  line-becomes step drained a shown kept (Err halt) result is stays s = rw (is) (line-cut step drained a halt s)
+  line-becomes step drained a shown kept (Err halt) result is stays s =
+      rw (is) (line-cut step drained a halt s)
 
   -- a line that hands lines out
   pub handed-becomes : (out : HandedOut) (stored : Result Step At)
