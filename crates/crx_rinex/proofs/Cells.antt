@@ -71,17 +71,13 @@ field_inside line k h =
 pub cell_parts : (field cell : List ℕ) (a b : ℕ) → length field ≡ 14 → cell ≡ field ++ a ∷ b ∷ []
     → (take 14 cell ≡ field) × (get_or (cell ++ cell) 14 0 ≡ a) × (get_or (cell ++ cell) 15 0 ≡ b)
 cell_parts field cell a b long is =
-    let whole : List ℕ = field ++ a ∷ b ∷ [] in
-    let at : (i : ℕ) → get_or (whole ++ cell) (length field + i) 0 ≡ get_or (a ∷ b ∷ cell) i 0 =
+    let at : (i : ℕ) → get_or ((field ++ a ∷ b ∷ []) ++ cell) (length field + i) 0
+    ≡ get_or (a ∷ b ∷ cell) i 0 =
     λ i. ap (λ t. get_or t (length field + i) 0) (append_assoc field (a ∷ b ∷ []) cell)
-    ∙ get_or-append-add field (a ∷ b ∷ cell) i 0 in (
-      ap (take 14) is ∙ take-append-le 14 field _ (omega (arith, long)) ∙ take_all 14 field (omega
-          (arith, long)),
-      ap (λ t. get_or (t ++ cell) 14 0) is ∙ ap (λ n. get_or (whole ++ cell) n 0) (omega (arith, long))
-          ∙ at 0,
-      ap (λ t. get_or (t ++ cell) 15 0) is ∙ ap (λ n. get_or (whole ++ cell) n 0) (omega (arith, long))
-          ∙ at 1,
-    )
+    ∙ get_or-append-add field (a ∷ b ∷ cell) i 0 in
+    let one = at 0 in
+    let two = at 1 in
+    grind (arith, take-append-le 14 field, take_all 14 field)
 
 -- one cell more
 pub cells_more : (line : List ℕ) (values : List (Option ℤ)) (flags flags_after : List ℕ) (k : ℕ)
@@ -164,13 +160,11 @@ pub whole_columns : (line bytes : List ℕ) (start : ℕ) → take (length line)
     → start + 16 ≤ length line → take 16 (take (length bytes - start) (drop start bytes)) ≡ columns line
     (start + 1) 16
 whole_columns line bytes start is room =
-    let place : start + 1 - 1 ≡ start = omega arith in
-    let sum : start + (length line - start) ≡ length line = omega (arith, room) in
-    ap (take 16) (take_rest bytes start)
-    ∙ sym (rw place (take-append-le 16 (drop start line) _ (omega (arith, room, length-drop start line))
-    ∙ ap (λ t. take 16 (drop start t)) (sym is) ∙ ap (λ n. take 16 (drop start (take n bytes))) (sym sum)
-    ∙ ap (take 16) (drop-take start (length line - start) bytes)
-    ∙ take-take 16 (length line - start) (drop start bytes) (omega (arith, room))))
+    let all = take_rest bytes start in
+    let cut = drop-take start (length line - start) bytes in
+    let twice = take-take 16 (length line - start) (drop start bytes) (omega (arith, room)) in
+    let whole = take-append-le 16 (drop start line) in
+    grind (arith, length-drop)
 
 -- lanes below a place, and blanks
 first_lanes : (left i : ℕ) (xs : List ℕ)
@@ -205,19 +199,11 @@ cut_columns line bytes start left is room cut rest =
     let part : take 16 (drop start line) ≡ take left xs = elim (cases_lt (length line) start) [
       | inr inside ↦
           let sum : start + left ≡ length line = omega (arith, inside, rest) in
-          ap (λ t. take 16 (drop start t)) (sym is) ∙ ap (λ n. take 16 (drop start (take n bytes))) (sym sum)
-          ∙ ap (take 16) (drop-take start left bytes)
-          ∙ take_all 16 (take left (drop start bytes)) (omega (
-            arith,
-            cut,
-            rest,
-            length-take left
-                (drop start bytes),
-          ))
-          ∙ sym (take-take left 16 (drop start bytes) (omega (arith, cut, rest)))
-      | inl past ↦
-          let none : left ≡ 0 = omega (arith, past, rest) in
-          ap (take 16) (drop_all start line (omega (arith, past))) ∙ ap (λ n. take n xs) (sym none)
+          let cuts = drop-take start left bytes in
+          let whole = take_all 16 (take left (drop start bytes)) in
+          let first = take-take left 16 (drop start bytes) (omega (arith, cut, rest)) in
+          grind (arith, length-take left (drop start bytes))
+      | inl past ↦ grind (arith, drop_all start line)
     ] in
     let whole : left - 0 ≡ left = omega arith in
     let wide : length (take left xs) ≡ left = length-take-le left xs (omega (arith, cut, long, rest)) in

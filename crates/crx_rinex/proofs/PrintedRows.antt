@@ -25,11 +25,9 @@ pub inside_prints : (line : List ℕ) (k : ℕ) → 16 * k + 1 + 16 ≤ length l
 inside_prints line k within =
     let place : 16 * k + 1 + 2 ≡ 16 * k + 3 = omega arith in
     let width : 16 * k + 1 + 16 - (16 * k + 1) ≡ 16 = omega arith in
-    subst Prints (ap (λ n. drop 2 (take 16 (take n (drop (16 * k + 1) line)))) width
-    ∙ ap (drop 2) (take-take 16 16 (drop (16 * k + 1) line) (omega arith))
-    ∙ drop-take 2 14 (drop (16 * k + 1) line)
-    ∙ ap (take 14) (drop-drop 2 (16 * k + 1) line ∙ ap (λ n. drop n line) place)
-    ∙ sym (field_inside line k (omega (arith, within))))
+    let inside = field_inside line k (omega (arith, within)) in
+    subst Prints (rw (width, take-take 16 16 (drop (16 * k + 1) line) (omega arith),
+    drop-take 2 14 (drop (16 * k + 1) line), drop-drop 2 (16 * k + 1) line, place, inside) refl)
 
 -- so are those before it
 pub next_prints : (line : List ℕ) (k : ℕ) → ((j : ℕ) → j < k → Prints (field line j)) → Prints (field line k)
@@ -68,17 +66,12 @@ columns_split line first a b =
     let wide = length-columns line (first + 1) a in
     let rest = length-columns line (first + a + 1) b in
     columns-are line (first + 1) (a + b) (left ++ right) (omega (arith, wide, rest, length-append left right))
-    (λ p less. elim (cases_lt p a) [
-      | inl near ↦
-          let here = at-append left right p in
-          let there = at-column line (first + 1) a p near in
-          grind (arith, common_steps)
-      | inr far ↦
-          let here = at-append_past left right a (p - a) wide in
-          let there = at-column line (first + a + 1) b (p - a) in
-          let sum : a + (p - a) ≡ p = omega (arith, far) in
-          grind (arith, common_steps)
-    ])
+    (λ p less.
+    let near = at-append left right p in
+    let far = at-append_past left right a (p - a) wide in
+    let one = at-column line (first + 1) a p in
+    let two = at-column line (first + a + 1) b (p - a) in
+    grind arith)
 
 two_columns : (line : List ℕ) (n : ℕ)
     → columns line (n + 1) 2 ≡ character_at line (n + 1) ∷ character_at line (n + 2) ∷ []
@@ -131,9 +124,7 @@ module _ (line : List ℕ) (prints : (j : ℕ) → Prints (field line j)) where
       let parts = first_read (observation_of (field line k))
       (each_place n (λ j. observation_of (field line (k + 1 + j)))) values
       (sym (ap all_some (from-next n k (λ j. observation_of (field line j)))) ∙ reads) in
-      subst (λ vs. printed_cells vs (concat (each_place (suc n) (λ j. flags_at line (k + j))))
-      ≡ columns line (16 * k + 3 + 1) (16 * suc n)) parts.4
-      (put n k parts.0 parts.1 parts.2 (cells_columns n (k + 1) parts.1 parts.3))
+      rw (← parts.4) (put n k parts.0 parts.1 parts.2 (cells_columns n (k + 1) parts.1 parts.3))
 
   row_columns : (m : ℕ) (values : List (Option ℤ)) → values_in m line ≡ Some values
       → columns line 1 3 ++ printed_cells values (flags_in m line) ≡ columns line 1 (3 + 16 * m)

@@ -262,16 +262,12 @@ epoch-back types epoch lines h =
     record { head = epoch.head; count = satellites_of epoch.head; clock = epoch.clock } in
     let line : List ℕ = printed_head epoch.head epoch.clock in
     let rest : List ReadLine = map Content (map printed_row epoch.rows) ++ lines in
-    let begins : beginning_of (printed_head epoch.head epoch.clock) ≡ Ok (EpochBegins head) =
-    ap (begun_by (printed_head epoch.head epoch.clock)) (head-back head h.sound.head_sound) in
     let wanted : rows_wanted (opened types head) ≡ length epoch.rows =
     (let full = h.full in omega (arith, full)) in
-    let read : rest_at (opened types head) (map Content (map printed_row epoch.rows) ++ lines) ≡ Done epoch
-    (length epoch.rows) =
-    ap (λ n. rows_at (opened types head) n (map Content (map printed_row epoch.rows) ++ lines)) wanted
+    let read : rest_at (opened types head) rest ≡ Done epoch (length epoch.rows) =
+    ap (λ n. rows_at (opened types head) n rest) wanted
     ∙ rows-back (opened types head) epoch.rows lines h.sound.rows_sound h.typed h.sound.apart in
     let count : 1 + (length epoch.rows + 0) ≡ length epoch.rows + 1 = omega arith in
-    epoch-begun types (printed_head epoch.head epoch.clock) head
-    (map Content (map printed_row epoch.rows) ++ lines) begins ∙ ap (λ p. after_lines 1 (then_place p
-    (map Content (map printed_row epoch.rows) ++ lines) (λ e others. Done (Observation e) 0))) read
+    epoch-begun types line head rest (ap (begun_by line) (head-back head h.sound.head_sound))
+    ∙ ap (λ p. after_lines 1 (then_place p rest (λ e others. Done (Observation e) 0))) read
     ∙ ap (λ n. Done (Observation epoch) n) count
