@@ -1,17 +1,15 @@
-use Rattle.rnxcmp_c.proofs.{ReaderLemmas.filter-is, Words.{run_for, sym}}
+use Rattle.std.proofs.Common.{rules}
+use Rattle.rnxcmp_c.proofs.ReaderLemmas.{filter-is}
 use Rattle.rnxcmp_c.proofs.engines.end_engine.Goals as goal
 
 pub returns-in-Compacting-clause-ends : goal.returns-in-Compacting-clause-ends
-returns-in-Compacting-clause-ends c task fed taken is_of going = c.take_last.ensures.ends (run_for task)
-    fed taken
-    (sym (filter-is task _ (rw c.in-Compacting.is at is_of)), rw c.in-Compacting.is at going)
+returns-in-Compacting-clause-ends c =
+    search (rules, filter-is, c.take_last.ensures.ends, c.in-Compacting.is)
 
 pub returns-in-Expanding-clause-ends : goal.returns-in-Expanding-clause-ends
-returns-in-Expanding-clause-ends c task fed taken is_of going = c.take_last-in-Expanding.ensures.ends
-    (run_for task) fed taken
-    (sym (filter-is task _ (rw c.in-Expanding.is at is_of)), rw c.in-Expanding.is at going)
+returns-in-Expanding-clause-ends c =
+    search (rules, filter-is, c.take_last-in-Expanding.ensures.ends, c.in-Expanding.is)
 
 pub returns-in-Checking-clause-ends : goal.returns-in-Checking-clause-ends
-returns-in-Checking-clause-ends c task fed taken is_of going = c.take_last-in-Checking.ensures.ends
-    (run_for task) fed taken
-    (sym (filter-is task _ (rw c.in-Checking.is at is_of)), rw c.in-Checking.is at going)
+returns-in-Checking-clause-ends c =
+    search (rules, filter-is, c.take_last-in-Checking.ensures.ends, c.in-Checking.is)
