@@ -29,8 +29,7 @@ ended-stands : {P : FilterResult → Type 0} (task : Task) (reader : Reader) (fe
     (outcome : Option Outcome) → HasEndedBy task P reader taken outcome
     → ((result : FilterResult) → P result → IsOverWith task fed reader.held result)
     → StandsBy task reader fed taken outcome
-ended-stands task reader fed taken None ended is = absurd ended
-ended-stands task reader fed taken (Some outcome) ended is = ended-as ended is
+ended-stands = grind (arith, ended-as)
 
 -- a run that hasn't ended goes on
 pub runs-where_none : (task : Task) (reader : Reader) (fed : List ℕ) (taken : BothTexts)

@@ -114,8 +114,7 @@ module _ (task : Task) (reader : Reader) (fed : List ℕ) (taken : BothTexts) wh
   ended-by : {P Q : FilterResult → Type 0} (outcome : Option Outcome) → HasEndedBy task P reader taken outcome
       → ((result : FilterResult) → P result → Q result)
       → (is_some outcome ≡ true) × RunHasEnded Q made kept (answer_by outcome reader)
-  ended-by None ended weaker = absurd ended
-  ended-by (Some outcome) ended weaker = (refl, (ended-as ended weaker).ended)
+  ended-by = grind (arith, ended-as)
 
   fed-ended : (before left : List ℕ) (outcome : Option Outcome) → is_some outcome ≡ true
       → HasFedBy before task reader fed taken outcome

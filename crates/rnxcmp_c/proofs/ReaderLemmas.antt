@@ -8,7 +8,7 @@ use Rattle.rnxcmp_c.proofs.Words.{INPUT_LIMIT, At, InputTooLong, IsLawful, Filte
 use Rattle.rnxcmp_c.proofs.Words.{with_one_more}
 use Rattle.rnxcmp_c.proofs.Words.{Course, check-lawful, compaction-lawful, expansion-lawful, Outcome, IsAll}
 use Rattle.rnxcmp_c.proofs.Words.{Stop, Fault, Limit, result_of_course, FilterResult, BothTexts}
-use Rattle.rnxcmp_c.proofs.Words.{StopsWhenFull, TaskRun}
+use Rattle.rnxcmp_c.proofs.Words.{StopsWhenFull}
 use Rattle.rnxcmp_c.proofs.Words.{engine_filter, has_ended_of, run_for, limit_for, result_for, Task, Compact}
 use Rattle.rnxcmp_c.proofs.Words.{Expand, Check, filter_for, AnyEngine, HandleState, ended_lines_of}
 use Rattle.rnxcmp_c.specs.Going.{AreTaken, FailsIn, IsLastLine, IsStopped, StopsAs, StopsEarly}
