@@ -48,7 +48,8 @@ module _ (items : List (Item ReadEpoch)) (units : List (FileUnit Epoch)) (before
 
   record-back : (line : List ℕ) → UnitBack items units before (EventRecord line) (Content line ∷ [])
   record-back line = by_bool (empties_state (records_count_types items) line)
-      (λ on. grind (arith, common_steps, count-same)) (λ off. grind (arith, common_steps, count-same, steady-types))
+      (λ on. grind (arith, common_steps, count-same))
+      (λ off. grind (arith, common_steps, count-same, steady-types))
 
   epoch-back : (read : ReadEpoch) (lines : List ReadLine) (count : ℕ)
       → epoch_at (types_in_force items) (raws_kept items) lines ≡ Done read count

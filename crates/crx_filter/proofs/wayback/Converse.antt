@@ -78,7 +78,8 @@ pub epoch-printable : (types : List Count) (epoch : Epoch) → IsWholeEpoch type
     → AllByRecursion (λ (line : List ℕ). list_all is_printable line ≡ true) (printed_epoch epoch)
 epoch-printable types epoch h =
     let head = kept-text epoch.head (head-kept types epoch h) in (
-      trimmed-printable (epoch.head ++ clock_text epoch.clock) (search (arith, number-printable, list_all-append)),
+      trimmed-printable (epoch.head ++ clock_text epoch.clock)
+          (search (arith, number-printable, list_all-append)),
       rows-all (λ line. list_all is_printable line ≡ true) row-printable epoch.rows h.sound.rows_sound,
     )
 

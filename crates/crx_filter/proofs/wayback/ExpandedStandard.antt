@@ -93,9 +93,8 @@ cut-plain (line ∷ lines) h e = grind (arith, first-cut, and_parts, not-true, c
 copied-plain : (items : List (Item Epoch))
     → AllByRecursion NoReturn (printed_items items) → HaveNoReturns items
 copied-plain [] h = tt
-copied-plain (Accepted (Observation epoch) ∷ before) h = (tt, copied-plain before (all-parts _ _ _ h).0)
-copied-plain (Accepted unit ∷ before) h = let both = all-parts _ _ _ h in
-    ((both.1).0, copied-plain before both.0)
+copied-plain (Accepted unit ∷ before) h =
+    let both = all-parts _ _ _ h in grind (arith, copied-plain before both.0)
 copied-plain (Warned at ∷ before) h = copied-plain before h
 
 plain-copied : (items : List (Item Epoch)) → IsSettled items → HaveNoReturns items

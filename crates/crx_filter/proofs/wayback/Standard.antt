@@ -26,7 +26,8 @@ within-same : {E : Type 0} (place : List (Item E) → List ReadLine → Place (F
     skip units items number lines) ≡ ended_reading false (reading_within place false units items number lines)
 within-same place skip zero items number lines f = ended-same skip items _ _ f
 within-same place skip (suc units) items number lines f =
-    grind (arith, common_steps, reading_within, after_fault, ended-same, not-ended, within-same place skip units)
+    grind
+    (arith, common_steps, reading_within, after_fault, ended-same, not-ended, within-same place skip units)
 
 pub same-reading : (skip : Bool) (lines : List ReadLine)
     → WholeReading.fault (whole_rinex false lines) ≡ None → whole_rinex skip lines ≡ whole_rinex false lines
