@@ -13,7 +13,8 @@ use Rattle.rnxcmp_c.proofs.Words.{StepStops, ready_in, LINE_ROOM}
 use Rattle.rnxcmp_c.proofs.Words.{on_ok_weaker, IfErr-weaker, Result}
 use Rattle.rnxcmp_c.proofs.Words.{READY_LIMIT, Stop, Fault, Limit, line_reached, memory_next}
 use Rattle.rnxcmp_c.specs.{Counting.take-of_taken, Past.StopsSoon}
-use Rattle.rnxcmp_c.specs.Going.{AreTaken, EndStaysWithin, IsLineEnded, IsStopped, LastIsTaken, StopsAs, StopsEarly}
+use Rattle.rnxcmp_c.specs.Going.{AreTaken, EndStaysWithin, IsLineEnded, IsStopped, LastIsTaken, StopsAs}
+use Rattle.rnxcmp_c.specs.Going.{StopsEarly}
 use Rattle.rnxcmp_c.specs.{declared.piece.Piece.Piece}
 use Rattle.crx_lines.proofs.ProgressLemmas.{lines-first, lines-last, ended_lines-first, ended_lines-none}
 use Rattle.crx_runs.specs.Engines.{Awaited}
@@ -179,17 +180,19 @@ pub early-weaker : {run : TaskRun} {P Q : ℕ → Type 0} {input : List ℕ} {mi
     → held.messages.failures ≡ mid.messages.failures → StopsEarly P run input mid result
     → StopsEarly Q run input held result
 early-weaker weaker output messages (inl limit) = inl limit
-early-weaker weaker output messages (inr ran) =
-    inr (record { stops = search (rules, weaker, ran.stops); lacking = grind (arith, ran.lacking) })
+early-weaker weaker output messages (inr ran) = inr (record {
+  stops = search (rules, weaker, ran.stops);
+  lacking = grind (arith, ran.lacking);
+})
 
 -- a run that was stopped as it ends with one of some results was stopped as with one of more
-pub stopped-as : {P Q : FilterResult → Type 0} {limit : ℕ} {held : HandleState} {taken : BothTexts} {stop : Stop}
-    → StopsAs limit P held taken stop → ((result : FilterResult) → P result → Q result)
+pub stopped-as : {P Q : FilterResult → Type 0} {limit : ℕ} {held : HandleState} {taken : BothTexts}
+    {stop : Stop} → StopsAs limit P held taken stop → ((result : FilterResult) → P result → Q result)
     → StopsAs limit Q held taken stop
 stopped-as = grind arith
 
-pub stopped-weaker : {run : TaskRun} {P Q : ℕ → Type 0} {input : List ℕ} {held : HandleState} {taken : BothTexts}
-    {stop : Stop} → ((n : ℕ) → P n → Q n) → IsStopped P run input held taken stop
+pub stopped-weaker : {run : TaskRun} {P Q : ℕ → Type 0} {input : List ℕ} {held : HandleState}
+    {taken : BothTexts} {stop : Stop} → ((n : ℕ) → P n → Q n) → IsStopped P run input held taken stop
     → IsStopped Q run input held taken stop
 stopped-weaker weaker is = stopped-as is
     (λ result. ⊎_elim (λ fails. inl fails) (λ early. inr (early-weaker weaker refl refl early)))

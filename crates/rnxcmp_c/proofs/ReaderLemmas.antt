@@ -63,7 +63,8 @@ module _ {mid held : HandleState} {taken : BothTexts} {outcome : Outcome} where
         fails.result_is,
         fails.fault,
       )))
-      (λ early. let same = same-failures mid held outcome stop put in inr (early-weaker (λ n at. at) same.0 same.1 early))
+      (λ early. let same = same-failures mid held outcome stop put in
+          inr (early-weaker (λ n at. at) same.0 same.1 early))
       is)
 
   -- a byte more than an input may have ended it

@@ -31,7 +31,8 @@ module _ (task : Task) (old : Reader) (fed : List ℕ) (taken : BothTexts) (outp
     ended = record {
       result = over.ended.result;
       is = ⊎_elim (λ whole. inl whole) (λ other. inr (⊎_elim
-          (λ early. inl (early-weaker (λ n at. at) output_good messages_good early)) (λ full. inr full) other))
+          (λ early. inl (early-weaker (λ n at. at) output_good messages_good early))
+          (λ full. inr full) other))
           over.ended.is;
       ends = grind (arith, common_steps, over.ended.ends, same-output, same-messages);
     };
