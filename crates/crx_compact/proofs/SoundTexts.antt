@@ -1,7 +1,8 @@
 -- Blanks at the end of texts, and what is held of indicators.
 use Rattle.crx_compact.proofs.Words.{◌≡◌, patched, columns, few_kept, list_all, ◌≤◌, ℕ, ◌*◌, ◌∷◌, ap, ◌∙◌}
 use Rattle.crx_compact.proofs.Words.{◌<◌, ◌+◌, ◌-◌, at, refl, true, List, length, take, arith, is_kept, Bool}
-use Rattle.crx_compact.proofs.Words.{get_or_past, drop, [], replicate, IsAllowedCount, length-columns, flags_held}
+use Rattle.crx_compact.proofs.Words.{get_or_past, drop, [], replicate, IsAllowedCount, length-columns}
+use Rattle.crx_compact.proofs.Words.{flags_held}
 use Rattle.crx_compact.proofs.Words.{common_steps, by_position, mark_of, ◌++◌, list_all-from_at, at-drop}
 use Rattle.crx_compact.proofs.Words.{at-without_end_blanks, columns-are, without_end_blanks, text_difference}
 use Rattle.crx_compact.proofs.Characters.{all-take, list_all-at, at-take_past, at-by_position}

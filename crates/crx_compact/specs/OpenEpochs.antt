@@ -161,7 +161,8 @@ raw_step_with_clock begun (Ok cell) =
 abbrev pub raw_step_with_row : OpenRawEpoch → Result RowTail Fault → RawStep
 raw_step_with_row begun (Err fault) = Faulty fault
 raw_step_with_row begun (Ok left) =
-    step_with_rows (record (tail_so_far begun) { rows = slice_set begun.rows begun.count left }) (suc begun.count)
+    step_with_rows (record (tail_so_far begun) { rows = slice_set begun.rows begun.count left })
+    (suc begun.count)
 
 abbrev pub row_step : OpenRawEpoch → Option RowTail → List ℕ → RawStep
 row_step begun None line = Whole (whole_epoch (tail_so_far begun))

@@ -8,17 +8,18 @@ use Rattle.crx_base.specs.declared.limits.TheConstants.{INPUT_LIMIT, LINE_LIMIT}
 
 -- the old bytes and the given ones are those that were discarded, without LF, and those that are held;
 -- the first of these were searched, without finding an LF; and so many may still come within the limit
-pub record Seeking (gave : List ℕ → Type 0) (old held : List ℕ) (before room passed searched : ℕ) : Type 0 where
-  pub given : List ℕ
-  pub front : List ℕ
-  pub lead : gave given
-  pub input : old ++ given ≡ front ++ held
-  pub room_is : before + length (old ++ given) + room ≡ INPUT_LIMIT
-  pub passed_is : length front ≡ passed
-  pub far : (passed ≡ 0) ⊎ (LINE_LIMIT + 1 < passed)
-  pub none_passed : HasNoFeed front
-  pub none_searched : (k : ℕ) → k < searched → slice_index held k ≢ 10
-  pub searched_within : searched ≤ length held
+pub record Seeking (gave : List ℕ → Type 0) (old held : List ℕ) (before room passed searched : ℕ) : Type 0
+  where
+    pub given : List ℕ
+    pub front : List ℕ
+    pub lead : gave given
+    pub input : old ++ given ≡ front ++ held
+    pub room_is : before + length (old ++ given) + room ≡ INPUT_LIMIT
+    pub passed_is : length front ≡ passed
+    pub far : (passed ≡ 0) ⊎ (LINE_LIMIT + 1 < passed)
+    pub none_passed : HasNoFeed front
+    pub none_searched : (k : ℕ) → k < searched → slice_index held k ≢ 10
+    pub searched_within : searched ≤ length held
 
 -- what ended the search: the given bytes go past the limit, with no LF within it, or no LF came before a read that
 -- failed; and what was counted of the source

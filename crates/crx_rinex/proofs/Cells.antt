@@ -113,8 +113,14 @@ more_empty values flags k empty =
       pairs = grind (arith, common_steps, length-set);
       within = omega (arith, within, long);
       missing = rw (long, count, drop-set values k None within, empty.missing) refl;
-      blank = rw (long, twice, one, drop_pair flags (2 * k) (omega (arith, within, pairs)), place,
-          empty.blank) refl;
+      blank = rw (
+        long,
+        twice,
+        one,
+        drop_pair flags (2 * k) (omega (arith, within, pairs)),
+        place,
+        empty.blank,
+      ) refl;
     }
   where
     drop_pair : (fs : List ℕ) (i : ℕ) → suc i < length fs
@@ -218,7 +224,8 @@ cut_columns line bytes start left is room cut rest =
 
 -- where the line ends after a field, these are the field and two blanks
 pub field_columns : (xs : List ℕ) → length xs ≡ 16
-    → pick_l 0 (xs ++ replicate 16 32) (0 ∷ 1 ∷ 2 ∷ 3 ∷ 4 ∷ 5 ∷ 6 ∷ 7 ∷ 8 ∷ 9 ∷ 10 ∷ 11 ∷ 12 ∷ 13 ∷ 16 ∷ 16 ∷ [])
+    → pick_l 0 (xs ++ replicate 16 32) (0 ∷ 1 ∷ 2 ∷ 3 ∷ 4 ∷ 5 ∷ 6 ∷ 7 ∷ 8 ∷ 9 ∷ 10 ∷ 11 ∷ 12 ∷ 13 ∷ 16 ∷ 16 ∷
+    [])
     ≡ sel_l (map (λ j. top 7 (cond (nat_lt j 14) 255 0)) (range_with_len 0 16)) xs (replicate 16 32)
 field_columns xs long = let whole = sixteen xs long in rw whole refl
 

@@ -26,8 +26,14 @@ inside_prints line k within =
     let place : 16 * k + 1 + 2 ≡ 16 * k + 3 = omega arith in
     let width : 16 * k + 1 + 16 - (16 * k + 1) ≡ 16 = omega arith in
     let inside = field_inside line k (omega (arith, within)) in
-    subst Prints (rw (width, take-take 16 16 (drop (16 * k + 1) line) (omega arith),
-    drop-take 2 14 (drop (16 * k + 1) line), drop-drop 2 (16 * k + 1) line, place, inside) refl)
+    subst Prints (rw (
+      width,
+      take-take 16 16 (drop (16 * k + 1) line) (omega arith),
+      drop-take 2 14 (drop (16 * k + 1) line),
+      drop-drop 2 (16 * k + 1) line,
+      place,
+      inside,
+    ) refl)
 
 -- so are those before it
 pub next_prints : (line : List ℕ) (k : ℕ) → ((j : ℕ) → j < k → Prints (field line j)) → Prints (field line k)

@@ -68,8 +68,13 @@ number_within : (width decimals : ℕ) (text : List ℕ) (o : Option ℤ)
 unfolding number_of
 number_within width decimals text o h =
     let parts = tested _ _ o h in
-    grind (arith, eqb-true _ width parts.0, first_blanks_shorter text, within_more,
-    missing_within _ _ o parts.1)
+    grind (
+      arith,
+      eqb-true _ width parts.0,
+      first_blanks_shorter text,
+      within_more,
+      missing_within _ _ o parts.1,
+    )
 
 pub value_fits : (text : List ℕ) (value : Option ℤ) → observation_of text ≡ Some value → IsValue value
 value_fits text value h = number_within _ _ text value h

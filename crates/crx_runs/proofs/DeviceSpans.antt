@@ -29,7 +29,12 @@ span-joins = search
 -- a stretch in which nothing happens, before a device
 abbrev idle : Device → Device
 idle device =
-    record { took = λ text. text ≡ []; flushed = device.flushed; before = device.before; after = device.before }
+    record {
+      took = λ text. text ≡ [];
+      flushed = device.flushed;
+      before = device.before;
+      after = device.before;
+    }
 
 pub joins-idle : {device : Device} → Joins (idle device) device device
 joins-idle {device = device} = record {

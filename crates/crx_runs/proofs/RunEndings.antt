@@ -74,22 +74,24 @@ module _ (filter : Filter) (lawful : IsLawful filter) (input : Input)
         writer2 messages2 last warned (Some halt) status fault → Stood given status fault
     turn-stood (halt.Fault at) warned status fault memory found (inl ran) finished =
         let wrote = written before.output ran.wrote finished.0 in (
-          stands-after given at finished.3 finished.2 (subst (λ f. Stands filter input given writer messages at f)
+          stands-after given at finished.3 finished.2 (subst (λ f. Stands filter input given writer messages
+              at f)
               (sym ran.fault) (inr (memory at ran.notices ran.allowed ran.place ran.next wrote
               (reported _ at ran.reported finished.1)))),
           front-before wrote.0,
         )
     turn-stood (halt.Fault at) warned status fault memory found (inr r) finished =
         let wrote = written after.output r.wrote finished.0 in (
-          stands-after given at finished.3 finished.2 (found-stands at.fault at (found at r.ends.fault) (record {
-            before = before;
-            after = after;
-            last = last;
-            turn = turn;
-            fault = r.ends.fault;
-            wrote = wrote;
-            reported = reported after.warnings at r.reported finished.1;
-          })),
+          stands-after given at finished.3 finished.2 (found-stands at.fault at (found at r.ends.fault)
+              (record {
+                before = before;
+                after = after;
+                last = last;
+                turn = turn;
+                fault = r.ends.fault;
+                wrote = wrote;
+                reported = reported after.warnings at r.reported finished.1;
+              })),
           front-after _ (begins-itself after.output) wrote.0,
         )
     turn-stood halt.Unwritten warned status fault memory found r finished =
@@ -111,8 +113,10 @@ module _ (filter : Filter) (lawful : IsLawful filter) (input : Input)
             after = after;
             turn = turn;
             wrote = wrote;
-            reported = part-still m _ _ (part-more _ (notices_text (before.warnings ++ r.notices)) (notices_text
-                r.next.0) _ (ap notices_text r.next.1 ∙ notices-append (before.warnings ++ r.notices) r.next.0)
+            reported = part-still m _ _ (part-more _ (notices_text (before.warnings ++ r.notices))
+                (notices_text
+                r.next.0) _ (ap notices_text r.next.1 ∙ notices-append (before.warnings ++ r.notices)
+                r.next.0)
                 r.reported) finished.1;
           }))),
           front-before wrote.0,
@@ -139,7 +143,8 @@ module _ (filter : Filter) (lawful : IsLawful filter) (input : Input)
         turn-stood h.given _ _ last turn _ _ stop warned status fault (grind arith)
         (λ at bad. lawful.found next at bad) ends.ends finished
 
-    pub end-stands : (s : StoppedByEnd filter input writer1 messages1 now last stop) → Stood s.read.given status fault
+    pub end-stands : (s : StoppedByEnd filter input writer1 messages1 now last stop) → Stood s.read.given
+        status fault
     end-stands s =
         let all = all-read s.read s.ended in
         let turn : IsTurn filter input s.read.given (filter.so_far s.lines) (filter.whole s.lines) last =
@@ -179,7 +184,12 @@ module _ (filter : Filter) (lawful : IsLawful filter) (input : Input)
             counted = grind arith;
             reported = reported _ (write_failed_at last) s.reported done.1;
           })))),
-          record { written = _; wrote = wrote; first = first-taken lawful input h.given lines _ taken (begins-itself _) },
+          record {
+            written = _;
+            wrote = wrote;
+            first = first-taken lawful input h.given lines _ taken
+                (begins-itself _);
+          },
         )
 
     pub start-stands : (s : StoppedAtStart input writer1 messages1 last stop) → Stood [] status fault

@@ -1,5 +1,6 @@
 -- What becomes of one line of the input.
-use Rattle.std.specs.Prelude.{◌≡◌, ◌⊎◌, ◌≤◌, ℕ, ◌+◌, ⊤, Bool, true, List, [], ◌∷◌, length, Option, None, Result, Ok, Err, IfErr, IfOk, OnOk}
+use Rattle.std.specs.Prelude.{◌≡◌, ◌⊎◌, ◌≤◌, ℕ, ◌+◌, ⊤, Bool, true, List, [], ◌∷◌, length, Option, None}
+use Rattle.std.specs.Prelude.{Result, Ok, Err, IfErr, IfOk, OnOk}
 use Rattle.crx_base.specs.meaning.Lines.{InputLine, lines_text}
 use Rattle.crx_base.specs.declared.fault.At.{At}
 use Rattle.crx_base.specs.declared.limits.TheConstants.{INPUT_LIMIT, LINE_LIMIT}
@@ -85,7 +86,8 @@ pub record IsDone (before after : Course) (shown : Type 0) (writer messages : De
   pub flag : warned ≡ are_some notices
 
 -- what comes next of the input was taken; or it ended the run: memory may have run out at the line of this number
-abbrev pub Becomes : Option (List At) → ℕ → Course → Course → Type 0 → Device → Device → Result Bool Halt → Type 0
+abbrev pub Becomes : Option (List At) → ℕ → Course → Course → Type 0 → Device → Device → Result Bool Halt →
+    Type 0
 Becomes memory number before after shown writer messages (Ok warned) =
     IsDone before after shown writer messages warned
 Becomes memory number before after shown writer messages (Err halt) =
@@ -98,7 +100,8 @@ pub record LineIsTaken {E : Type 0} (engine : EngineGhosts E) (its : Filter) (no
   pub filter : engine.filter now ≡ its
   pub drained : OnOk result (engine.ready now ≡ [])
   pub becomes : (lines : List InputLine) (line : InputLine) → comes lines line → can_be line
-      → Becomes (its.memory_after lines line) (length lines + 1) (its.so_far lines) (its.so_far (with_next lines line))
+      → Becomes (its.memory_after lines line) (length lines + 1) (its.so_far lines)
+      (its.so_far (with_next lines line))
       (engine.shows now (with_next lines line) []) writer messages result
 
 -- an engine took the end of the input, after whichever lines

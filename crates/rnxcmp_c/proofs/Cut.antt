@@ -54,7 +54,8 @@ module _ (before after : Course) (output then_output kept then_kept : Pending) w
   halted-stops = grind (arith, common_steps, cut-stops)
 
   module _ (shown : Type 0) where
-    pub line-kept : (memory : Option (List At)) (number : ℕ) (result : Result Bool Halt) → Becomes memory number
+    pub line-kept : (memory : Option (List At)) (number : ℕ) (result : Result Bool Halt) → Becomes memory
+        number
         before after shown (kept-by output then_output) (kept-by kept then_kept) result
         → IfOk result (IsKept before after shown output then_output kept then_kept)
         × IfErr result (StopsBy number memory before after output then_output kept then_kept)

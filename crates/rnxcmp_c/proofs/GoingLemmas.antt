@@ -285,7 +285,8 @@ module _ {run : TaskRun} {ready : List (List ℕ)} {shows : List InputLine → L
             → (more : List ℕ) → F (fed ++ (ended ++ more)) ≡ with_next lines line ++ F more
         first-by F so_far first more = grind (arith, common_steps, append_assoc)
 
-        line-first : (more : List ℕ) → lines_of (fed ++ (ended ++ more)) ≡ with_next lines line ++ lines_of more
+        line-first : (more : List ℕ) → lines_of (fed ++ (ended ++ more)) ≡ with_next lines line ++ lines_of
+            more
         line-first = first-by lines_of is.cut (λ more. lines-first bytes_all more whole)
 
         ended-first : (more : List ℕ)
@@ -295,7 +296,8 @@ module _ {run : TaskRun} {ready : List (List ℕ)} {shows : List InputLine → L
         one-more : ended_lines_of (fed ++ ended) ≡ with_next lines line
         one-more = rw (append-nil ended, append-nil (with_next lines line)) at (ended-first [])
 
-        pub goes-on : {pending : List (List ℕ)} → pending ≡ [] → (then : List InputLine → List Awaited → Type 0)
+        pub goes-on : {pending : List (List ℕ)} → pending ≡ [] →
+            (then : List InputLine → List Awaited → Type 0)
             (new : HandleState)
             → MovesWithin (run.filter.so_far lines) (run.filter.so_far (with_next lines line))
             (then (with_next lines line) []) mid new → new.number ≡ mid.number + 1 → new.tail.bytes.items ≡ []

@@ -50,7 +50,8 @@ pub ended-by_none : (task : Task) (old new : Reader) (fed : List ℕ) (taken : B
 ended-by_none = grind arith
 
 -- bytes were fed, or there are some and an input may have none of them
-pub either-fed : {task : Task} {old new : Reader} {fed : List ℕ} {taken : BothTexts} {bytes : List ℕ} {used : ℕ}
+pub either-fed : {task : Task} {old new : Reader} {fed : List ℕ} {taken : BothTexts} {bytes : List ℕ}
+    {used : ℕ}
     {answer : Answer} → FeedsBytes task old new fed taken bytes used answer
     → HasFed fed task new (fed ++ take used bytes) taken
     ⊎ ((0 < length (drop used bytes)) × (fed ++ take used bytes ≡ fed)

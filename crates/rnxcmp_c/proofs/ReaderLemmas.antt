@@ -64,7 +64,7 @@ module _ {mid held : HandleState} {taken : BothTexts} {outcome : Outcome} where
         fails.fault,
       )))
       (λ early. let same = same-failures mid held outcome stop put in
-          inr (early-weaker (λ n at. at) same.0 same.1 early))
+      inr (early-weaker (λ n at. at) same.0 same.1 early))
       is)
 
   -- a byte more than an input may have ended it

@@ -198,15 +198,16 @@ pub record IsText (course : Course) (held : HandleState) (taken : BothTexts) : T
   pub reported : notices_text course.warnings ≡ taken.messages ++ waiting held.messages
 
 -- some lines were taken, and no fault ended the run: what they make was taken by the caller or is kept
-pub record AreTaken (run : TaskRun) (held : HandleState) (taken : BothTexts) (lines : List InputLine) : Type 0 where
-  pub lawful : IsLawful run.filter
-  pub good : (run.filter.so_far lines).fault ≡ None
-  pub text : IsText (run.filter.so_far lines) held taken
-  pub flag : held.warned ≡ are_some (run.filter.so_far lines).warnings
-  pub number : held.number ≡ length lines
-  pub limit : held.limit ≡ run.limit
-  pub left : 0 < run.limit → held.left + length (run.filter.so_far lines).output ≡ run.limit
-  pub unfailed : AreUnfailed held
+pub record AreTaken (run : TaskRun) (held : HandleState) (taken : BothTexts) (lines : List InputLine) : Type 0
+  where
+    pub lawful : IsLawful run.filter
+    pub good : (run.filter.so_far lines).fault ≡ None
+    pub text : IsText (run.filter.so_far lines) held taken
+    pub flag : held.warned ≡ are_some (run.filter.so_far lines).warnings
+    pub number : held.number ≡ length lines
+    pub limit : held.limit ≡ run.limit
+    pub left : 0 < run.limit → held.left + length (run.filter.so_far lines).output ≡ run.limit
+    pub unfailed : AreUnfailed held
 
 -- the lines whose LF was fed were taken, none is pending, and the bytes after them are kept, as far as a line may be long
 pub record IsGoing (run : TaskRun) (ready : List (List ℕ)) (shows : List InputLine → List Awaited → Type 0)
@@ -281,7 +282,8 @@ IsLastLine fed line = line ≡ length (lines_of fed)
 
 -- of some bytes so many were taken, the last of them since little enough was ready, and the run goes on; or they ended
 -- it, whatever follows
-abbrev pub GoesOnOrStops : Result ℕ Stop → TaskRun → (List ℕ → Type 0) → HandleState → List ℕ → BothTexts → List ℕ
+abbrev pub GoesOnOrStops : Result ℕ Stop → TaskRun → (List ℕ → Type 0) → HandleState → List ℕ → BothTexts →
+    List ℕ
     → Type 0
 GoesOnOrStops result run goes_on held fed taken bytes =
     IfOk result (λ n. goes_on (fed ++ take n bytes) × (0 < n → StopsSoon run fed taken bytes n))
@@ -335,5 +337,6 @@ module _ {E : Type 0} (e : Ghosts E) where
   abbrev pub WasFed : E → E → HandleState → HandleState → List ℕ → Result ℕ Stop → Type 0
   WasFed before after old new bytes result = (run : TaskRun) (fed : List ℕ) (taken : BothTexts)
       → IsRunning run before old fed taken
-      → GoesOnOrStops result run (λ fed. IsGoing run (e.ready after) (e.shows after) new fed taken) new fed taken
+      → GoesOnOrStops result run (λ fed. IsGoing run (e.ready after) (e.shows after) new fed taken) new fed
+      taken
       bytes

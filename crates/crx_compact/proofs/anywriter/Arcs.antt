@@ -1,6 +1,7 @@
 -- An arc, whoever wrote it: its code gives its newest value, and leaves its tail.
 use Rattle.crx_compact.proofs.Words.{◌≡◌, refl, ℕ, ℤ, List, [], ◌∷◌, Option, Some, None, Ok, ap, sym, ◌∙◌, length, min}
-use Rattle.crx_compact.proofs.Words.{inl, inr, difference, value_of_code, arc_of_code, differences_of, values_of}
+use Rattle.crx_compact.proofs.Words.{inl, inr, difference, value_of_code, arc_of_code, differences_of}
+use Rattle.crx_compact.proofs.Words.{values_of}
 use Rattle.crx_compact.proofs.Words.{IsWithin, IsMissingOrWithin, ArcTail, in_range, arith, common_steps}
 use Rattle.crx_compact.proofs.arcs.Inversion.{numbers_of, value-numbers}
 use Rattle.crx_compact.proofs.arcs.Stepping.{values-by_tail, first-differences}

@@ -118,7 +118,8 @@ only-epoch types before raws lines read count left whole e =
     let base = base_for before h.line in
     let found = (given-base before tail h.line (past_of_tail (epoch_left base)) left h.given_is).1 in
     let few = all-from (IsFew base) (λ s k. few-here types base.rows s (row_before base s)
-    (base-typed types before (begins_epoch h.line) base whole found) refl k) h.satellites h.line_ok.named.known in
+    (base-typed types before (begins_epoch h.line) base whole found) refl k) h.satellites
+    h.line_ok.named.known in
     let rows = rows-back base h.satellites h.own h.rows few h.rows_ok in
     let arc = arc-back CLOCK_WIDTH base.clock h.clock.code h.clock.value h.clock_ok.meant in
     let text = patched (without_end_blanks (epoch_text (epoch_now base))) h.line in

@@ -138,8 +138,16 @@ row-back before satellite line read few h =
         marks = m;
         spelled = back.spelled;
         written = line-back n line;
-        marked = grind (arith, columns-all, found, trimmed-again, at-without_end_blanks, at-by_position,
-            at_past, blank-after);
+        marked = grind (
+          arith,
+          columns-all,
+          found,
+          trimmed-again,
+          at-without_end_blanks,
+          at-by_position,
+          at_past,
+          blank-after,
+        );
         no_more = grind (arith, many);
         follows = back.follows;
       };

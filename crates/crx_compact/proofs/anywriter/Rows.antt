@@ -125,8 +125,17 @@ module _ (before : WrittenEpoch) (now : WrittenRow) (line : List ℕ) (sound : I
   cell-held j = grind (arith, tail-found, cell-found, named)
 
   flags-made : patched (flags_of_tail tail) marks ≡ without_end_blanks now.flags
-  flags-made = grind (arith, named, tail-found, flags-found, patched-trimmed, same_characters, at-by_position,
-      at-same, marks-same)
+  flags-made = grind (
+    arith,
+    named,
+    tail-found,
+    flags-found,
+    patched-trimmed,
+    same_characters,
+    at-by_position,
+    at-same,
+    marks-same,
+  )
 
   goes-at : (j : ℕ) → Goes OBSERVATION_WIDTH (arc_in found j) (arc_at now.arcs j)
   goes-at j = goes OBSERVATION_WIDTH (arc_in found j) (arc_at now.arcs j) (h.follows j)

@@ -16,7 +16,8 @@ use Rattle.crx_compact.specs.Entries.{IsAt, IsOrder, entry_at, in_order, rooms_o
 use Rattle.indexmap.proofs.CallerLemmas.{keys-with_value_at}
 use Rattle.indexmap.specs.{IndexMap.{IndexMap, IsUnique, set_value_at}, Layout.length-set_value_at}
 use Rattle.crx_compact.specs.Entries.{Entry, IsPutNext, key_of, placed_rows}
-use Rattle.crx_compact.specs.Placing.{AnswersPlacing, HasAskedRoom, HasCome, IsPlaced, SatelliteTail, room_of_entry}
+use Rattle.crx_compact.specs.Placing.{AnswersPlacing, HasAskedRoom, HasCome, IsPlaced, SatelliteTail}
+use Rattle.crx_compact.specs.Placing.{room_of_entry}
 
 -- it isn't known
 pub placed-unknown : {name : List ℕ} {count : ℕ} (placed live : ℕ) (os es : List Entry) → is_among key_of name os
@@ -95,7 +96,8 @@ module _ {S : Type 0} (m : IndexMap (List ℕ) SatelliteTail S) (unique : IsUniq
         let long = length-set_value_at m.entries index after in
         let below : place < length (in_order order m.entries) =
         omega (arith, stands, is.counted, length-map order (entry_at m.entries)) in
-        come roomy (shown-same room_of_entry m.entries index name at.satellite after at.there (cc empty)) (come-anew name
+        come roomy (shown-same room_of_entry m.entries index name at.satellite after at.there (cc empty))
+        (come-anew name
         placed live place (in_order order m.entries) m.entries es here apart (in_order moved es)
         (in_order next es) few beyond (ap (λ o. slice_get o live) moved-is ∙ revived-there live place _ blank beyond below
         ∙ ap (λ (s : SatelliteTail). Some (name, s)) empty)

@@ -43,7 +43,17 @@ module _ (order places longer : List ℕ) (es new : List Entry) (is : IsOrder or
       → map row_of_entry (take count (in_order longer new)) ≡ map row_of_entry (take count (in_order order es))
   front-same count within =
       let front_is = rows-front es new front (take count order) in
-      grind (arith, common_steps, take-take, row_of_entry, take-map, entry_at, front_is, length-take-le, get_or-take)
+      grind (
+        arith,
+        common_steps,
+        take-take,
+        row_of_entry,
+        take-map,
+        entry_at,
+        front_is,
+        length-take-le,
+        get_or-take,
+      )
 
   pub range-same : (placed live : ℕ) → live ≤ length es
       → map row_of_entry (drop placed (take live (in_order longer new)))

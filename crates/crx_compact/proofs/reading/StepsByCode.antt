@@ -2,7 +2,8 @@
 use Rattle.crx_compact.proofs.Words.{◌≡◌, ◌≤◌, ◌<◌, ℕ, ◌+◌, Some, None, Err, ◌∙◌, Tail, refl, ap}
 use Rattle.crx_compact.proofs.Words.{◌==◌, false, true, List, length, arith, Fault, Epoch, Reading, RowTail}
 use Rattle.crx_compact.proofs.Words.{rules, Content, row_held, HasMade, RawStep, with_rows, IsRowRead}
-use Rattle.crx_compact.proofs.Words.{satellite_of, slice_get, next_step, whole_epoch, OpenHistory, shown_epoch}
+use Rattle.crx_compact.proofs.Words.{satellite_of, slice_get, next_step, whole_epoch, OpenHistory}
+use Rattle.crx_compact.proofs.Words.{shown_epoch}
 use Rattle.crx_compact.proofs.Words.{lines_to, take_all, HasPrintedLines, step_with_rows, tail_of_history}
 use Rattle.crx_compact.proofs.{RowByRow.is-there}
 use Rattle.std.proofs.lemmas.Option.{slice_get_past}

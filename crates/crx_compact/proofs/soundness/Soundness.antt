@@ -96,7 +96,8 @@ line-facts past satellite line read e =
     let marks = after_cells satellite.count line in
     let step = and_then-ok (cells_read (past.value satellite.name) texts)
     (λ cs. if not (are_marks satellite.count marks) then Err BadFlags
-    else Ok (row_of_cells past satellite.name marks cs)) read (if-err (begins_epoch line) Truncated _ read e) in
+    else Ok (row_of_cells past satellite.name marks cs)) read (if-err (begins_epoch line) Truncated _ read e)
+    in
     let row = row_of_cells past satellite.name marks step.from in
     record {
       cells = step.from;

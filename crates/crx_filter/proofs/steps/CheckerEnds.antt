@@ -15,7 +15,8 @@ end-fault : (reader : RinexReader) (number : ℕ) (totals : Held) (named : Optio
     → is_reading (reader_phase reader) ≡ true
     → checker_state_with reader number totals named ≡ check_state lines
     → (whole_reading_of lines).fault ≡ failed_by (end_step checking []
-    (checker_state_with reader number totals named).reading (fault_at_end_in (bare_phase reader.stage))).answer
+    (checker_state_with reader number totals named).reading (fault_at_end_in
+    (bare_phase reader.stage))).answer
 end-fault reader number totals named lines reads same = grind (arith, common_steps, check-ended)
 
 -- what is held at a good end is what there is to find

@@ -1,7 +1,8 @@
 -- What a compaction makes of a line: a fault, another stage, a line that is copied, or an epoch.
 use Rattle.crx_filter.proofs.Words.{common_steps, arith, ◌≡◌, ℕ, false, true≢false, List, Bool}
 use Rattle.crx_filter.proofs.Words.{ObservationEpoch, OpenEpoch, Observation, Made, Completes, epoch_open}
-use Rattle.crx_filter.proofs.Words.{is_row, is_open_stage, TakesRinexLine, RinexStep, Header, Begun, RinexReader}
+use Rattle.crx_filter.proofs.Words.{is_row, is_open_stage, TakesRinexLine, RinexStep, Header, Begun}
+use Rattle.crx_filter.proofs.Words.{RinexReader}
 use Rattle.crx_compact.specs.Placing.{HaveTypesRoom}
 use Rattle.crx_filter.specs.{DirectionParts.{DirectionParts}, meaning.Memory.satellites_had}
 use Rattle.std.specs.Prelude.{⊤}

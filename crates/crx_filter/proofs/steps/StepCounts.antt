@@ -1,6 +1,7 @@
 -- How many lines have been taken after a step, and where lines are borrowed.
 use Rattle.crx_filter.proofs.Words.{common_steps, arith, ◌≡◌, inl, inr, ℕ, false, List, [], Result, length}
-use Rattle.crx_filter.proofs.Words.{length-append, InputLine, ReadLine, At, Direction, RunState, Made, made_in}
+use Rattle.crx_filter.proofs.Words.{length-append, InputLine, ReadLine, At, Direction, RunState, Made}
+use Rattle.crx_filter.proofs.Words.{made_in}
 use Rattle.crx_filter.proofs.{Words.{Steps, answer_of_step, step_made, step_of_made}, Pending.{quiet-next}}
 use Rattle.crx_filter.specs.{Laws.is_ready, LineByLine.state_end_with}
 use Rattle.crx_runs.specs.Engines.{Awaited, EngineAnswers, taken_after, IsDrainedAfter}

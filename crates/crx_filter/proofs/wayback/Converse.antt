@@ -67,7 +67,8 @@ row-printable row sound =
     search (cells-printable, kept-text, sound-name_kept, trimmed-printable, list_all-append)
 
 -- what holds of each printed row holds of all
-pub rows-all : (P : List ℕ → Type 0) → ((row : Row) → IsSoundRow row → P (printed_row row)) → (rows : List Row)
+pub rows-all : (P : List ℕ → Type 0) → ((row : Row) → IsSoundRow row → P (printed_row row)) →
+    (rows : List Row)
     → All IsSoundRow rows → AllByRecursion P (map printed_row rows)
 rows-all P f [] h = tt
 rows-all P f (row ∷ rows) h =

@@ -16,7 +16,8 @@ returns-in-Ok-open_to_read-clause-done g c =
       | inl begun ↦ inl (
         c.in-Ok.options,
         c.in-Ok.ensures,
-        adds_both first between last (call_to_read job.source) (call_to_write job.target job.force) read begun.0,
+        adds_both first between last (call_to_read job.source) (call_to_write job.target job.force) read
+            begun.0,
         rw named (
           c.in-Ok-open_to_read.opened,
           c.run_to_target-ended.new.reader,

@@ -23,7 +23,8 @@ returns-clause-read c line read is =
     let pair : List ℕ = get_or (cell ++ cell) 14 0 ∷ get_or (cell ++ cell) 15 0 ∷ [] in
     let pairs : pair ≡ flags_at line k = rw (parts.1, parts.2) refl in
     cells_more line c.args.values.now flags _ k _ read c.requires.within
-    (ap observation_of (sym parts.0) ∙ c.if-not-obs_read_cell.ensures.value) c.if-not-obs_read_cell.ensures.in_range
+    (ap observation_of (sym parts.0) ∙ c.if-not-obs_read_cell.ensures.value)
+    c.if-not-obs_read_cell.ensures.in_range
     (length-put_chunk (2 * k) flags pair)
     (take_more_put_chunk (2 * k) flags pair (2 * (k + 1)) (omega arith) (omega
     (arith, c.requires.within, c.requires.paired.0))

@@ -10,7 +10,11 @@ returns-then-not-read_cell-clause-err c = grind (arith, common_steps, cells_none
 pub returns-clause-ok : goal.returns-clause-ok
 returns-clause-ok c =
     let read = c.loop-k.invariant in
-    let values = take_all c.loop-k.k c.loop-k.values (omega (arith, c.loop-k-test.false, c.loop-k.auto.values)) in
+    let values = take_all c.loop-k.k c.loop-k.values (omega (
+      arith,
+      c.loop-k-test.false,
+      c.loop-k.auto.values,
+    )) in
     let flags = take_all (2 * c.loop-k.k) c.loop-k.flags
     (omega (arith, c.loop-k-test.false, c.loop-k.auto.flags, c.requires.0)) in
     record {

@@ -5,7 +5,8 @@ use Rattle.crx_base.specs.Padded.{line_in}
 use Rattle.crx_base.specs.meaning.Lines.{InputLine}
 use Rattle.crx_lines.specs.Reading.{line_shown}
 use Rattle.crx_runs.proofs.{DeviceSpans.{joins-idle, span-joins}}
-use Rattle.crx_runs.proofs.LinesTaken.{again-out, handed-becomes, line-becomes, ready-all, ready-cut, stays-then}
+use Rattle.crx_runs.proofs.LinesTaken.{again-out, handed-becomes, line-becomes, ready-all, ready-cut}
+use Rattle.crx_runs.proofs.LinesTaken.{stays-then}
 use Rattle.crx_runs.proofs.one_line.take_again.{Given.Over, Goals.After-take}
 use Rattle.crx_runs.specs.Engines.{Awaited, EngineAnswers, answer_given, lines_handed_out}
 use Rattle.crx_runs.specs.declared.engine.Step.TheVariants.{Warned}
@@ -53,7 +54,8 @@ returns-in_err-warned-clause-taken g c =
       drained = tt;
       becomes = λ lines line a same. line-becomes joins-idle joins-idle (g.E.Engine.filter c.args.engine.now)
           lines line [] (refl, refl) (refl, refl) (g.E.Engine.shows c.args.engine.now)
-          (g.E.Engine.ready c.args.engine.now) c.in_ok-step.step (rw (is) at c.requires.drained) (rw (is) at a)
+          (g.E.Engine.ready c.args.engine.now) c.in_ok-step.step (rw (is) at c.requires.drained)
+          (rw (is) at a)
           ⊤ (λ shown. tt) (Err _) _ refl tt c.in_err-warned.ensures.settled;
     })
 
@@ -70,7 +72,8 @@ returns-in-Ok-clause-taken g c =
           (awaited g at line) out.0 out.1 (g.E.Engine.shows c.take.new.self) _ c.in-Some.handed_out
           (g.E.Engine.answer c.take.new.self) (rw c.in-Some.is at (second g at lines line a is))
           (rw c.in-Some.is at c.take.ensures.stepped.drained) _ (kept.shows _ []) (Ok false) _ (ap Ok out.2)
-          (ready-all _ _ _ (rw (c.bytes.ensures.content) at c.in-Ok.ensures.all) (g.met.M.Sink.took_none _, refl));
+          (ready-all _ _ _ (rw (c.bytes.ensures.content) at c.in-Ok.ensures.all)
+          (g.met.M.Sink.took_none _, refl));
     }
 
 pub returns-in-Err-clause-taken : goal.returns-in-Err-clause-taken
@@ -86,7 +89,8 @@ returns-in-Err-clause-taken g c =
           (awaited g at line) out.0 out.1 (g.E.Engine.shows c.take.new.self) _ c.in-Some.handed_out
           (g.E.Engine.answer c.take.new.self) (rw c.in-Some.is at (second g at lines line a is))
           (rw c.in-Some.is at c.take.ensures.stepped.drained) ⊤ (λ shown. tt) (Err Unwritten) _ refl
-          (ready-cut _ _ _ (rw (c.bytes.ensures.content) at c.in-Err.ensures.part) (g.met.M.Sink.took_none _, refl));
+          (ready-cut _ _ _ (rw (c.bytes.ensures.content) at c.in-Err.ensures.part)
+          (g.met.M.Sink.took_none _, refl));
     }
 
 pub returns-in_err-carry_out-in-None-clause-taken : goal.returns-in_err-carry_out-in-None-clause-taken
@@ -102,7 +106,8 @@ returns-in_err-carry_out-in-None-clause-taken g c =
       drained = tt;
       becomes = λ lines line a same. line-becomes (span-joins g.W.Sink g.met.W.Sink.took_both)
           (span-joins g.M.Sink g.met.M.Sink.took_both) (g.E.Engine.filter c.args.engine.now) lines line
-          (awaited g at line) out.0 out.1 (g.E.Engine.shows c.take.new.self) (g.E.Engine.ready c.take.new.self)
+          (awaited g at line) out.0 out.1 (g.E.Engine.shows c.take.new.self)
+          (g.E.Engine.ready c.take.new.self)
           c.in_ok-second-in-None.second (rw (c.in-None.is, is) at c.take.ensures.stepped.drained)
           (rw (c.in-None.is, is) at (second g at lines line a same)) ⊤ (λ shown. tt) (Err _) _ refl tt
           c.in_err-carry_out-in-None.ensures.settled;
@@ -118,12 +123,15 @@ returns-in_ok-carry_out-in-None-clause-taken g c =
     record {
       filter = kept.filter ∙ c.take.ensures.stepped.filter ∙ c.carry_out.ensures.kept.filter;
       drained = c.in_ok-carry_out-in-None.ensures.drained;
-      becomes = λ lines line a same. let answered = rw (c.in-None.is, is) at (second g at lines line a same) in
-          line-becomes (span-joins g.W.Sink g.met.W.Sink.took_both) (span-joins g.M.Sink g.met.M.Sink.took_both)
+      becomes = λ lines line a same. let answered = rw (c.in-None.is, is) at (second g at lines line a same)
+          in
+          line-becomes (span-joins g.W.Sink g.met.W.Sink.took_both)
+          (span-joins g.M.Sink g.met.M.Sink.took_both)
           (g.E.Engine.filter c.args.engine.now) lines line (awaited g at line) out.0 out.1
           (g.E.Engine.shows then) (g.E.Engine.ready then) c.in_ok-second-in-None.second
           (rw (c.in-None.is, is) at c.take.ensures.stepped.drained) answered _ (kept.shows _ []) (Ok _) _
           (ap Ok out.2) (stays-then (g.E.Engine.filter c.args.engine.now) (g.E.Engine.shows then)
-          (g.E.Engine.ready then) lines (record { notice = c.in-Warned-default-true.notice; line = line }) line
+          (g.E.Engine.ready then) lines (record { notice = c.in-Warned-default-true.notice; line = line })
+          line
           c.in_ok-second-in-None.second answered) c.in_ok-carry_out-in-None.ensures.settled;
     }

@@ -7,7 +7,8 @@ pub returns-clause-taken : goal.returns-clause-taken
 returns-clause-taken g c =
     let kept = c.carry_out.ensures.kept in
     let comes = λ (lines : List InputLine) (shown : g.E.Engine.shows c.args.engine.now lines []).
-    end-becomes (g.E.Engine.filter c.args.engine.now) (g.E.Engine.ready c.end.new.self) lines c.in_ok-step.step
+    end-becomes (g.E.Engine.filter c.args.engine.now) (g.E.Engine.ready c.end.new.self) lines
+    c.in_ok-step.step
     (g.E.Engine.has_ended c.carry_out.new.engine lines)
     (kept.ended lines (rw c.in_ok-step.was at (c.end.ensures.ended lines shown))) _ _ c.carry_out.result
     (rw c.in_ok-step.was at c.end.ensures.stepped.drained)

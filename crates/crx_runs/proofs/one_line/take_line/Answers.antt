@@ -24,12 +24,14 @@ returns-in-Ok-clause-taken g c =
     record {
       filter = kept.filter ∙ c.take.ensures.stepped.filter;
       drained = c.in-Ok.ensures.drained;
-      becomes = λ lines line shown is. handed-becomes joins-idle joins-idle (g.E.Engine.filter c.args.engine.now)
+      becomes = λ lines line shown is. handed-becomes joins-idle joins-idle
+          (g.E.Engine.filter c.args.engine.now)
           lines line [] (refl, refl) (refl, refl)
           (g.E.Engine.shows c.take.new.self) _ c.in-Some.handed_out (g.E.Engine.answer c.take.new.self)
           (rw c.in-Some.is at (answered g at lines line shown is))
           (rw c.in-Some.is at c.take.ensures.stepped.drained) _ (kept.shows _ []) (Ok false) _ refl
-          (ready-all _ _ _ (rw (c.bytes.ensures.content) at c.in-Ok.ensures.all) (g.met.M.Sink.took_none _, refl));
+          (ready-all _ _ _ (rw (c.bytes.ensures.content) at c.in-Ok.ensures.all)
+          (g.met.M.Sink.took_none _, refl));
     }
 
 pub returns-in-Err-clause-taken : goal.returns-in-Err-clause-taken
@@ -39,12 +41,14 @@ returns-in-Err-clause-taken g c =
     record {
       filter = kept.filter ∙ c.take.ensures.stepped.filter;
       drained = tt;
-      becomes = λ lines line shown is. handed-becomes joins-idle joins-idle (g.E.Engine.filter c.args.engine.now)
+      becomes = λ lines line shown is. handed-becomes joins-idle joins-idle
+          (g.E.Engine.filter c.args.engine.now)
           lines line [] (refl, refl) (refl, refl)
           (g.E.Engine.shows c.take.new.self) _ c.in-Some.handed_out (g.E.Engine.answer c.take.new.self)
           (rw c.in-Some.is at (answered g at lines line shown is))
           (rw c.in-Some.is at c.take.ensures.stepped.drained) ⊤ (λ shown. tt) (Err Unwritten) _ refl
-          (ready-cut _ _ _ (rw (c.bytes.ensures.content) at c.in-Err.ensures.part) (g.met.M.Sink.took_none _, refl));
+          (ready-cut _ _ _ (rw (c.bytes.ensures.content) at c.in-Err.ensures.part)
+          (g.met.M.Sink.took_none _, refl));
     }
 
 shown-is : (shown : InputLine) (content : List ℕ) (plain : Bool) → content ≡ shown.content → plain ≡

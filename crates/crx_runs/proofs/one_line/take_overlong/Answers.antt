@@ -10,7 +10,8 @@ returns-in_err-step-clause-taken g c =
     rw (p.1, p.2) (record {
       filter = c.overlong.ensures.stepped.filter;
       drained = tt;
-      becomes = λ lines line shown long. line-refused joins-idle joins-idle (g.E.Engine.filter c.args.engine.now)
+      becomes = λ lines line shown long. line-refused joins-idle joins-idle
+          (g.E.Engine.filter c.args.engine.now)
           lines line [] (refl, refl) (refl, refl)
           (g.E.Engine.shows then) (g.E.Engine.ready then) _
           (rw c.in_err-step.was at (c.overlong.ensures.answers lines [] line shown tt long)) (inl refl)
@@ -24,7 +25,8 @@ returns-clause-taken g c =
     record {
       filter = kept.filter ∙ c.overlong.ensures.stepped.filter;
       drained = c.carry_out.ensures.drained;
-      becomes = λ lines line shown long. line-becomes joins-idle joins-idle (g.E.Engine.filter c.args.engine.now)
+      becomes = λ lines line shown long. line-becomes joins-idle joins-idle
+          (g.E.Engine.filter c.args.engine.now)
           lines line [] (refl, refl) (refl, refl)
           (g.E.Engine.shows then) (g.E.Engine.ready then) c.in_ok-step.step
           (rw c.in_ok-step.was at c.overlong.ensures.stepped.drained)

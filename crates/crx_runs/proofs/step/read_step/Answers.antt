@@ -27,7 +27,8 @@ asked = grind arith
 pub returns-in_ok-take_line-in-Ok-Some-clause-goes : goal.returns-in_ok-take_line-in-Ok-Some-clause-goes
 returns-in_ok-take_line-in-Ok-Some-clause-goes g c = λ r0 w0 m0 lines shown running.
     let at = (goal.at.returns-in_ok-take_line-in-Ok-Some-clause-goes g c).After-next_line in
-    goes-by (g.E.Engine.filter c.args.engine.now) (span-joins g.W.Sink g.met.W.Sink.took_both) (span-joins g.M.Sink g.met.M.Sink.took_both)
+    goes-by (g.E.Engine.filter c.args.engine.now) (span-joins g.W.Sink g.met.W.Sink.took_both)
+    (span-joins g.M.Sink g.met.M.Sink.took_both)
     running (line-read (asked g at) (g.met.R.Source.gave_both r0 _ _) running.read _
     (c.in-Ok-Some.is ∙ ap Ok c.in-Ok-Some.field-0-is)) _ (Ok _)
     (c.in_ok-take_line-in-Ok-Some.ensures.taken.becomes lines _ shown refl)
@@ -68,8 +69,10 @@ returns-in_ok-take_overlong-in-LineTooLong-clause-goes g c = λ r0 w0 m0 lines s
     let at = (goal.at.returns-in_ok-take_overlong-in-LineTooLong-clause-goes g c).After-next_line in
     let over = overlong-read (asked g at) (g.met.R.Source.gave_both r0 _ c.next_line.new.reader) running.read
     c.in-Err.at c.in-Err.is c.in-LineTooLong.is in
-    goes-by (g.E.Engine.filter c.args.engine.now) (span-joins g.W.Sink g.met.W.Sink.took_both) (span-joins g.M.Sink g.met.M.Sink.took_both)
-    running over.2 _ (Ok _) (c.in_ok-take_overlong-in-LineTooLong.ensures.taken.becomes lines over.0 shown over.1)
+    goes-by (g.E.Engine.filter c.args.engine.now) (span-joins g.W.Sink g.met.W.Sink.took_both)
+    (span-joins g.M.Sink g.met.M.Sink.took_both)
+    running over.2 _ (Ok _) (c.in_ok-take_overlong-in-LineTooLong.ensures.taken.becomes lines over.0 shown
+    over.1)
 
 pub returns-in_err-take_overlong-in-LineTooLong-clause-goes :
     goal.returns-in_err-take_overlong-in-LineTooLong-clause-goes

@@ -26,7 +26,8 @@ pub returns-in_ok-take_line-in-Ok-Some-clause-goes : goal.returns-in_ok-take_lin
 returns-in_ok-take_line-in-Ok-Some-clause-goes g c = λ r0 w0 m0 lines shown running.
     let at = (goal.at.returns-in_ok-take_line-in-Ok-Some-clause-goes g c).After-next_held in
     let is = c.in-Ok-Some.is ∙ ap Ok c.in-Ok-Some.field-0-is in
-    goes-by (g.E.Engine.filter c.args.engine.now) (span-joins g.W.Sink g.met.W.Sink.took_both) (span-joins g.M.Sink g.met.M.Sink.took_both) running
+    goes-by (g.E.Engine.filter c.args.engine.now) (span-joins g.W.Sink g.met.W.Sink.took_both)
+    (span-joins g.M.Sink g.met.M.Sink.took_both) running
     (line-read (asked g at (λ none. some-not-none _ (sym is ∙ none))) (g.met.R.Source.gave_both r0 _ _) running.read _
     is) _ (Ok _) (c.in_ok-take_line-in-Ok-Some.ensures.taken.becomes lines _ shown refl)
 
@@ -46,7 +47,8 @@ returns-in_ok-take_overlong-in-Err-clause-goes g c = λ r0 w0 m0 lines shown run
     let long : c.in-Err.at.fault ≡ LineTooLong = (rw c.in-Err.is at c.next_held.follows.holds-at-none).0 in
     let over = overlong-read (asked g at (λ none. err-not-none _ (sym c.in-Err.is ∙ none)))
     (g.met.R.Source.gave_both r0 _ _) running.read c.in-Err.at c.in-Err.is long in
-    goes-by (g.E.Engine.filter c.args.engine.now) (span-joins g.W.Sink g.met.W.Sink.took_both) (span-joins g.M.Sink g.met.M.Sink.took_both) running over.2 _ (Ok _)
+    goes-by (g.E.Engine.filter c.args.engine.now) (span-joins g.W.Sink g.met.W.Sink.took_both)
+    (span-joins g.M.Sink g.met.M.Sink.took_both) running over.2 _ (Ok _)
     (c.in_ok-take_overlong-in-Err.ensures.taken.becomes lines over.0 shown over.1)
 
 pub returns-in_err-take_overlong-in-Err-clause-goes : goal.returns-in_err-take_overlong-in-Err-clause-goes

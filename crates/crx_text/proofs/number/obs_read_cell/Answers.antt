@@ -17,6 +17,7 @@ pub returns-then-is_plain-clause-value : goal.returns-then-is_plain-clause-value
 returns-then-is_plain-clause-value c =
     let cell = c.args.cell in
     let are : cell ≡ take 14 cell ++ drop 14 cell = sym (take-append-drop 14 cell) in
-    let number = plain_number (take 14 cell) (drop 14 cell) (length-take-le 14 cell (omega (arith, c.fits-cell.0)))
+    let number = plain_number (take 14 cell) (drop 14 cell) (length-take-le 14 cell
+    (omega (arith, c.fits-cell.0)))
     (subst IsPlain are (c.is_plain.ensures c.if-is_plain.true)) in
     rw ((to_z-of_z w64 c.value.result (search rules)), c.value.ensures.value ∙ ap number_in are) number

@@ -12,13 +12,16 @@ use Rattle.rnxcmp_c.proofs.exports.rnxcmp_c_expand.Goals as goal
 -- the call answered this result, and put its texts into the caller's rooms
 abbrev Has : After-answer_of → FilterResult → Type 0
 Has c whole = AnswersWithin c.args.max_output whole c.answer_of.result
-    (rooms c.args.output.now c.args.messages.now) (rooms c.answer_of.new.output_room c.answer_of.new.messages_room)
+    (rooms c.args.output.now c.args.messages.now) (rooms c.answer_of.new.output_room
+    c.answer_of.new.messages_room)
 
-promised : (c : After-answer_of) → length c.args.input.now ≤ INPUT_LIMIT → (HasNoMemory c.answer_of.result → ⊥)
+promised : (c : After-answer_of) → length c.args.input.now ≤ INPUT_LIMIT →
+    (HasNoMemory c.answer_of.result → ⊥)
     → KeepsPromises (Has c) c.in-Ok.options c.args.input.now
 promised c within memory =
     let run = c.expand-outcome.ensures.runs in
-    keeps-promises (Has c) _ _ (answers-within (Expand c.in-Ok.options 0) run.2 (sym c.new-reader.ensures ∙ run.1)
+    keeps-promises (Has c) _ _ (answers-within (Expand c.in-Ok.options 0) run.2
+    (sym c.new-reader.ensures ∙ run.1)
     within (rooms _ _) (rooms _ _) c.new-written.ensures c.new-reported.ensures c.answer_of.ensures memory)
 
 pub answer_of-requires : goal.answer_of-requires

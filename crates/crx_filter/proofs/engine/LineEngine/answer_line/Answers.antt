@@ -9,4 +9,5 @@ returns-in-Err-clause-reads g c =
     rw (← c.self.view_is) (refused-read g.D.Direction _ c.fail.new.self (line_shown c.args.line)
     c.in-Open.ensures.passes (λ lines known. c.fail.ensures.stays _ lines (taken.stays _ lines known))
     c.args.line.short (c.fail.ensures.fails Open refl refl) (sym c.in-Open.ensures.value)
-    c.in-Open.ensures.held (sym (c.begins_epoch.ensures.value ∙ ap begins_epoch c.bytes.ensures.content)) taken.reads)
+    c.in-Open.ensures.held (sym (c.begins_epoch.ensures.value ∙ ap begins_epoch c.bytes.ensures.content))
+    taken.reads)

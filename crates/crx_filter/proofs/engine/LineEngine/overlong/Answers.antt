@@ -20,8 +20,13 @@ returns-in_default g c =
     c.args.number c.stage-stage.result (d.parts c.self.inside.direction) _ _ _
     (c.fail.ensures.fails _ c.may_skip.ensures.value c.is_in_epoch-is_open.ensures.value)
     (c.requires.next.next ∙ ap (λ (e : EngineParts _). e.number + 1) (sym c.self.view_is))
-    c.stage-stage.ensures.value c.stage-stage.ensures.held (grind (arith, common_steps,
-    c.in_default.not-Looking, c.in_default.not-Closed, c.in_default.not-Ended)) in
+    c.stage-stage.ensures.value c.stage-stage.ensures.held (grind (
+      arith,
+      common_steps,
+      c.in_default.not-Looking,
+      c.in_default.not-Closed,
+      c.in_default.not-Ended,
+    )) in
     let stopped = failed.1 in
     let made = ap (λ (ls : List (List ℕ)). step_made then.answer ls (engine_state d then)) stopped.drained ∙ stopped.steps ∙ sym failed.0 in
     rw (ap (λ (e : EngineParts _). e.answer) c.self-in_default.view_is, ← c.self.view_is) (record {
