@@ -1,8 +1,7 @@
 //! The name of the output file, made from that of the input file.
 
-ghost use Rattle.std.specs.Prelude.{◌≡◌, ◌++◌, IfOk, map, option_map};
-ghost use Rattle.crx_command.specs.meaning.Names.{ends_in_year, first_renamed, output_name, without_ending};
-ghost use Rattle.crx_command.specs.Names.{renaming_of};
+ghost use Rattle.std.specs.Prelude.{◌≡◌, IfOk};
+ghost use Rattle.crx_command.specs.meaning.Names.{ends_in_year, output_name};
 
 use crate::job::Tool;
 use crate::word::Word;
@@ -62,13 +61,6 @@ static EXPANDING: [Ending; 4] = [
     },
 ];
 
-/// The name without its ending, where it has that ending.
-fn without_ending<'a>(name: &'a str, ending: &str) -> Option<&'a str>
-    ensures { option_map (λ stem. stem.now) result ≡ without_ending ending.now name.now }
-{
-    name.strip_suffix(ending)
-}
-
 /// Whether the last three bytes are a point and two digits.
 fn ends_in_year(stem: &str) -> bool
     ensures { result ≡ ends_in_year stem.now }
@@ -80,22 +72,6 @@ fn ends_in_year(stem: &str) -> bool
         }
         _ => false,
     }
-}
-
-/// The part of the name that the output's name has too, and the ending that it gets, by the first ending that
-/// it has.
-fn renamed<'a>(endings: &[Ending], name: &'a str) -> Option<(&'a str, &'static str)>
-    ensures { option_map (λ p. p.0.now ++ p.1.now) result
-        ≡ first_renamed (map renaming_of endings.now) name.now }
-{
-    for ending in endings {
-        if let Some(stem) = without_ending(name, ending.old) {
-            if !ending.after_year || ends_in_year(stem) {
-                return Some((stem, ending.new));
-            }
-        }
-    }
-    None
 }
 
 /// The name of the output file: that of the input file with another ending.
@@ -111,8 +87,12 @@ pub fn output_name(alloc: Global, tool: Tool, name: &str) -> Result<Option<Word>
         Tool::Expand => &EXPANDING,
         Tool::Check => &[],
     };
-    match renamed(endings, name) {
-        Some((stem, ending)) => Ok(Some(Word::joined(alloc, stem, ending)?)),
-        None => Ok(None),
+    for ending in endings {
+        if let Some(stem) = name.strip_suffix(ending.old) {
+            if !ending.after_year || ends_in_year(stem) {
+                return Ok(Some(Word::joined(alloc, stem, ending.new)?));
+            }
+        }
     }
+    Ok(None)
 }

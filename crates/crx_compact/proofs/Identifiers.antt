@@ -1,6 +1,6 @@
 -- Things of different identifiers: each is found by its own, and none is among earlier ones.
-use Rattle.crx_compact.proofs.Words.{◌≡◌, ℕ, true, false, not, List, [], ◌∷◌, Some, refl, AllByRecursion}
-use Rattle.crx_compact.proofs.Words.{bytes_eq, and_parts, not-true, is_among, are_apart, arith}
+use Rattle.crx_compact.proofs.Words.{◌≡◌, ℕ, true, false, List, [], ◌∷◌, Some, refl, AllByRecursion}
+use Rattle.crx_compact.proofs.Words.{bytes_eq, not-true, is_among, are_apart, arith}
 use Rattle.crx_compact.proofs.Characters.{bytes_eq-same}
 use Rattle.std.specs.List.{list_any}
 use Rattle.std.proofs.{lemmas.Bool.or_parts, lemmas.Grind.common_steps}
@@ -20,9 +20,13 @@ pub each-own : {X : Type 0} (f : X → List ℕ) (xs : List X)
     → are_apart f xs ≡ true → AllByRecursion (λ x. named f (f x) xs ≡ Some x) xs
 each-own f [] h = tt
 each-own f (x ∷ xs) h =
-    let parts = and_parts (not (is_among f (f x) xs)) (are_apart f xs) h in (
-      rw (bytes_eq-same (f x)) refl,
-      found-later f x xs xs (not-true (is_among f (f x) xs) parts.0) (each-own f xs parts.1),
+    grind (
+      arith,
+      common_steps,
+      bytes_eq-same (f x),
+      found-later f x xs xs,
+      not-true (is_among f (f x) xs),
+      each-own f xs,
     )
 
 -- ---- earlier identifiers

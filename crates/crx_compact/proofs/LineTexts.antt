@@ -3,7 +3,7 @@ use Rattle.crx_compact.proofs.Words.{◌≡◌, ◌≤◌, ◌<◌, ℕ, suc, �
 use Rattle.crx_compact.proofs.Words.{take, drop, get_or, slice_get, Some, ap, arith, drop-append_seam, rules}
 use Rattle.crx_compact.proofs.Words.{take-take, length-append, length-set, length-take-le, take_more_set, cut}
 use Rattle.crx_compact.proofs.Words.{AreCut, common_steps}
-use Rattle.std.proofs.lemmas.List.{drop-append-le, drop-drop, drop-set, drop-take, drop_more}
+use Rattle.std.proofs.lemmas.List.{drop-append-le, drop-drop, drop-take, drop_more}
 use Rattle.std.proofs.{Common.append_assoc, lemmas.List.{take-append-drop, take-append-le, length-drop}}
 use Rattle.std.proofs.Math.Seq.{take-append_seam, drop-append-add, take-append-add, take-set-lt}
 use Rattle.std.proofs.Math.ListN.{drop_of_length-le}
@@ -20,9 +20,14 @@ first-ended x counts y e = grind (arith, common_steps)
 pub cut-more : (counts text line : List ℕ) → lines_text (cut counts text) ≡ text
     → cut (counts ++ length line ∷ []) (text ++ (line ++ 10 ∷ [])) ≡ cut counts text ++ line ∷ []
 cut-more (count ∷ counts) text line e =
-    let ended = first-ended count counts text e in
-    let rest = cut-more counts (drop (suc count) text) line ended.1 in
-    grind (arith, take-append-le, drop-append-le)
+    grind (
+      arith,
+      common_steps,
+      first-ended,
+      take-append-le,
+      drop-append-le,
+      cut-more counts (drop (suc count) text) line,
+    )
 cut-more x text line e = grind (arith, common_steps, take-append_seam)
 
 pub text-more : (lines : List (List ℕ)) (line : List ℕ)
@@ -112,12 +117,15 @@ pub row-pushed : (lengths bytes used new line : List ℕ)
     (set new (filled + count) 10) line count many filled past past_bytes front memory'
 row-pushed lengths bytes used new line many filled room count past past_bytes front memory memory' block held
     left short same within put =
-    let more : filled + (count + 1) ≡ filled + count + 1 = omega arith in
-    let ended = line-ended new used line filled count put.written put.within in
-    let long = length-set new (filled + count) 10 in
-    block-pushed lengths bytes (set new (filled + count) 10) line count many filled past past_bytes front
-    memory memory' block held left (counted-line new used line filled count put.written put.within within)
-    (omega (arith, put.short, short)) (cc (more, ended, same)) (omega (arith, long, put.within))
+    grind (
+      arith,
+      common_steps,
+      line-ended new used line filled count put.written put.within,
+      length-set new (filled + count) 10,
+      block-pushed lengths bytes (set new (filled + count) 10) line count
+          many filled past past_bytes front memory memory' block held left (counted-line new used line filled count
+          put.written put.within within),
+    )
 
 -- ---- lines in front
 
@@ -125,9 +133,7 @@ row-pushed lengths bytes used new line many filled room count past past_bytes fr
 cut-first : (counts line rest : List ℕ)
     → cut (length line ∷ counts) ((line ++ 10 ∷ []) ++ rest) ≡ line ∷ cut counts rest
 cut-first counts line rest =
-    let more : suc (length line) ≡ length line + 1 = omega arith in
-    let taken = take-append_seam line (10 ∷ rest) in
-    cc (append_assoc line (10 ∷ []) rest, drop-append-add line (10 ∷ rest) 1)
+    grind (arith, common_steps, take-append_seam line (10 ∷ rest), drop-append-add line (10 ∷ rest) 1)
 
 -- a line that is written right in front of the others of a text, over what was there
 front-written : (bytes new line : List ℕ) (filled start past_bytes : ℕ) → start + length line + 1 ≡ past_bytes
@@ -158,18 +164,10 @@ pub put-front : (lengths bytes new line : List ℕ) (many filled past next past_
     ≡ take start bytes ++ (line ++ 10 ∷ []) → drop past_bytes new ≡ drop past_bytes bytes
     → PutFront lengths bytes new line many filled past next past_bytes start
 put-front lengths bytes new line many filled past next past_bytes start c some room one at written same =
-    let counts : List ℕ = drop past (take many lengths) in
-    let rest : List ℕ = drop past_bytes (take filled bytes) in
-    let lengths' : List ℕ = take many (set lengths next (length line)) in
-    let all : length (take many lengths) ≡ many = length-take-le many lengths some in
-    let long : length (take filled bytes) ≡ filled = length-take-le filled bytes room in
-    let within : next < many = omega (arith, c.past_within, all, one) in
-    let taken = take-set-lt many lengths next (length line) within in
-    let longer : drop next lengths' ≡ length line ∷ counts = search (rules, drop-set) in
-    let text =
-    front-written bytes new line filled start past_bytes at (omega (arith, c.bytes_within, long)) room written
-    same in
-    let is : cut (drop next lengths') (drop start (take filled new)) ≡ line ∷ cut counts rest =
-    cc (longer, text, cut-first counts line rest) in
-    let before = length-drop start (take filled new) in
-    search (rules, is, length-take-le, length-append)
+    grind (
+      arith,
+      common_steps,
+      take-set-lt,
+      front-written bytes new line filled start past_bytes at,
+      cut-first,
+    )

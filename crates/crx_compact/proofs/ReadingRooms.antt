@@ -1,11 +1,11 @@
 -- The room that an epoch's lines need, by its satellites and by its rows.
 use Rattle.crx_compact.proofs.Words.{arith, sym, ◌∙◌, ap, subst, ◌≡◌, ℕ, List, Option, Some, Ok, Err, Result}
-use Rattle.crx_compact.proofs.Words.{length, length-each_place, Fault, Count, Content, and_then, common_steps}
+use Rattle.crx_compact.proofs.Words.{length-each_place, Fault, Count, Content, and_then, common_steps}
 use Rattle.crx_compact.proofs.Words.{past_of_tail, satellites_of_line, Satellite, before_clock, first_step, opening}
-use Rattle.crx_compact.proofs.Words.{tail_for_line, tail_opened, HasRoom, HaveTypesRoom, padded}
-use Rattle.crx_compact.proofs.Words.{tail_named, tail_of_history, OpenHistory, RowTail, Tail}
+use Rattle.crx_compact.proofs.Words.{tail_for_line, tail_opened, HasRoom, HaveTypesRoom}
+use Rattle.crx_compact.proofs.Words.{tail_of_history, OpenHistory, Tail}
 use Rattle.crx_compact.proofs.{AnnouncedRows.satellites-again, Words.satellite_of, reading.Stages.line-good}
-use Rattle.std.proofs.Common.{get_or}
+use Rattle.std.proofs.Common.{rules}
 use Rattle.std.proofs.lemmas.List.Elements.{All-map}
 use Rattle.crx_compact.specs.EpochLinesRead.{AnswersEpochLine}
 use Rattle.crx_compact.specs.OpenEpochs.{OpenRawEpoch, Going, opened_raw, rows_before}
@@ -21,10 +21,7 @@ types-room before satellites rooms h = subst (λ ss. HaveTypesRoom ss rooms) (sa
 
 cells-room : (before : Tail) (satellites : List Satellite) (rooms : List (List ℕ × ℕ))
     → HaveTypesRoom satellites rooms → HaveCellsRoom (rows_before before satellites) rooms
-cells-room before satellites rooms h =
-    All-map (λ (row : RowTail). HasRoom row.name (length row.cells) rooms)
-    (λ (s : Satellite). padded s (tail_named s.name before)) satellites
-    (λ i s less. rw (length-each_place (get_or satellites i s).count _) (h i s less))
+cells-room before satellites rooms h = search (rules, arith, All-map, length-each_place)
 
 -- ---- the epoch that a line opens
 

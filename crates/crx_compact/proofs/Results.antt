@@ -25,10 +25,6 @@ pub if-true : {X : Type 0} (b : Bool) (q : Fault) (r : Result X Fault) (x : X)
     → (if not b then Err q else r) ≡ Ok x → b ≡ true
 if-true b q r x e = grind arith
 
-pub before-ok : {X : Type 0} (x : X) (r : Result (List X) Fault) (given : List X)
-    → before_all x r ≡ Ok given → Follows r (λ xs. Ok (x ∷ xs)) given
-before-ok x r given e = grind arith
-
 -- some items before those of a good result
 abbrev pub onto : {X : Type 0} → List X → Result (List X) Fault → Result (List X) Fault
 onto [] r = r

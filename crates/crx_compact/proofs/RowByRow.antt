@@ -2,12 +2,13 @@
 use Rattle.crx_compact.proofs.Words.{◌≡◌, ◌<◌, ◌+◌, ◌++◌, ◌∷◌, [], ℕ, List, Option, Some, All}
 use Rattle.crx_compact.proofs.Words.{length, same_Some}
 use Rattle.crx_compact.proofs.Words.{take, map, slice_get, sym, ◌∙◌, subst, arith}
-use Rattle.crx_compact.proofs.Words.{map-append, slice_get_within}
+use Rattle.crx_compact.proofs.Words.{slice_get_within}
 use Rattle.crx_compact.proofs.{Words.{printed_row, shown_row, RowTail}, Making.taken_more}
 use Rattle.crx_compact.specs.Entries.{Entry}
-use Rattle.std.proofs.Common.{Bool, IsTrue, append_assoc, ◌≤◌, ◌↔◌}
+use Rattle.std.proofs.Common.{Bool, IsTrue, ◌≤◌, ◌↔◌}
 use Rattle.std.proofs.lemmas.Option.{get_or_from_slice_get, slice_get_cases}
 use Rattle.std.proofs.lemmas.List.{Elements.All-push}
+use Rattle.std.proofs.lemmas.Grind.{common_steps}
 
 -- ---- what holds of each
 
@@ -42,8 +43,4 @@ pub printed-next : (before lines more : List (List ℕ)) (rows : List RowTail) (
     → more ≡ lines ++ printed_row (shown_row row) ∷ []
     → more ≡ before ++ map printed_row (map shown_row (take (k + 1) rows))
 printed-next before lines more rows k row made here last =
-    let taken = taken_more rows k row here in
-    let shown = map-append shown_row (take k rows) (row ∷ []) in
-    let so_far = map shown_row (take k rows) in
-    let printed = map-append printed_row so_far (shown_row row ∷ []) in
-    cc (append_assoc before (map printed_row so_far) (printed_row (shown_row row) ∷ []))
+    grind (arith, common_steps, taken_more rows k row here)

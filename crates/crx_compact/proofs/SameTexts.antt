@@ -18,9 +18,7 @@ first_same : (a b m : ℕ) → cond (differs a b) 1 0 + 2 * m ≡ 0 → (a ≡ b
 first_same a b m e = grind (arith, nat_tests)
 
 none_differ : (xs ys : List ℕ) → length ys ≡ length xs → mask_l (zip2 differs xs ys) ≡ 0 → xs ≡ ys
-none_differ (x ∷ xs) (y ∷ ys) long none =
-    let parts = first_same x y (mask_l (zip2 differs xs ys)) none in
-    cc (parts.0, none_differ xs ys (omega arith) parts.1)
+none_differ (x ∷ xs) (y ∷ ys) long none = grind (arith, common_steps, first_same, none_differ xs ys)
 none_differ xs ys long none = grind (arith, common_steps)
 
 same_rows : (xs ys : List ℕ) → length ys ≡ length xs → length xs ≤ 64 → others xs ys ≡ 0 → xs ≡ ys

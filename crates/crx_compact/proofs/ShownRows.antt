@@ -1,7 +1,7 @@
 -- The row that a history shows, filled value by value.
 use Rattle.crx_compact.proofs.Words.{◌≡◌, ◌<◌, ℕ, suc, ◌+◌, ◌-◌, ◌*◌, ℤ, List, [], ◌∷◌, ◌++◌, length}
 use Rattle.crx_compact.proofs.Words.{map, take, replicate, slice_set, Option, None, slice_get, common_steps}
-use Rattle.crx_compact.proofs.Words.{Some, arith, append-nil, length-map, length-take-le, map-append}
+use Rattle.crx_compact.proofs.Words.{Some, arith, length-map, length-take-le, map-append}
 use Rattle.crx_compact.proofs.Words.{take_all, slice_get_within, Row, shown_row, shown_value, ArcTail}
 use Rattle.crx_compact.proofs.Making.{taken_more}
 use Rattle.crx_text.proofs.Blanks.{columns_are}
@@ -42,7 +42,4 @@ pub row-all : (name flags held : List ℕ) (cells : List (Option ArcTail)) (coun
     → row ≡ row_so_far name flags cells count k → k ≡ count → length cells ≡ count
     → with_flags row (take (2 * count) held) ≡ shown_row (record { name = name; flags = held; cells = cells })
 row-all name flags held cells count k row is end many =
-    let none : count - k ≡ 0 = omega (arith, end) in
-    let values : map shown_value (take k cells) ++ replicate (count - k) None ≡ map shown_value cells =
-    cc (append-nil (map shown_value (take k cells)), take_all k cells (omega (arith, end, many))) in
-    cc (is, values, length-map cells shown_value, many, columns_are held 1 (2 * count))
+    grind (arith, common_steps, take_all k cells, columns_are held 1 (2 * count))

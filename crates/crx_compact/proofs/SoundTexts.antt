@@ -3,7 +3,7 @@ use Rattle.crx_compact.proofs.Words.{◌≡◌, patched, columns, few_kept, list
 use Rattle.crx_compact.proofs.Words.{◌<◌, ◌+◌, ◌-◌, at, refl, true, List, length, take, arith, is_kept, Bool}
 use Rattle.crx_compact.proofs.Words.{get_or_past, drop, [], replicate, IsAllowedCount, length-columns}
 use Rattle.crx_compact.proofs.Words.{flags_held}
-use Rattle.crx_compact.proofs.Words.{common_steps, by_position, mark_of, ◌++◌, list_all-from_at, at-drop}
+use Rattle.crx_compact.proofs.Words.{common_steps, ◌++◌, list_all-from_at, at-drop}
 use Rattle.crx_compact.proofs.Words.{at-without_end_blanks, columns-are, without_end_blanks, text_difference}
 use Rattle.crx_compact.proofs.Characters.{all-take, list_all-at, at-take_past, at-by_position}
 use Rattle.crx_compact.proofs.{Words.{cases_lt, rules, AreHeldFlags}, PlaceByPlace.{at-padded, at-take}}
@@ -90,6 +90,4 @@ before-trimmed old new = search (rules, same_characters, at-by_position, at-with
 
 pub difference-length : (n : ℕ) (old new : List ℕ)
     → length old ≤ n → length new ≤ n → length (text_difference old new) ≤ n
-difference-length n old new h k = ends-within n (by_position mark_of old new) (λ p.
-    let mark = at-by_position mark_of refl old new (n + p) in
-    grind (arith, mark, get_or_past old (n + p) 32, get_or_past new (n + p) 32))
+difference-length n old new h k = grind (arith, common_steps, ends-within, at-by_position, get_or_past)

@@ -1,13 +1,14 @@
 -- An epoch whose rows are written one by one: one row more.
 use Rattle.crx_compact.proofs.Words.{◌≡◌, ◌++◌, ◌∷◌, [], ℕ, List, Bool, Some, true, false, not}
-use Rattle.crx_compact.proofs.Words.{ap, sym, ◌∙◌, not-true, map-append}
+use Rattle.crx_compact.proofs.Words.{ap, sym, ◌∙◌, not-true}
 use Rattle.crx_compact.proofs.Words.{is_among, has_satellite, Row, IsSoundRow, OpenHistory, PlacedRows}
-use Rattle.crx_compact.proofs.Words.{row_line_after, row_line_in, row_tail_after, row_tail_in}
+use Rattle.crx_compact.proofs.Words.{row_line_after, row_tail_after}
 use Rattle.crx_compact.proofs.Words.{RowTail, Tail, AreRowsWritten, arith, among-map, apart-push, HasCome}
 use Rattle.crx_compact.proofs.{ComeRows.{awaited-after, come-row}, placing.SteppedRows.IsLastStored}
 use Rattle.std.proofs.lemmas.List.Elements.{All-push}
 use Rattle.crx_compact.specs.Placing.{IsLeftAt, SatelliteTail, line_after, row_tail_named, row_tail_of}
 use Rattle.crx_compact.specs.Placing.{satellite_after}
+use Rattle.std.proofs.lemmas.Grind.{common_steps}
 
 -- a satellite has come where it has a row
 pub come-already : (after : Tail) (rows : List Row) (history : OpenHistory) (lines : List (List ℕ))
@@ -46,25 +47,14 @@ written-next after rows row old new placed come place satellite left lines more 
     ∙ ap (λ (s : SatelliteTail). placed.rows ++ row_tail_of row.name s ∷ []) left_is
     ∙ ap (λ (r : RowTail). placed.rows ++ row_tail_after (Some r) row ∷ []) last.is in
     let more_is = longer ∙ ap (λ (r : RowTail). lines ++ row_line_after (Some r) row ∷ []) last.is in
-    record {
-      text = text ∙ written.text;
-      clock = clock ∙ written.clock;
-      rows_after = cc (
-        rows_left,
-        written.rows_after,
-        same,
-        row_is.0,
-        map-append (row_tail_in after.rows) rows
-            (row ∷ []),
-      );
-      others = λ name absent. ap (λ (p : PlacedRows). row_tail_named name p.rest) changed ∙ next name absent;
-      lines_made = cc (
-        more_is,
-        written.lines_made,
-        row_is.1,
-        map-append (row_line_in after.rows) rows
-            (row ∷ []),
-      );
-      sound = All-push IsSoundRow rows row written.sound sound;
-      apart = apart-push (λ (r : Row). r.name) rows row written.apart fresh;
-    }
+    grind (
+      arith,
+      common_steps,
+      next,
+      row_is,
+      changed,
+      rows_left,
+      more_is,
+      All-push IsSoundRow rows row written.sound sound,
+      apart-push,
+    )

@@ -43,7 +43,7 @@ pub struct Block {
     /// The lines; the bytes after them are of earlier, longer texts, and mean nothing.
     bytes: Vec<u8>,
     /// The length of each line; those after the lines are of earlier ones, and mean nothing.
-    lengths: Vec<usize>,
+    lengths: Vec<u16>,
     /// How many of the bytes are lines, the room in front of them among these.
     filled: usize,
     /// How many lines there are, with those for which room is left in front.
@@ -115,7 +115,7 @@ impl Block {
         put_line(&mut self.bytes, start, line);
         self.handed_out -= 1;
         self.handed_out_bytes = start;
-        self.lengths[self.handed_out] = line.len();
+        self.lengths[self.handed_out] = line.len() as u16;
         self.front -= 1;
     }
 
@@ -128,7 +128,7 @@ impl Block {
     {
         use_bytes(&mut self.bytes, self.filled);
         put_line(&mut self.bytes, self.filled, line);
-        self.lengths[self.count] = line.len();
+        self.lengths[self.count] = line.len() as u16;
         self.count += 1;
         self.filled += line.len() + 1;
     }
@@ -157,7 +157,7 @@ impl Block {
         let bytes = self.bytes.as_mut_slice();
         let length = satellite.write_line(values, flags, scratch, bytes, filled);
         bytes[filled + length] = b'\n';
-        self.lengths[self.count] = length;
+        self.lengths[self.count] = length as u16;
         self.count += 1;
         self.filled = filled + (length + 1);
     }
@@ -176,7 +176,7 @@ impl Block {
         let bytes = self.bytes.as_mut_slice();
         let length = satellite.print_line(*name, bytes, filled);
         bytes[filled + length] = b'\n';
-        self.lengths[self.count] = length;
+        self.lengths[self.count] = length as u16;
         self.count += 1;
         self.filled = filled + (length + 1);
     }
@@ -198,7 +198,7 @@ impl Block {
             return None;
         }
         let start = self.handed_out_bytes;
-        let end = start + self.lengths[self.handed_out];
+        let end = start + self.lengths[self.handed_out] as usize;
         self.handed_out += 1;
         self.handed_out_bytes = end + 1;
         Some(&self.bytes[start..end])

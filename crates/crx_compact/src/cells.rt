@@ -1,12 +1,10 @@
 //! The cells of a satellite line: values to codes and back, each after its arc.
 
-ghost use Rattle.std.specs.Prelude.{All, ◌≡◌, ◌≤◌, ◌<◌, ◌+◌, ◌++◌, ◌*◌, None, Ok, Err, drop, length, map, take, IfOk, IfErr, IfSome, IfNone, OnSome, Some, Option};
-ghost use Rattle.crx_text.specs.meaning.Columns.{columns};
-ghost use Rattle.crx_text.specs.meaning.PrintedCells.{printed_cells};
+ghost use Rattle.std.specs.Prelude.{All, ◌≡◌, ◌≤◌, ◌<◌, ◌+◌, ◌*◌, None, Ok, Err, drop, length, take, IfOk, IfErr, IfSome, IfNone, OnSome, Some, Option};
 ghost use Rattle.crx_text.specs.meaning.Numbers.{IsValue};
-ghost use Rattle.crx_base.specs.declared.limits.TheConstants.{CELL_WIDTH, OBSERVATION_WIDTH};
+ghost use Rattle.crx_base.specs.declared.limits.TheConstants.{OBSERVATION_WIDTH};
 ghost use Rattle.crx_base.specs.Padded.{line_in};
-ghost use Rattle.crx_compact.specs.ArcSteps.{arc_of_code, shown_value, value_of_code};
+ghost use Rattle.crx_compact.specs.ArcSteps.{arc_of_code, value_of_code};
 ghost use Rattle.crx_text.specs.Codes.{IsShort};
 ghost use Rattle.crx_compact.specs.declared.cells.TheConstants.{CELL_ROOM};
 ghost use Rattle.crx_compact.specs.Cells.{AnswersCell, AreCellsWritten, value_at_place, CellsAreRead, IsCellWritten, MayReadCell};
@@ -15,9 +13,9 @@ ghost use Rattle.crx_base.specs.declared.fault.Fault.TheVariants.{BadField};
 ghost use Rattle.crx_text.specs.declared.code.Code.TheVariants.{Missing, Step};
 
 use crate::arc::ObsArc;
-use crx_base::limits::{CELL_WIDTH, DIGITS_LIMIT};
+use crx_base::limits::DIGITS_LIMIT;
 use crx_base::{Fault, Padded};
-use crx_text::{Code, cell_length, code_before_blank, obs_print_cell, step_of_length, write_cell};
+use crx_text::{Code, cell_length, code_before_blank, step_of_length, write_cell};
 
 /// The room for a cell in a satellite line: a code with its order, `&` and minus, and three bytes more, since
 /// digits are written four at a time. The cell's blank is one of the three.
@@ -173,21 +171,4 @@ pub(crate) fn read_cells(
         }
     }
     Ok(at)
-}
-
-/// Prints the newest values of arcs, each with its two indicators, in place of the bytes from an index on,
-/// and gives the index after them. Both indicators of a cell are there: they become one load and one store.
-#[inline(always)]
-pub fn print_cells(arcs: &[ObsArc], flags: &[u8], bytes: &mut [u8], at: usize) -> usize
-    requires full { 2 * length arcs.now ≤ length flags.now }
-    requires room { at + CELL_WIDTH * length arcs.now ≤ length bytes.old }
-    ensures cells { take result bytes.new ≡ take at bytes.old
-        ++ printed_cells (map shown_value arcs.now) (columns flags.now 1 (2 * length arcs.now)) }
-    ensures end { result ≡ at + CELL_WIDTH * length arcs.now }
-{
-    for index in 0..arcs.len() {
-        let place = at + CELL_WIDTH * index;
-        obs_print_cell(arcs[index].value(), flags, 2 * index, bytes, place);
-    }
-    at + CELL_WIDTH * arcs.len()
 }

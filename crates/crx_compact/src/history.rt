@@ -33,7 +33,7 @@ use crate::satellite::put_first;
 use crate::satellites::Satellites;
 use crx_base::limits::{HEAD_WIDTH, LINE_LIMIT, NAME_WIDTH, SATELLITES_LIMIT, TYPES_LIMIT};
 use crx_base::{Fault, Padded};
-use crx_header::{Types, after_columns, all_blank, identifier, padded};
+use crx_header::{Types, after_columns, all_blank, epoch_columns, identifier, padded};
 use crx_rinex::{Epoch, EpochLine, SatRow, begins_epoch, print_head, types_of_satellite};
 use crx_text::columns::end_trimmed;
 use crx_text::difference::{append_difference, patch_bytes};
@@ -336,8 +336,7 @@ impl History {
     {
         if count == 0 {
             lines.clear();
-            // Most epochs have no clock offset. That the columns are put as they are then saves some 130
-            // instructions.
+            // Most epochs have no clock offset: their columns are put as they are.
             let Some(_) = self.clock.value() else {
                 lines.put(end_trimmed(&self.text[..self.length], 1, HEAD_WIDTH));
                 return;
@@ -368,18 +367,14 @@ fn read_satellites(
     requires awaited { are_same ≡ true → All IsAwaitedSatellite (map satellite_of satellites.old.rest) }
     ensures { AnswersSatellites (satellites_of_text types.now text.now) satellites.old satellites.new result }
 {
-    let Ok(head) = EpochLine::new(padded(text, 1), None) else {
+    let Some(count) = epoch_columns::satellites(&padded::<HEAD_WIDTH>(text, 1)) else {
         return Err(Fault::BadEpoch);
     };
-    let count = head.count();
     if !all_blank(after_columns(text, HEAD_WIDTH + NAME_WIDTH * count)) {
         return Err(Fault::BadEpoch);
     }
-    if are_same {
-        if satellites.come_again(types, count) {
-            return Ok(());
-        }
-        return read_names(types, text, count, satellites);
+    if are_same && satellites.come_again(types, count) {
+        return Ok(());
     }
     read_names(types, text, count, satellites)
 }

@@ -16,7 +16,7 @@ ghost use Rattle.crx_compact.specs.Placing.{AnswersMarks, AnswersReading, Answer
 ghost use Rattle.crx_compact.specs.ShownRows.{shown_row};
 
 use crate::arc::ObsArc;
-use crate::cells::{print_cells, read_cells, write_cells};
+use crate::cells::{read_cells, write_cells};
 use crate::same::is_same_text;
 use crx_base::limits::{CELL_WIDTH, NAME_WIDTH};
 use crx_base::{Fault, Padded};
@@ -24,7 +24,7 @@ use crx_header::{after_columns, all_blank, put_identifier};
 use crx_rinex::{SatRow, put_flags};
 use crx_text::block::put_text;
 use crx_text::difference::{append_difference, patch_bytes};
-use crx_text::{Text, copy_text, trim_end};
+use crx_text::{Text, copy_text, obs_print_cell, trim_end};
 use std::alloc::{AllocError, Global};
 use std::marker::Model;
 
@@ -235,12 +235,13 @@ impl SatelliteHistory {
     {
         put_identifier(bytes, at, name);
         let count = self.count;
-        print_cells(
-            &self.arcs[..count],
-            &self.indicators[..2 * count],
-            bytes,
-            at + NAME_WIDTH,
-        );
+        let arcs = &self.arcs[..count];
+        let flags = &self.indicators[..2 * count];
+        // Both indicators of a cell are there: they become one load and one store.
+        for index in 0..count {
+            let place = at + NAME_WIDTH + CELL_WIDTH * index;
+            obs_print_cell(arcs[index].value(), flags, 2 * index, bytes, place);
+        }
         // Of this length the compiler knows that it isn't below 3: [`trim_end`] doesn't test it again.
         let length = NAME_WIDTH + CELL_WIDTH * count;
         trim_end(&bytes[at..at + length]).len()

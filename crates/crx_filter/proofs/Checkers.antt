@@ -1,14 +1,15 @@
 -- What a checker counts, and what it prints, by what a line makes.
 use Rattle.crx_filter.specs.declared.rinex_reader.RinexStep.TheVariants as Steps
-use Rattle.crx_filter.proofs.Words.{common_steps, arith, ℕ, ◌≡◌, Some, Bool, true, List, [], ◌∷◌, ◌++◌, refl}
+use Rattle.crx_filter.proofs.Words.{common_steps, arith, ℕ, ◌≡◌, Some, Bool, true, false, List, [], ◌∷◌, ◌++◌}
+use Rattle.crx_filter.proofs.Words.{refl}
 use Rattle.crx_filter.proofs.Words.{bytes_eq, map-append, last_line, ObservationHead, OpenEpoch, Row}
 use Rattle.crx_filter.proofs.Words.{Epoch as ObservationEpoch, printed_epoch, printed_row, epoch_by_rows}
-use Rattle.crx_filter.proofs.Words.{Made, reader_phase, TakesRinexLine, Totals, printed_made, RinexReader}
+use Rattle.crx_filter.proofs.Words.{Made, reader_phase, TakesRinexLine, TakesRow, Totals, printed_made}
+use Rattle.crx_filter.proofs.Words.{RinexReader}
 use Rattle.crx_filter.proofs.Words.{RinexStep, Header, false-true}
 use Rattle.{crx_compact.proofs.Characters.bytes_eq-same, crx_filter.proofs.RinexSteps.in-epoch}
 use Rattle.crx_filter.specs.{CheckByLine.{totals_with, totals_made}, CompactionByLine.is_before_header}
-use Rattle.crx_filter.specs.Totals.{HasPrinted, HasRow, IsCounting, IsLastRow, LastRowIsReadFrom}
-use Rattle.crx_filter.{proofs.Words.{is_row, inl, inr, subst, ◌⊎◌}, specs.meaning.Standard.version_in}
+use Rattle.crx_filter.specs.{Totals.HasPrinted, meaning.Standard.version_in}
 use Rattle.{crx_rinex.specs.meaning.Printing.printed_head, std.proofs.lemmas.Option.same_Some}
 
 -- the header's first line says the version
@@ -44,27 +45,14 @@ row-printed : (head : ObservationHead) (rows before : List Row) (row : Row)
 row-printed head rows before row is =
     grind (arith, common_steps, printed_head, last_line, printed_row, map-append, last-of)
 
-pub part-printed : (made : Made ObservationEpoch OpenEpoch) (before after : RinexReader) (line : List ℕ)
-    → TakesRinexLine made before line Steps.Row after → IsLastRow after
+pub row-made : (made : Made ObservationEpoch OpenEpoch) (before after : RinexReader) (is_last : Bool)
+    (rows : List Row)
+    → TakesRow made is_last before after → after.rows.rows ≡ rows ++ after.row ∷ []
     → last_line (printed_made made) ≡ printed_row after.row
-part-printed made before after line takes is_last =
-    grind (arith, common_steps, in-epoch, last_line, row-printed)
+row-made made before after true rows takes is = grind (arith, common_steps, same_Some, row-printed)
+row-made made before after false rows takes is = grind (arith, common_steps, in-epoch, last_line, row-printed)
 
 -- a line that is copied is given back
 pub copied-printed : (made : Made ObservationEpoch OpenEpoch) (line : List ℕ) → printed_made made ≡ line ∷ []
     → true ≡ bytes_eq line (last_line (printed_made made))
 copied-printed made line is = grind (arith, common_steps, bytes_eq-same, bytes_eq, last_line)
-
--- and that row was read out of the line
-pub row-made : (made : Made ObservationEpoch OpenEpoch) (before after : RinexReader) (line : List ℕ) (step : RinexStep)
-    → (step ≡ Steps.Row) ⊎ (step ≡ Steps.Epoch) → TakesRinexLine made before line step after → HasRow step line after
-    → (last_line (printed_made made) ≡ printed_row after.row) × LastRowIsReadFrom line after
-row-made made before after line step (inl e) takes has =
-    let row = subst (λ s. HasRow s line after) e has in
-    (part-printed made before after line (subst (λ s. TakesRinexLine made before line s after) e takes) row.0, row.1)
-row-made made before after line step (inr e) takes has = grind (arith, common_steps, same_Some, row-printed)
-
--- what a check asks of a row is there, where the row was counted and was read out of its line
-pub has_row : (step : RinexStep) (observed : ℕ) (line : List ℕ) (reader : RinexReader)
-    → IsCounting step observed reader → (is_row step ≡ true → LastRowIsReadFrom line reader) → HasRow step line reader
-has_row step observed line reader h5 h6 = grind (arith, common_steps)

@@ -60,7 +60,7 @@ module _ (before after : RinexReader) (head : ObservationHead) (line : List ℕ)
   -- it is the last one of its epoch
   pub last-row-taken : before.count + 1 ≡ head.count
       → HasParts after before.types head (before.rows.rows ++ before.row ∷ []) → after.stage ≡ Between
-      → CompletedEpoch (made_at before line kept) line before after
+      → CompletedEpoch (made_at before line kept) before after
   last-row-taken full parts stage = grind (arith, common_steps, in-its-epoch)
 
   -- or others are to come
@@ -115,12 +115,12 @@ module _ (before after : RinexReader) (line : List ℕ) (kept : Written) (head :
     (begins : Begins before line) (read : head_of line ≡ Ok (EpochHead head.head head.count head.clock)) where
   -- it is whole with it
   pub begun-whole : head.count ≡ 0 → HasParts after before.types head [] → after.stage ≡ Between
-      → BeginsEpoch (made_at before line kept) line before after
+      → BeginsEpoch (made_at before line kept) before after
   begun-whole none parts stage = grind (arith, begun-made, inr, begin-made, of-head)
 
   -- or rows are to come
   pub begun-part : 0 < head.count → HasParts after before.types head [] → after.stage ≡ Open
-      → BeginsEpoch (made_at before line kept) line before after
+      → BeginsEpoch (made_at before line kept) before after
   begun-part some parts stage = (
     parts.rows_then,
     inl (

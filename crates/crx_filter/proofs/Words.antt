@@ -56,9 +56,10 @@ pub use Rattle.crx_filter.specs.LineByLine.{kept_in, with_phase, after_warning, 
 pub use Rattle.crx_filter.specs.LineByLine.{phase_in_body, phase_after_items, made_of_unit, made_in, phase_of}
 pub use Rattle.crx_filter.specs.LineByLine.{Answer, InFirstLines, Closed, Ended as RunEnded, Step as LineStep}
 pub use Rattle.crx_filter.specs.{Memory.{takes_memory, may_take_memory}, RinexReaders.{epoch_open, made_at}}
-pub use Rattle.crx_filter.specs.RinexReaders.{reader_phase, is_row, CompletedEpoch, IsSameReader, MovesReader}
+pub use Rattle.crx_filter.specs.RinexReaders.{reader_phase, CompletedEpoch, IsSameReader, MovesReader}
+pub use Rattle.crx_filter.specs.RinexReaders.{TakesRow}
 pub use Rattle.crx_filter.specs.{RinexReaders.{TakesRinexLine, Completed}, RinexStages.is_open_stage}
-pub use Rattle.crx_filter.specs.{Stages.{is_held, phase_of_stage}, declared.report.Totals.Totals as Held}
+pub use Rattle.crx_filter.specs.{Stages.{is_held, phase_of_stage}, declared.totals.Totals.Totals as Held}
 pub use Rattle.crx_filter.specs.declared.rinex_reader.{RinexReader.RinexReader, RinexStep.RinexStep}
 pub use Rattle.crx_filter.specs.declared.rinex_reader.RinexStep.TheVariants.{Nothing, Header, Begun}
 pub use Rattle.crx_filter.specs.declared.stage.Stage.{Stage, TheVariants.Open}

@@ -1,5 +1,4 @@
 -- What an engine makes of one line, and what it answers.
-pub mod EngineLemmas
 pub mod EngineAnswers
 pub mod CompactionSteps
 pub mod RowSteps

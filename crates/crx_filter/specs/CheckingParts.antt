@@ -1,5 +1,5 @@
 -- What a check has between two lines, and how its parts belong together.
-use Rattle.std.specs.Prelude.{◌≡◌, ◌+◌, ℕ, Bool, true, false, List, drop, Option}
+use Rattle.std.specs.Prelude.{◌≡◌, ℕ, Bool, true, false, List, drop, Option}
 use Rattle.std.proofs.Common.{ap, ◌∙◌}
 use Rattle.std.proofs.lemmas.Bool.{false≢true}
 use Rattle.crx_base.specs.meaning.Choices.{Choices}
@@ -8,23 +8,24 @@ use Rattle.crx_header.specs.Identifiers.{has_identifier}
 use Rattle.crx_header.specs.meaning.Satellites.{is_identifier}
 use Rattle.crx_rinex.specs.meaning.EpochPlaces.{OpenEpoch}
 use Rattle.crx_rinex.specs.meaning.Epochs.{has_satellite}
-use Rattle.crx_rinex.specs.meaning.Observations.{Row as ObservationRow}
-use Rattle.crx_filter.specs.CheckByLine.{CheckState, Totals as TotalsNoted, no_choices, printed_so_far}
+use Rattle.crx_rinex.specs.meaning.Observations.{Epoch, Row as ObservationRow}
+use Rattle.crx_rinex.specs.Printing.{last_line}
+use Rattle.crx_filter.specs.CheckByLine.{CheckState, Totals as TotalsNoted, earliest, no_choices}
+use Rattle.crx_filter.specs.CheckByLine.{printed_made}
+use Rattle.crx_filter.specs.CheckByLine.{printed_so_far, totals_made}
 use Rattle.crx_filter.specs.DirectionParts.{DirectionParts}
-use Rattle.crx_filter.specs.LineByLine.{Phase, InHeader, BetweenUnits, InEvent, InEpoch}
+use Rattle.crx_filter.specs.LineByLine.{Made, Phase, InHeader, BetweenUnits, InEvent, InEpoch}
 use Rattle.crx_filter.specs.RinexReaders.{epoch_open, reader_phase}
 use Rattle.crx_filter.specs.RinexStages.{is_open_stage}
-use Rattle.crx_filter.specs.Totals.{totals_held, found_held, AreBounded, IsObserved}
-use Rattle.crx_filter.specs.meaning.Standard.{findings_of, first_not_standard, report_lines}
+use Rattle.crx_filter.specs.Totals.{totals_held, found_held, HasPrinted, IsObserved}
+use Rattle.crx_filter.specs.meaning.Standard.{findings_of, first_not_standard, is_standard_line, report_lines}
 use Rattle.crx_filter.specs.declared.checking.Noted.{Noted}
-use Rattle.crx_filter.specs.declared.report.Totals.{Totals}
+use Rattle.crx_filter.specs.declared.totals.Totals.{Totals}
 use Rattle.crx_filter.specs.declared.rinex_reader.RinexReader.{RinexReader}
 
--- the reader, the identifiers of the open epoch's rows, what was noted of the lines, and how many lines of the report
--- were handed out
+-- the reader, what was noted of the lines, and how many lines of the report were handed out
 pub record CheckingState : Type 0 where
   pub reader : RinexReader
-  pub names : List Bool
   pub noted : Noted
   pub handed_out : ℕ
 
@@ -33,11 +34,23 @@ abbrev pub AreNamed : List Bool → List ObservationRow → Type 0
 AreNamed names rows = (name : List ℕ) → is_identifier name ≡ true
     → has_identifier names name ≡ has_satellite name rows
 
--- the rows of an open epoch are named and their observations counted, and the totals are those of so many units
-pub record AreCounted (reader : RinexReader) (names : List Bool) (noted : Noted) : Type 0 where
-  pub named : is_open_stage reader.stage ≡ true → AreNamed names reader.rows.rows
+-- the rows of an open epoch are named, and their observations counted
+pub record AreCounted (reader : RinexReader) (noted : Noted) : Type 0 where
+  pub named : is_open_stage reader.stage ≡ true → AreNamed noted.names reader.rows.rows
   pub observed : is_open_stage reader.stage ≡ true → IsObserved noted.observed reader.rows.rows
-  pub bounded : AreBounded noted.totals (noted.totals.epochs + noted.totals.events)
+
+-- no row of an epoch was noted
+pub record IsFresh (noted : Noted) : Type 0 where
+  pub named : (name : List ℕ) → has_identifier noted.names name ≡ false
+  pub observed : noted.observed ≡ 0
+
+-- a line that made this was noted: the totals have what it adds, and it is named where it is the first that
+-- isn't standard
+pub record NotesLine (made : Made Epoch OpenEpoch) (is_first : Bool) (line : InputLine) (number : ℕ)
+    (old new : Noted) : Type 0 where
+  pub totals : totals_held new.totals ≡ totals_made (totals_held old.totals) is_first made
+  pub standard : HasPrinted made → new.not_standard
+      ≡ earliest old.not_standard (is_standard_line line (last_line (printed_made made))) number
 
 abbrev pub checking_parts : CheckingState → DirectionParts OpenEpoch TotalsNoted
 checking_parts c = record {

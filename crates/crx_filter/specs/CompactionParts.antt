@@ -1,5 +1,5 @@
 -- What a compaction has between two lines, and how its parts belong together.
-use Rattle.std.specs.Prelude.{◌≡◌, ℕ, Bool, true, false, not, List, [], length, map, Some, if◌then◌else◌}
+use Rattle.std.specs.Prelude.{◌≡◌, ℕ, Bool, true, false, not, List, [], length, map, Some}
 use Rattle.crx_base.specs.declared.fault.Fault.{Fault}
 use Rattle.crx_base.specs.meaning.AsRead.{as_read}
 use Rattle.crx_base.specs.meaning.Choices.{Choices}
@@ -12,11 +12,10 @@ use Rattle.crx_filter.specs.CompactionByLine.{Written}
 use Rattle.crx_filter.specs.DirectionParts.{DirectionParts}
 use Rattle.crx_filter.specs.meaning.Directions.{rinex_reading}
 use Rattle.crx_filter.specs.meaning.Memory.{compaction_outgrows}
-use Rattle.crx_filter.specs.RinexReaders.{RefusesRinexLine, TakesRinexLine, epoch_open, made_at}
+use Rattle.crx_filter.specs.RinexReaders.{RefusesRinexLine, TakesRow, epoch_open, made_at}
 use Rattle.crx_filter.specs.RinexStages.{is_open_stage, rows_open}
 use Rattle.crx_filter.specs.Rooms.{HasRoomForRow}
 use Rattle.crx_filter.specs.declared.rinex_reader.RinexReader.{RinexReader}
-use Rattle.crx_filter.specs.declared.rinex_reader.RinexStep.TheVariants.{Epoch, Row as NextRow}
 use Rattle.crx_filter.specs.declared.stage.Stage.{Stage}
 use Rattle.crx_filter.specs.declared.stage.Stage.TheVariants.{Open}
 
@@ -61,8 +60,7 @@ pub record HasWholeEpoch (reader : RinexReader) (encoder : EncoderState) : Type 
 -- a row was taken, which is the epoch's last or isn't, and was written
 pub record HasWrittenRow (before : RinexReader) (encoder : EncoderState) (line : List ℕ) (is_last : Bool)
     (after : RinexReader) (new : EncoderState) : Type 0 where
-  pub takes : (kept : Written)
-      → TakesRinexLine (made_at before line kept) before line (if is_last then Epoch else NextRow) after
+  pub takes : (kept : Written) → TakesRow (made_at before line kept) is_last before after
   pub written : new ≡ record encoder { rows = after.rows.rows; rooms = new.rooms }
   pub held : HaveRoom new.rows new.rooms
   pub kept : KeepsRooms encoder.rooms new.rooms

@@ -9,11 +9,11 @@ use Rattle.crx_base.specs.declared.fault.Fault.{Fault}
 use Rattle.crx_base.specs.declared.fault.Fault.TheVariants.{OutOfMemory}
 use Rattle.crx_header.specs.meaning.ObservationTypes.{Count}
 use Rattle.crx_base.specs.declared.fault.At.{At}
-use Rattle.crx_filter.specs.LineByLine.{RunState, Direction, Made, Rejects, Ended, Answer, Quiet, Ready, Notice, made_in}
-use Rattle.crx_filter.specs.LineByLine.{Step as LineStep, failed_step, state_next}
+use Rattle.crx_filter.specs.LineByLine.{RunState, Direction, Made, Rejects, Answer, Quiet, Ready, Notice, made_in}
+use Rattle.crx_filter.specs.LineByLine.{failed_step, state_next}
 use Rattle.crx_filter.specs.Memory.{may_take_memory}
 use Rattle.crx_filter.specs.EngineLines.{HasTaken}
-use Rattle.crx_filter.specs.EngineSteps.{Steps, step_made}
+use Rattle.crx_filter.specs.EngineSteps.{step_made}
 use Rattle.crx_filter.specs.meaning.Reading.{can_go_on}
 use Rattle.crx_filter.specs.Stages.{is_held, phase_of_stage}
 use Rattle.crx_filter.specs.declared.stage.Stage.{Stage}
@@ -95,15 +95,6 @@ pub record IsAfterLines {O K : Type 0} (chosen : Choices → Choices) (state_aft
   pub taken_as : chosen choices ≡ choices
   pub is_state : state_by choices (length lines) parts ≡ state_after_lines choices (map as_read lines)
 
--- what an engine does with a line: its step, or where there isn't this room memory ran out; after a fault that ends
--- the run no line is ready
-pub record TakesLine {U O K : Type 0} (direction : Direction U O K) (before : RunState O K) (line : ReadLine)
-    (room : Type 0) (result : Result Step At) (ready : List (List ℕ)) (after : RunState O K) : Type 0 where
-  pub steps : Steps direction before line room result ready after
-  pub ended : IfErr result (λ at. after.phase ≡ Ended at)
-  pub nothing : OnErr result (ready ≡ [])
-  pub choices : after.choices ≡ before.choices
-
 -- a direction can be given a line: none is ready, and it may count one unit more
 pub record AwaitsLine (ready : List (List ℕ)) (count : ℕ) : Type 0 where
   pub drained : ready ≡ []
@@ -177,25 +168,6 @@ KeepsAllBeside before after count counted served serves knew knows had_found has
     × ((choices : Choices) (lines : List InputLine) → knew choices lines → knows choices lines)
     × ((lines : List InputLine) → had_found lines → has_found lines)
 
--- an engine has made this step, and no line is ready; its choices are as they were, and a fault that it
--- answers has ended the run
-pub record HasStopped {O K : Type 0} (step : LineStep O K) (result : Result Step At) (ready : List (List ℕ))
-    (before after : RunState O K) : Type 0 where
-  pub steps : step_made result [] after ≡ step
-  pub ended : IfErr result (λ at. after.phase ≡ Ended at)
-  pub drained : ready ≡ []
-  pub choices : after.choices ≡ before.choices
-
--- an engine has taken the end of the input, at which it may hand out these lines: it has made this step; its choices
--- are as they were, and after a fault, which has ended the run, no line is ready
-pub record HasClosed {O K : Type 0} (closing : List (List ℕ)) (step : LineStep O K) (result : Result Step At)
-    (ready : List (List ℕ)) (before after : RunState O K) : Type 0 where
-  pub steps : step_made result ready after ≡ step
-  pub ended : IfErr result (λ at. after.phase ≡ Ended at)
-  pub drained : closing ≡ [] → ready ≡ []
-  pub nothing : OnErr result (ready ≡ [])
-  pub choices : after.choices ≡ before.choices
-
 -- a direction was at this stage before a line with a fault, which reading may go on at or not
 pub record WasAt {U O K : Type 0} (direction : Direction U O K) (stage : Stage) (goes_on : Bool) (line : ReadLine)
     (before after : DirectionParts O K) : Type 0 where
@@ -211,5 +183,4 @@ abbrev pub AnswersToFault : {U O K : Type 0} → Direction U O K → Choices →
 AnswersToFault {O = O} {K = K} direction choices number stage fault goes_on parts result ready after =
     (before : DirectionParts O K) (line : ReadLine) (last : ℕ)
     → WasAt direction stage goes_on line before parts → number ≡ last + 1
-    → HasStopped (failed_step direction (state_by choices last before) line fault) result ready
-    (state_by choices last before) after
+    → step_made result ready after ≡ failed_step direction (state_by choices last before) line fault

@@ -1,19 +1,16 @@
 -- The state of an engine of a direction.
-use Rattle.std.specs.Prelude.{◌≡◌, ⊤, ℕ, true, List, [], length, Option, Result, Ok, Err}
+use Rattle.std.specs.Prelude.{◌≡◌, ⊤, ℕ, true, List, length, Result, Ok, Err}
 use Rattle.std.specs.Prelude.{IfOk, OnErr}
 use Rattle.crx_base.specs.meaning.Choices.{Choices}
 use Rattle.crx_base.specs.declared.fault.At.{At}
 use Rattle.crx_base.specs.meaning.Lines.{InputLine}
-use Rattle.crx_base.specs.meaning.AsRead.{Content, Overlong, ReadLine}
+use Rattle.crx_base.specs.meaning.AsRead.{ReadLine}
 use Rattle.crx_filter.specs.EngineLines.{HasTaken}
-use Rattle.crx_filter.specs.DirectionParts.{EngineParts, HasClosed, HasEnough, HasStopped, ComesAfter, TakesLine}
-use Rattle.crx_filter.specs.DirectionParts.{state_by}
-use Rattle.crx_filter.specs.LineByLine.{Ended, RunState, state_end_with, state_next}
-use Rattle.crx_runs.specs.Engines.{Awaited, Concludes, EngineAnswers, IsAwaited, answer_given}
-use Rattle.crx_runs.specs.Engines.{lines_handed_out}
+use Rattle.crx_filter.specs.DirectionParts.{EngineParts, HasEnough, IsAfterLines, ComesAfter, state_by}
+use Rattle.crx_filter.specs.LineByLine.{RunState, state_end_with}
+use Rattle.crx_runs.specs.Engines.{Awaited}
 use Rattle.crx_filter.specs.EngineLaws.{GoesLineByLine}
-use Rattle.crx_filter.specs.EngineSteps.{step_made}
-use Rattle.crx_runs.specs.declared.engine.HandedOut.{HandedOut}
+use Rattle.crx_filter.specs.EngineSteps.{Steps, step_made}
 use Rattle.crx_runs.specs.declared.engine.Step.{Step}
 use Rattle.crx_runs.specs.declared.engine.Step.TheVariants.{Warned}
 use Rattle.crx_runs.specs.meaning.Filters.{with_next}
@@ -61,52 +58,29 @@ module _ {D : Type 0} (d : Ghosts D) where
       → d.notes before.direction before.options lines
       → KnowsAfter (d.notes after.direction before.options) lines line result
 
-  -- it has taken a line, which hands out the lines that are ready, and itself where it is copied, or what is stored is
-  -- answered; and what its direction knows it knows of that line too
-  pub record EngineReads (before : EngineParts D) (line : InputLine) (out : Option HandedOut)
-      (after : EngineParts D) : Type 0 where
-    pub takes : TakesLine d.by_line (engine_state before) (Content line.content)
-        (d.has_room before.direction line.content) (answer_given out after.answer)
-        (lines_handed_out out line.content (engine_ready after)) (engine_state after)
-    pub notes : EngineNotes before line (answer_given out after.answer) after
-
-  -- it has taken a line that is too long
-  abbrev pub EngineSkips : EngineParts D → Result Step At → List (List ℕ) → EngineParts D → Type 0
-  EngineSkips before result ready after = HasStopped (state_next d.by_line (engine_state before) Overlong)
-      result ready (engine_state before) (engine_state after)
-
-  -- what it had noted of some lines it has noted after a fault too
-  abbrev pub EngineKeepsNotes : EngineParts D → Result Step At → EngineParts D → Type 0
-  EngineKeepsNotes before result after = (choices : Choices) (lines : List InputLine)
-      → d.notes before.direction choices lines → OnErr result (d.notes after.direction choices lines)
-
-  -- it has answered to a line, read so, and these lines are ready then. The line is taken. After the lines that it has
-  -- taken, and where it makes its own step after any that leave what is seen of it, the answer and the lines that are
-  -- ready are what its filter makes of those lines and this one; and a fault that has ended the run is answered again
-  pub record LineIsAnswered (before : EngineParts D) (line : InputLine) (read : ReadLine) (result : Result Step At)
+  -- it has taken a line, read so, and these lines are ready then. It has made the line's step, or that of
+  -- memory that ran out. What its direction knew of the lines before, it knows with this line too; after a
+  -- fault it knows it of the same lines
+  pub record TakesLine (before : EngineParts D) (line : InputLine) (read : ReadLine) (result : Result Step At)
       (ready : List (List ℕ)) (after : EngineParts D) : Type 0 where
-    pub takes : TakesLine d.by_line (engine_state before) read (d.has_room before.direction line.content) result ready
+    pub goes : EngineGoes before
+    pub steps : Steps d.by_line (engine_state before) read (d.has_room before.direction line.content) result ready
         (engine_state after)
-    pub answers : (lines : List InputLine) (notices : List Awaited) → engine_took before lines notices
-        → IsAwaited notices line
-        → EngineAnswers (d.filter before.options) (engine_took after) ready lines notices line result
-    pub by_seen : step_made result ready (engine_state after) ≡ state_next d.by_line (engine_state before) read
-        → (lines : List InputLine) (notices : List Awaited) → engine_seen before lines notices → IsAwaited notices line
-        → EngineAnswers (d.filter before.options) (engine_seen after) ready lines notices line result
-    pub repeated : (at : At) → (engine_state before).phase ≡ Ended at → result ≡ Err at
+    pub notes : EngineNotes before line result after
+    pub stays : (choices : Choices) (lines : List InputLine) → d.notes before.direction choices lines
+        → OnErr result (d.notes after.direction choices lines)
 
-  -- it has answered to the end of the input, and these lines are ready then, in the same words; by what is seen where a
-  -- good end hands out what is to be handed out after the lines
-  pub record EndIsAnswered (before : EngineParts D) (result : Result Step At) (ready : List (List ℕ))
+  -- it has taken the end of the input, and these lines are ready then. It has made the step of the end, which
+  -- hands out what is due after the lines that it has taken. It has found what there is in them
+  pub record TakesEnd (before : EngineParts D) (result : Result Step At) (ready : List (List ℕ))
       (after : EngineParts D) : Type 0 where
-    pub ends : HasClosed (d.closing before.direction) (state_end_with d.by_line (d.closing before.direction)
-        (engine_state before)) result ready (engine_state before) (engine_state after)
-    pub concludes : (lines : List InputLine) → engine_took before lines []
-        → Concludes (d.filter before.options) ready lines result
-    pub by_seen : (lines : List InputLine) → engine_seen before lines []
-        → d.closing before.direction ≡ d.closing_after before.options lines
-        → Concludes (d.filter before.options) ready lines result
-    pub found : (lines : List InputLine) → engine_took before lines []
-        → IfOk result (λ step. d.report_is after.direction lines)
-    pub repeated : (at : At) → (engine_state before).phase ≡ Ended at → result ≡ Err at
-    pub stays : EngineKeepsNotes before result after
+    pub goes : EngineGoes before
+    pub steps : step_made result ready (engine_state after)
+        ≡ state_end_with d.by_line (d.closing before.direction) (engine_state before)
+    pub closes : (lines : List InputLine)
+        → IsAfterLines d.chosen d.state_after_lines before.options lines (d.parts before.direction)
+        → d.notes before.direction before.options lines → (step_made result ready (engine_state after)
+        ≡ state_end_with d.by_line (d.closing_after before.options lines) (engine_state before))
+        × IfOk result (λ step. d.report_is after.direction lines)
+    pub stays : (choices : Choices) (lines : List InputLine) → d.notes before.direction choices lines
+        → OnErr result (d.notes after.direction choices lines)

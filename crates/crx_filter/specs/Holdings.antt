@@ -105,6 +105,7 @@ expanding_engine_with one other = record one {
 -- what a check has noted, with the parts of another
 abbrev pub noted_with : Noted → Noted → Noted
 noted_with one other = record one {
+  names = other.names;
   observed = other.observed;
   totals = other.totals;
   not_standard = other.not_standard;
@@ -115,7 +116,6 @@ noted_with one other = record one {
 abbrev pub checking_with : CheckingState → CheckingState → CheckingState
 checking_with one other = record one {
   reader = rinex_reader_with one.reader other.reader;
-  names = other.names;
   noted = noted_with one.noted other.noted;
   handed_out = other.handed_out;
 }
@@ -123,7 +123,6 @@ checking_with one other = record one {
 abbrev pub checking_inside_with : CheckingInside → CheckingInside → CheckingInside
 checking_inside_with one other = record one {
   reader = rinex_reader_with one.reader other.reader;
-  names = other.names;
   noted = noted_with one.noted other.noted;
   handed_out = other.handed_out;
 }

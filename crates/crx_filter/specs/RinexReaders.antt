@@ -18,7 +18,7 @@ use Rattle.crx_filter.specs.Rooms.{LackTypes}
 use Rattle.crx_filter.specs.declared.rinex_reader.RinexReader.{RinexReader}
 use Rattle.crx_filter.specs.declared.rinex_reader.RinexStep.{RinexStep}
 use Rattle.crx_filter.specs.declared.rinex_reader.RinexStep.TheVariants.{Nothing, Header, Event, Record}
-use Rattle.crx_filter.specs.declared.rinex_reader.RinexStep.TheVariants.{Begun, Row, Epoch}
+use Rattle.crx_filter.specs.declared.rinex_reader.RinexStep.TheVariants.{Begun}
 
 -- the epoch that a reader holds open
 abbrev pub epoch_open : RinexReader → Option OpenEpoch
@@ -48,9 +48,8 @@ pub record Completed (made : Made ObservationEpoch OpenEpoch)
   pub types_then : after.types ≡ types_after (reader_phase before) before.types unit
   pub closed : is_open_stage after.stage ≡ false
 
--- an epoch was completed with this line, and the reader has its parts
-pub record CompletedEpoch (made : Made ObservationEpoch OpenEpoch)
-    (line : List ℕ) (before after : RinexReader) : Type 0 where
+-- an epoch was completed, and the reader has its parts
+pub record CompletedEpoch (made : Made ObservationEpoch OpenEpoch) (before after : RinexReader) : Type 0 where
   pub head : ObservationHead
   pub held : after.head ≡ Some head
   pub is : Completed made (Observation (epoch_by_rows head after.rows.rows)) before after
@@ -63,27 +62,24 @@ pub record MovesReader (made : Made ObservationEpoch OpenEpoch) (before after : 
   pub goes_on : is_ended after.stage ≡ false
 
 -- the line of an epoch: the epoch is whole with it, or wants rows
-abbrev pub BeginsEpoch : Made ObservationEpoch OpenEpoch → List ℕ → RinexReader → RinexReader → Type 0
-BeginsEpoch made line before after = (after.rows.rows ≡ [])
+abbrev pub BeginsEpoch : Made ObservationEpoch OpenEpoch → RinexReader → RinexReader → Type 0
+BeginsEpoch made before after = (after.rows.rows ≡ [])
     × (((is_open_stage after.stage ≡ true) × MovesReader made before after)
-    ⊎ ((is_open_stage after.stage ≡ false) × CompletedEpoch made line before after))
+    ⊎ ((is_open_stage after.stage ≡ false) × CompletedEpoch made before after))
 
--- whether a line was a row of an epoch
-abbrev pub is_row : RinexStep → Bool
-is_row Row = true
-is_row Epoch = true
-is_row step = false
+-- a row was taken, which is the last one of its epoch or isn't
+abbrev pub TakesRow : Made ObservationEpoch OpenEpoch → Bool → RinexReader → RinexReader → Type 0
+TakesRow made true before after = CompletedEpoch made before after
+TakesRow made false before after = MovesReader made before after × (is_open_stage after.stage ≡ true)
 
--- what a step says of a line
+-- what a step says of a line that is no row
 abbrev pub TakesRinexLine : Made ObservationEpoch OpenEpoch → RinexReader → List ℕ → RinexStep → RinexReader → Type 0
 TakesRinexLine made before line Nothing after = MovesReader made before after × (is_open_stage after.stage ≡ false)
 TakesRinexLine made before line (Header is_first) after = Completed made (HeaderLine line) before after
     × (is_first ≡ is_before_header (reader_phase before))
 TakesRinexLine made before line Event after = Completed made (EventLine line) before after
 TakesRinexLine made before line Record after = Completed made (EventRecord line) before after
-TakesRinexLine made before line Begun after = BeginsEpoch made line before after
-TakesRinexLine made before line Row after = MovesReader made before after × (is_open_stage after.stage ≡ true)
-TakesRinexLine made before line Epoch after = CompletedEpoch made line before after
+TakesRinexLine made before line Begun after = BeginsEpoch made before after
 
 -- a fault is that of the line, or memory ran out at a line that may take some, since this was lacking: the reading of an
 -- epoch's line takes none
@@ -99,5 +95,4 @@ pub record ReadsRinexLine (before : RinexReader) (line : List ℕ) (result : Res
       → IfOk result (λ step. TakesRinexLine (made_at before line kept) before line step after)
   pub refuses : (kept : Written)
       → IfErr result (RefusesRinexLine (made_at before line kept) before line (LackTypes before.stage before.types))
-  pub steps : IfOk result (λ step. is_row step ≡ false)
   pub same : OnErr result (IsSameReader before after)

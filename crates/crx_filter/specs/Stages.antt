@@ -1,5 +1,10 @@
 -- The stage between two lines, as code stores it and as definitions see it.
-use Rattle.std.specs.Prelude.{⊤, Bool, true, false, Option, Some, None}
+use Rattle.std.specs.Prelude.{◌≡◌, ⊤, ℕ, Bool, true, false, List, Option, Some, None}
+use Rattle.crx_compact.specs.OpenEpochs.{OpenRawEpoch}
+use Rattle.crx_rinex.specs.meaning.EpochLines.{ObservationHead}
+use Rattle.crx_rinex.specs.meaning.EpochPlaces.{OpenEpoch}
+use Rattle.crx_rinex.specs.meaning.Observations.{Row}
+use Rattle.crx_filter.specs.RinexStages.{is_open_stage, is_rinex_stage}
 use Rattle.crx_filter.specs.LineByLine.{Phase as RunPhase, InFirstLines, InHeader, BetweenUnits, InEvent, InEpoch}
 use Rattle.crx_filter.specs.LineByLine.{LookingOn, Closed as RunClosed, Ended as RunEnded}
 use Rattle.crx_filter.specs.declared.stage.Stage.{Stage}
@@ -49,3 +54,12 @@ is_settled Looking = true
 is_settled Closed = true
 is_settled (Ended at) = true
 is_settled stage = false
+
+-- a stage in which no epoch is open: where it is in RINEX, and where in compact text
+pub record IsClosedStage (stage : Stage) (rinex : RunPhase OpenEpoch) (compact : RunPhase OpenRawEpoch) : Type
+    0 where
+  pub rinex_phase : (held : Option OpenEpoch) → phase_of_stage held stage ≡ rinex
+  pub compact_phase : (held : Option OpenRawEpoch) → phase_of_stage held stage ≡ compact
+  pub consistent : (head : Option ObservationHead) (count : ℕ) (rows : List Row)
+      → is_rinex_stage stage head count rows ≡ true
+  pub closed : is_open_stage stage ≡ false

@@ -1,35 +1,32 @@
 //! The check of a RINEX file, line by line: what a line adds to what is found.
 
-ghost use Rattle.std.specs.Prelude.{◌≡◌, ◌≤◌, ◌<◌, ◌+◌, ◌++◌, ◌∷◌, ℕ, List, [], true, false, length, OnErr, OnOk, IfErr, IfOk};
-ghost use Rattle.crx_base.specs.declared.limits.TheConstants.{INPUT_LIMIT, SATELLITES_LIMIT};
-ghost use Rattle.crx_base.specs.Padded.{line_in};
+ghost use Rattle.std.specs.Option.{is_some};
+ghost use Rattle.std.specs.Prelude.{◌≡◌, ◌<◌, ◌+◌, ℕ, List, [], true, false};
+ghost use Rattle.crx_base.specs.declared.limits.TheConstants.{INPUT_LIMIT};
 ghost use Rattle.crx_lines.specs.Reading.{line_number, line_shown};
-ghost use Rattle.crx_header.specs.Identifiers.{has_identifier};
-ghost use Rattle.crx_rinex.specs.Printing.{last_line};
 ghost use Rattle.crx_rinex.specs.meaning.EpochPlaces.{OpenEpoch};
 ghost use Rattle.crx_rinex.specs.meaning.Observations.{Epoch as ObservationEpoch};
-ghost use Rattle.crx_filter.specs.CheckByLine.{Totals as TotalsNoted, check_by_line, check_reading, earliest, no_choices, printed_made, totals_made};
-ghost use Rattle.crx_filter.specs.CheckingParts.{AreNamed};
-ghost use Rattle.crx_filter.specs.CompactionByLine.{is_before_header, Written};
-ghost use Rattle.crx_filter.specs.LineByLine.{Made, Rejects};
-ghost use Rattle.crx_filter.specs.RinexReaders.{is_row, made_at, reader_phase, IsSameReader, TakesRinexLine};
-ghost use Rattle.crx_filter.specs.RinexStages.{is_open_stage};
-ghost use Rattle.crx_filter.specs.Totals.{AreBounded, HasPrinted, IsCounting, IsObserved, LastRowIsReadFrom, totals_held};
-ghost use Rattle.crx_filter.specs.meaning.Standard.{is_standard_line};
+ghost use Rattle.crx_filter.specs.CheckByLine.{Totals as TotalsNoted, check_by_line, check_reading, no_choices};
+ghost use Rattle.crx_filter.specs.CheckingParts.{IsFresh, NotesLine};
+ghost use Rattle.crx_filter.specs.CompactionByLine.{is_before_header};
+ghost use Rattle.crx_filter.specs.LineByLine.{Made};
+ghost use Rattle.crx_filter.specs.RinexReaders.{reader_phase, TakesRinexLine, TakesRow};
+ghost use Rattle.crx_filter.specs.Totals.{IsBehindARow, IsObserved};
 ghost use Rattle.crx_filter.specs.declared.rinex_reader.RinexReader.{RinexReader};
 ghost use Rattle.crx_filter.specs.declared.rinex_reader.RinexStep.{RinexStep};
 
 use crate::direction::Direction;
 use crate::engine::LineEngine;
 use crate::lender::Lender;
-use crate::report::{REPORT_LINES, Totals, print_report_line};
+use crate::report::{REPORT_LINES, print_report_line};
 use crate::rinex_reader::{RinexReader, RinexStep};
 use crate::stage::Stage;
-use crate::totals::{counted, is_given_back};
+use crate::totals::Totals;
 use crx_base::limits::VERSION_WIDTH;
-use crx_base::{Fault, Options, Padded};
-use crx_header::Identifiers;
+use crx_base::{Fault, Options};
+use crx_header::{Identifiers, padded};
 use crx_lines::Line;
+use crx_rinex::{has_printed_form, print_head};
 use crx_runs::HandedOut;
 use crx_text::Text;
 use std::alloc::{AllocError, Global};
@@ -38,7 +35,9 @@ use std::marker::Model;
 /// What a check has noted of the lines so far.
 #[derive(Drop)]
 pub struct Noted {
-    /// How many observations the rows have that have come of the epoch that was begun last.
+    /// The identifiers of the rows that have come of the epoch that was begun last.
+    names: Identifiers,
+    /// How many observations they have.
     observed: u64,
     totals: Totals,
     /// The number of the first line that isn't standard.
@@ -51,8 +50,6 @@ pub struct Noted {
 #[derive(Drop)]
 pub struct Checking {
     reader: RinexReader,
-    /// The identifiers of the open epoch's rows.
-    names: Identifiers,
     noted: Noted,
     /// How many lines of the report were handed out; all before the end.
     handed_out: usize,
@@ -68,42 +65,80 @@ impl Model for Checking {
 
     ghost Value = { CheckingState };
 
-    ghost view = { λ c. record { reader = c.reader; names = c.names; noted = c.noted; handed_out = c.handed_out } };
+    ghost view = { λ c. record { reader = c.reader; noted = c.noted; handed_out = c.handed_out } };
 
-    ghost invariant = { λ c. AreCounted c.reader c.names c.noted };
+    ghost invariant = { λ c. AreCounted c.reader c.noted };
 }
 
 impl Noted {
-    /// Notes a line that the reader has taken: what it adds to the totals, and whether it is standard.
+    /// Notes a row that the reader has taken, its epoch's last one or another.
     #[inline(always)]
-    #[tactic(auto, using(crate::proofs::Checkers::has_row))]
-    fn note(&mut self, reader: &RinexReader, step: RinexStep, line: Line<'_>)
-        requires bounded { AreBounded self.old.totals (self.old.totals.epochs + self.old.totals.events) }
+    fn note_row(&mut self, reader: &RinexReader, is_last: bool, line: Line<'_>)
+        requires behind { IsBehindARow self.old.observed (line_shown line).content reader.now }
         requires within { self.old.totals.epochs + self.old.totals.events < INPUT_LIMIT }
-        requires observed { IsCounting step self.old.observed reader.now }
-        requires read { is_row step ≡ true → LastRowIsReadFrom (line_shown line).content reader.now }
-        ensures totals { (before : RinexReader) (made : Made ObservationEpoch OpenEpoch)
-            → TakesRinexLine made before (line_shown line.entry).content step reader.now
-            → totals_held self.new.totals ≡ totals_made
-            (totals_held self.old.totals) (is_before_header (reader_phase before)) made }
-        ensures standard { (before : RinexReader) (made : Made ObservationEpoch OpenEpoch)
-            → TakesRinexLine made before (line_shown line.entry).content step reader.now → HasPrinted made
-            → self.new.not_standard ≡ earliest self.old.not_standard (is_standard_line
-            (line_shown line.entry) (last_line (printed_made made))) (line_number line.entry) }
-        ensures observed { (before : RinexReader) (made : Made ObservationEpoch OpenEpoch)
-            → TakesRinexLine made before (line_shown line.entry).content step reader.now
-            → is_open_stage reader.now.stage ≡ true → IsObserved self.new.observed reader.now.rows.rows }
-        ensures bounded { AreBounded self.new.totals (self.new.totals.epochs + self.new.totals.events) }
-        ensures count { self.new.totals.epochs + self.new.totals.events
-            ≤ self.old.totals.epochs + self.old.totals.events + 1 }
+        ensures observed { IsObserved self.new.observed reader.now.rows.rows }
+        ensures names { self.new.names ≡ self.old.names }
+        ensures notes { (before : RinexReader) (made : Made ObservationEpoch OpenEpoch)
+            → TakesRow made is_last before reader.now
+            → NotesLine made (is_before_header (reader_phase before)) (line_shown line.entry) (line_number line.entry)
+            self.old self.new }
     {
-        self.observed = observed_with(self.observed, reader, step);
-        self.totals = counted(self.totals, reader, step, self.observed, line.bytes());
-        if self.not_standard.is_none()
-            && !(line.plain() && is_given_back(reader, step, line.bytes(), &mut self.text))
-        {
-            self.not_standard = Some(line.number());
+        self.observed += reader.row.observations() as u64;
+        if is_last {
+            self.totals.epochs += 1;
+            self.totals.observations += self.observed;
         }
+        if self.not_standard.is_some() {
+            return;
+        }
+        if line.plain() & has_printed_form(line.bytes()) {
+            return;
+        }
+        reader.row.print(&mut self.text);
+        if line.plain() & (line.bytes() == self.text.bytes()) {
+            return;
+        }
+        self.not_standard = Some(line.number());
+    }
+
+    /// Notes a line that the reader has taken and that is no row, by what it is; those that aren't of epochs
+    /// are copied.
+    fn note(&mut self, reader: &RinexReader, step: RinexStep, line: Line<'_>)
+        requires within { self.old.totals.epochs + self.old.totals.events < INPUT_LIMIT }
+        requires held { step ≡ RinexStep.Begun → is_some reader.now.head ≡ true }
+        ensures begun { step ≡ RinexStep.Begun → IsFresh self.new }
+        ensures notes { (before : RinexReader) (made : Made ObservationEpoch OpenEpoch)
+            → TakesRinexLine made before (line_shown line.entry).content step reader.now
+            → NotesLine made (is_before_header (reader_phase before)) (line_shown line.entry) (line_number line.entry)
+            self.old self.new }
+    {
+        let is_given_back = match step {
+            RinexStep::Header { is_first: true } => {
+                self.totals.version = padded(line.bytes(), 1);
+                true
+            }
+            RinexStep::Event => {
+                self.totals.events += 1;
+                true
+            }
+            RinexStep::Begun => {
+                let Some(head) = &reader.head else {
+                    unreachable!()
+                };
+                self.names = Identifiers::new();
+                self.observed = 0;
+                if !reader.stage.is_in_epoch() {
+                    self.totals.epochs += 1;
+                }
+                print_head(head, &mut self.text);
+                line.bytes() == self.text.bytes()
+            }
+            RinexStep::Header { is_first: false } | RinexStep::Record | RinexStep::Nothing => true,
+        };
+        if self.not_standard.is_some() | (line.plain() & is_given_back) {
+            return;
+        }
+        self.not_standard = Some(line.number());
     }
 }
 
@@ -114,54 +149,6 @@ pub fn no_options() -> Options
     match Options::new(None, false, b"") {
         Ok(options) => options,
         Err(_) => unreachable!(),
-    }
-}
-
-/// Takes a line of an open epoch, for which no memory is asked.
-#[inline(always)]
-fn take_row(
-    reader: &mut RinexReader,
-    names: &mut Identifiers,
-    line: Padded<'_>,
-) -> Result<RinexStep, Fault>
-    requires open { is_open_stage reader.old.stage ≡ true }
-    requires named { AreNamed names.old reader.old.rows.rows }
-    ensures takes { (kept : Written) → IfOk result (λ step. TakesRinexLine
-        (made_at reader.old (line_in line.entry) kept) reader.old (line_in line.entry) step reader.new) }
-    ensures refused { (kept : Written) → IfErr result
-        (λ fault. made_at reader.old (line_in line.entry) kept ≡ Rejects fault) }
-    ensures steps { IfOk result (λ step. is_row step ≡ true) }
-    ensures same { OnErr result (IsSameReader reader.old reader.new) }
-    ensures named { is_open_stage reader.new.stage ≡ true → AreNamed names.new reader.new.rows.rows }
-    ensures read { OnOk result (LastRowIsReadFrom (line_in line.entry) reader.new) }
-    ensures rows { OnOk result (reader.new.rows.rows ≡ reader.old.rows.rows ++ reader.new.row ∷ []) }
-{
-    reader.read_row(line)?;
-    if names.put(*reader.row.name()) {
-        return Ok(reader.take_row());
-    }
-    Err(Fault::RepeatedSatellite)
-}
-
-/// Where a line has begun an epoch, no satellite of it has come.
-fn clear_if_begun(names: &mut Identifiers, step: RinexStep)
-    ensures empty { step ≡ RinexStep.Begun → (name : List ℕ) → has_identifier names.new name ≡ false }
-{
-    if let RinexStep::Begun = step {
-        *names = Identifiers::new();
-    }
-}
-
-/// How many observations the rows of the epoch have, with those of a line that was taken.
-fn observed_with(observed: u64, reader: &RinexReader, step: RinexStep) -> u64
-    requires counting { IsCounting step observed reader.now }
-    ensures begun { step ≡ RinexStep.Begun → IsObserved result reader.now.rows.rows }
-    ensures row { is_row step ≡ true → IsObserved result reader.now.rows.rows }
-{
-    match step {
-        RinexStep::Begun => 0,
-        RinexStep::Row | RinexStep::Epoch => observed + reader.row.observations() as u64,
-        _ => observed,
     }
 }
 
@@ -216,8 +203,8 @@ impl Direction for Checking {
     fn new(alloc: Global) -> Result<Checking, AllocError> {
         Ok(Checking {
             reader: RinexReader::new(alloc),
-            names: Identifiers::new(),
             noted: Noted {
+                names: Identifiers::new(),
                 observed: 0,
                 totals: Totals {
                     version: [b' '; VERSION_WIDTH],
@@ -239,14 +226,17 @@ impl Direction for Checking {
 
     #[inline(always)]
     fn take_in_epoch(&mut self, line: Line<'_>) -> Result<bool, Fault> {
-        let step = take_row(&mut self.reader, &mut self.names, line.padded())?;
-        self.noted.note(&self.reader, step, line);
+        self.reader.read_row(line.padded())?;
+        if !self.noted.names.put(*self.reader.row.name()) {
+            return Err(Fault::RepeatedSatellite);
+        }
+        let is_last = self.reader.take_row();
+        self.noted.note_row(&self.reader, is_last, line);
         Ok(false)
     }
 
     fn take_elsewhere(&mut self, _options: &Options, line: Line<'_>) -> Result<HandedOut, Fault> {
         let step = self.reader.take(line.bytes())?;
-        clear_if_begun(&mut self.names, step);
         self.noted.note(&self.reader, step, line);
         Ok(HandedOut::Nothing)
     }

@@ -1,13 +1,11 @@
 //! The check of a RINEX file.
 
-ghost use Rattle.std.specs.Prelude.{◌≡◌, None, Some};
-ghost use Rattle.crx_base.specs.declared.fault.At.{At};
 ghost use Rattle.crx_filter.specs.meaning.Directions.{check_filter};
 ghost use Rattle.crx_filter.specs.meaning.Lossless.{SaysThatItComesBack, WritesOutputOf};
 ghost use Rattle.crx_filter.specs.meaning.Promises.{JudgesStandard, Keeps, KeepsPromise};
 ghost use Rattle.crx_runs.specs.meaning.Runs.{HasRun, ran_over};
 ghost use Rattle.crx_runs.specs.meaning.Spans.{reader_span, span};
-ghost use Rattle.crx_filter.specs.meaning.Standard.{checked, report_status};
+ghost use Rattle.crx_filter.specs.meaning.Standard.{checked};
 
 use crate::checking::{Checking, no_options};
 use crate::engine::LineEngine;
@@ -16,23 +14,6 @@ use crx_runs::Outcome;
 use crx_runs::run::run;
 use crx_runs::start::start;
 use std::alloc::Global;
-
-/// What a check answers: where no fault ended it, the status says whether the file is standard.
-fn outcome_of_check(outcome: Outcome, not_standard: Option<u64>) -> Outcome
-    ensures fault { result.fault ≡ outcome.fault }
-    ensures good { outcome.fault ≡ None → result.status ≡ report_status not_standard }
-    ensures bad { (at : At) → outcome.fault ≡ Some at → result.status ≡ outcome.status }
-{
-    let status = match (outcome.fault, not_standard) {
-        (None, None) => 0,
-        (None, Some(_)) => 2,
-        (Some(_), _) => outcome.status,
-    };
-    Outcome {
-        status,
-        fault: outcome.fault,
-    }
-}
 
 /// Checks a RINEX file: writes its report once the whole input is accepted, and else reports the fault that
 /// ended the check. The status is 0 where the file is standard, 2 where it isn't, and 1 after a fault: one of
@@ -59,8 +40,14 @@ pub fn check<R: Source, W: Sink, M: Sink>(
 {
     match LineEngine::<Checking>::new(alloc, no_options()) {
         Ok(mut engine) => {
-            let outcome = run(alloc, &mut engine, reader, writer, messages);
-            outcome_of_check(outcome, engine.not_standard())
+            let Outcome { status, fault } = run(alloc, &mut engine, reader, writer, messages);
+            // Where no fault has ended it, the status says whether the file is standard.
+            let status = match (fault, engine.not_standard()) {
+                (None, None) => 0,
+                (None, Some(_)) => 2,
+                (Some(_), _) => status,
+            };
+            Outcome { status, fault }
         }
         Err(error) => start::<LineEngine<Checking>, R, W, M>(
             alloc,

@@ -1,63 +1,40 @@
 //! Compact RINEX 3.0, one line at a time: what each line is, the observation types in force, and the epoch
 //! whose lines come.
 
-ghost use Rattle.std.specs.Prelude.{◌≡◌, ◌≢◌, ◌≤◌, ◌⊎◌, if◌then◌else◌, [], None, true, false, length, IfErr, IfOk};
+ghost use Rattle.std.specs.Prelude.{◌≡◌, ◌≢◌, ◌≤◌, ◌⊎◌, if◌then◌else◌, [], true, false, length};
 ghost use Rattle.crx_base.specs.declared.limits.TheConstants.{LINE_LIMIT};
-ghost use Rattle.crx_base.specs.meaning.Choices.{Choices};
-ghost use Rattle.crx_compact.specs.OpenEpochs.ColumnsState.{Idle};
 ghost use Rattle.crx_compact.specs.Blocks.{PendingLines};
 ghost use Rattle.crx_compact.specs.PrintedBlocks.{ArePrinted};
 ghost use Rattle.crx_header.specs.meaning.EpochColumns.{begins_epoch};
 ghost use Rattle.crx_filter.specs.CompactStages.{is_compact_stage};
-ghost use Rattle.crx_filter.specs.EpochRooms.{HaveHeldRoom, KeepsRoomInColumns};
+ghost use Rattle.crx_filter.specs.EpochRooms.{KeepsRoomInColumns};
 ghost use Rattle.crx_filter.specs.RinexStages.{is_open_stage};
-ghost use Rattle.crx_filter.specs.Stages.{is_ended, is_settled};
+ghost use Rattle.crx_filter.specs.Stages.{is_ended};
 ghost use Rattle.crx_filter.specs.declared.stage.Stage.{Stage};
 ghost use Rattle.crx_filter.specs.declared.stage.Stage.TheVariants.{Between, Looking, Open};
 
-use crate::first_lines::{check_program, check_version};
-use crate::stage::{Stage, after_header_line, counts_types, with_records_left};
+use crate::stage::{Stage, counts_types, with_records_left};
 use crate::types_lines::{accept_header_line, accept_record};
 use crx_base::{Fault, Padded};
 use crx_compact::{Block, Columns};
-use crx_header::Types;
+use crx_header::crinex::{CRINEX_PROGRAM_LABEL, CRINEX_VERSION, CRINEX_VERSION_LABEL};
 use crx_header::epoch_columns::records_in;
+use crx_header::{Types, is_labelled};
 use crx_rinex::{begins_epoch, is_event_line};
-use std::alloc::{AllocError, Global};
+use crx_text::columns::trimmed;
 
 /// Reads compact text one line at a time.
 #[derive(Drop)]
 pub struct CompactReader {
     pub stage: Stage,
-    types: Types,
+    pub(crate) types: Types,
     pub(crate) columns: Box<Columns>,
     ghost consistent: { is_compact_stage stage columns.value.state ≡ true },
 }
 
 impl CompactReader {
     ghost use Rattle.crx_base.specs.Padded.{line_in};
-    ghost use Rattle.crx_filter.specs.CompactReaders.{ReadsCompactLine, compact_reader_parts, line_copied};
-    ghost use Rattle.crx_filter.specs.DirectionParts.{state_by};
-    ghost use Rattle.crx_filter.specs.ExpansionByLine.{expansion_state};
-
-    /// A reader before the first line. Its columns are made where they stay; `AllocError` comes where there
-    /// is no memory for them.
-    pub fn new(alloc: Global) -> Result<CompactReader, AllocError>
-        ensures start { (choices : Choices) → IfOk result (λ r. state_by choices 0 (compact_reader_parts r)
-            ≡ expansion_state choices []) }
-        ensures closed { IfOk result (λ r. is_open_stage r.stage ≡ false) }
-        ensures held { IfOk result (λ r. HaveHeldRoom r.columns.value) }
-    {
-        // What `?` keeps of a refusal, columns in full, would be filled with zeros twice.
-        let Ok(columns) = Box::new(alloc, Columns::new(alloc)) else {
-            return Err(AllocError);
-        };
-        Ok(CompactReader {
-            stage: Stage::FirstLines { count: 0 },
-            types: Types::new(alloc),
-            columns,
-        })
-    }
+    ghost use Rattle.crx_filter.specs.CompactReaders.{ReadsCompactLine, line_copied};
 
     /// Takes a line of the epoch that is open. `true` says that it is the last one, and that the lines of the
     /// epoch are ready.
@@ -107,19 +84,24 @@ impl CompactReader {
     {
         match self.stage {
             Stage::FirstLines { count: 0 } => {
-                check_version(line)?;
+                if trimmed(line, 1, 20) != CRINEX_VERSION.as_slice()
+                    || !is_labelled(line, &CRINEX_VERSION_LABEL)
+                {
+                    return Err(Fault::NotCompact);
+                }
                 self.stage = Stage::FirstLines { count: 1 };
                 Ok(false)
             }
             Stage::FirstLines { .. } => {
-                check_program(line)?;
+                if !is_labelled(line, &CRINEX_PROGRAM_LABEL) {
+                    return Err(Fault::BadProgLine);
+                }
                 self.stage = Stage::Header { is_first: true };
                 Ok(false)
             }
             Stage::Header { is_first } => {
-                accept_header_line(&mut self.types, is_first, line)?;
+                self.stage = accept_header_line(&mut self.types, is_first, line)?;
                 self.columns.reset();
-                self.stage = after_header_line(line);
                 Ok(true)
             }
             Stage::Event { left, counted } => {
@@ -129,13 +111,8 @@ impl CompactReader {
                 self.stage = with_records_left(left.saturating_sub(1), counted);
                 Ok(true)
             }
-            Stage::Between => self.begin(line),
-            Stage::Looking => {
-                if begins_epoch(line) {
-                    return self.begin(line);
-                }
-                Ok(false)
-            }
+            Stage::Looking if !begins_epoch(line) => Ok(false),
+            Stage::Between | Stage::Looking => self.begin(line),
             Stage::Closed => Ok(false),
             Stage::Open | Stage::Ended(_) => unreachable!(),
         }
@@ -162,16 +139,5 @@ impl CompactReader {
         self.columns.begin(&self.types, line)?;
         self.stage = Stage::Open;
         Ok(false)
-    }
-
-    /// Goes to the stage after a fault, where no epoch is open, and empties the columns.
-    pub fn end_with(&mut self, stage: Stage)
-        requires settled { is_settled stage ≡ true }
-        ensures stage { self.new.stage ≡ stage }
-        ensures types { self.new.types ≡ self.old.types }
-        ensures emptied { self.new.columns.value ≡ record self.old.columns.value { state = Idle None } }
-    {
-        self.columns.reset();
-        self.stage = stage;
     }
 }

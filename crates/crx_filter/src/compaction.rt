@@ -79,18 +79,14 @@ fn take_row(
 {
     reader.read_row(line)?;
     match encoder.encode_row(&reader.row) {
-        Ok(true) => {}
-        Ok(false) => return Err(Fault::RepeatedSatellite),
+        Ok(true) => Ok(reader.take_row()),
+        Ok(false) => Err(Fault::RepeatedSatellite),
         Err(_) => {
             // The encoder has forgotten the open epoch.
             reader.stage = Stage::Looking;
-            return Err(Fault::OutOfMemory);
+            Err(Fault::OutOfMemory)
         }
     }
-    if let RinexStep::Row = reader.take_row() {
-        return Ok(false);
-    }
-    Ok(true)
 }
 
 /// Makes the compact lines of an epoch whose rows have all come.
@@ -194,12 +190,8 @@ impl Direction for Compaction {
                 self.index += 1;
                 Ok(HandedOut::Lines)
             }
-            RinexStep::Header { is_first } => {
-                if is_first {
-                    self.encoder.put_first_lines(options.date());
-                    return Ok(HandedOut::AsItIs);
-                }
-                self.encoder.reset();
+            RinexStep::Header { is_first: true } => {
+                self.encoder.put_first_lines(options.date());
                 Ok(HandedOut::AsItIs)
             }
             _ => {

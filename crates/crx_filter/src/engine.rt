@@ -39,17 +39,18 @@ impl<D: Direction> Model for LineEngine<D> {
 impl<D: Direction> LineEngine<D> {
     ghost use Rattle.std.specs.Prelude.{◌+◌, List, [], length, OnErr, IfOk, false};
     ghost use Rattle.crx_base.specs.Padded.{line_in};
-    ghost use Rattle.crx_base.specs.meaning.AsRead.{Overlong};
+    ghost use Rattle.crx_base.specs.meaning.AsRead.{Content, Overlong};
     ghost use Rattle.crx_base.specs.meaning.Choices.{Choices};
     ghost use Rattle.crx_base.specs.meaning.Lines.{InputLine, is_long};
     ghost use Rattle.crx_lines.specs.Reading.{line_number, line_shown};
     ghost use Rattle.crx_filter.specs.DirectionParts.{AnswersToFault};
-    ghost use Rattle.crx_filter.specs.EngineState.{EndIsAnswered, EngineGoes, EngineKeepsNotes, EngineReads, EngineSkips, LineIsAnswered, engine_ready, engine_state};
-    ghost use Rattle.crx_filter.specs.LineByLine.{may_skip};
+    ghost use Rattle.crx_filter.specs.EngineState.{TakesEnd, TakesLine, engine_ready, engine_state};
+    ghost use Rattle.crx_filter.specs.EngineSteps.{step_made};
+    ghost use Rattle.crx_filter.specs.LineByLine.{may_skip, state_next};
     ghost use Rattle.crx_filter.specs.RinexStages.{is_open_stage};
     ghost use Rattle.crx_filter.specs.Stages.{bare_phase};
     ghost use Rattle.crx_filter.specs.declared.stage.Stage.{Stage};
-    ghost use Rattle.crx_runs.specs.Engines.{IsNextLine, Stays, answer_given};
+    ghost use Rattle.crx_runs.specs.Engines.{IsNextLine, Stays, answer_given, lines_handed_out};
 
     /// An engine before the first line of its input; `AllocError` comes where there is no memory for what its
     /// direction begins with.
@@ -104,9 +105,9 @@ impl<D: Direction> LineEngine<D> {
     #[inline(always)]
     pub(crate) fn answer_line(&mut self, line: Line<'_>) -> Option<HandedOut>
         requires next { IsNextLine (engine_ready D.Direction self.old) self.old.number (line_number line) }
-        ensures reads { EngineReads D.Direction self.old (line_shown line.entry) result self.new }
-        ensures goes { EngineGoes D.Direction self.old }
-        ensures stays { EngineKeepsNotes D.Direction self.old (answer_given result self.new.answer) self.new }
+        ensures takes { TakesLine D.Direction self.old (line_shown line.entry) (Content (line_shown line.entry).content)
+            (answer_given result self.new.answer) (lines_handed_out result (line_shown line.entry).content
+            (engine_ready D.Direction self.new)) self.new }
     {
         let Stage::Open = self.direction.stage() else {
             return self.take_between(line.padded(), line.number(), line.plain());
@@ -136,9 +137,9 @@ impl<D: Direction> LineEngine<D> {
         requires closed { is_open_stage (D.parts self.old.direction).stage ≡ false }
         requires short { length (line_in content) ≤ LINE_LIMIT }
         requires next { IsNextLine (engine_ready D.Direction self.old) self.old.number number }
-        ensures reads { EngineReads D.Direction self.old
-            (record { content = line_in content.entry; is_plain = is_plain }) result self.new }
-        ensures stays { EngineKeepsNotes D.Direction self.old (answer_given result self.new.answer) self.new }
+        ensures takes { TakesLine D.Direction self.old (record { content = line_in content.entry; is_plain = is_plain })
+            (Content (line_in content.entry)) (answer_given result self.new.answer)
+            (lines_handed_out result (line_in content.entry) (engine_ready D.Direction self.new)) self.new }
     {
         let line = Line::of(content, number, is_plain);
         let stage = self.direction.stage();
@@ -164,10 +165,11 @@ impl<D: Direction> LineEngine<D> {
     /// begins with `>` is looked for: then it is passed over.
     pub(crate) fn overlong(&mut self, number: u64) -> Result<Step, At>
         requires next { IsNextLine (engine_ready D.Direction self.old) self.old.number number }
-        ensures stops { EngineSkips D.Direction self.old result (engine_ready D.Direction self.new) self.new }
-        ensures answers { (line : InputLine) → is_long line ≡ true
-            → LineIsAnswered D.Direction self.old line Overlong result (engine_ready D.Direction self.new) self.new }
-        ensures stays { EngineKeepsNotes D.Direction self.old result self.new }
+        ensures steps { step_made result [] (engine_state D.Direction self.new)
+            ≡ state_next D.by_line (engine_state D.Direction self.old) Overlong }
+        ensures drained { engine_ready D.Direction self.new ≡ [] }
+        ensures takes { (line : InputLine) → is_long line ≡ true
+            → TakesLine D.Direction self.old line Overlong result [] self.new }
         ensures once { IfOk result Stays }
     {
         let stage = self.direction.stage();
@@ -187,7 +189,7 @@ impl<D: Direction> LineEngine<D> {
     /// a check does.
     pub(crate) fn end(&mut self) -> Result<Step, At>
         requires drained { engine_ready D.Direction self.old ≡ [] }
-        ensures answers { EndIsAnswered D.Direction self.old result (engine_ready D.Direction self.new) self.new }
+        ensures takes { TakesEnd D.Direction self.old result (engine_ready D.Direction self.new) self.new }
     {
         let stage = self.direction.stage();
         if let Stage::Ended(at) = stage {

@@ -5,7 +5,8 @@ use crate::direction::Direction;
 use crate::lender::Lender;
 use crate::stage::Stage;
 use crx_base::{Fault, Options};
-use crx_compact::Block;
+use crx_compact::{Block, Columns};
+use crx_header::Types;
 use crx_lines::Line;
 use crx_runs::HandedOut;
 use std::alloc::{AllocError, Global};
@@ -103,7 +104,15 @@ impl Direction for Expansion {
 
     fn new(alloc: Global) -> Result<Expansion, AllocError> {
         let lines = Block::new(alloc)?;
-        let reader = CompactReader::new(alloc)?;
+        // What `?` keeps of a refusal, columns in full, would be filled with zeros twice.
+        let Ok(columns) = Box::new(alloc, Columns::new(alloc)) else {
+            return Err(AllocError);
+        };
+        let reader = CompactReader {
+            stage: Stage::FirstLines { count: 0 },
+            types: Types::new(alloc),
+            columns,
+        };
         Ok(Expansion { reader, lines })
     }
 
@@ -126,7 +135,9 @@ impl Direction for Expansion {
 
     fn end_with(&mut self, stage: Stage) {
         self.lines.clear();
-        self.reader.end_with(stage);
+        let reader = &mut self.reader;
+        reader.columns.reset();
+        reader.stage = stage;
     }
 
     fn conclude(&mut self) -> bool {

@@ -42,7 +42,9 @@ impl<D: Direction> Lender<D> {
     ghost use Rattle.crx_base.specs.meaning.Choices.{Choices};
     ghost use Rattle.crx_base.specs.meaning.Lines.{InputLine, is_long};
     ghost use Rattle.crx_lines.specs.Reading.{line_number, line_shown};
-    ghost use Rattle.crx_filter.specs.EngineState.{EndIsAnswered, EngineKeepsNotes, EngineSkips, LineIsAnswered};
+    ghost use Rattle.crx_filter.specs.EngineState.{TakesEnd, TakesLine};
+    ghost use Rattle.crx_filter.specs.EngineSteps.{step_made};
+    ghost use Rattle.crx_filter.specs.LineByLine.{state_next};
     ghost use Rattle.crx_filter.specs.LenderState.{lender_ready, lender_state};
     ghost use Rattle.crx_filter.specs.contracts.lender.Lender.{the_row};
     ghost use Rattle.crx_runs.specs.Engines.{IsNextLine};
@@ -66,10 +68,11 @@ impl<D: Direction> Lender<D> {
     /// line that begins with `>` is looked for: then it is passed over.
     pub fn overlong(&mut self, number: u64) -> Result<Step, At>
         requires next { IsNextLine (lender_ready D.Direction self.old) self.old.engine.number number }
-        ensures stops { EngineSkips D.Direction self.old.engine result (lender_ready D.Direction self.new) self.new.engine }
-        ensures answers { (line : InputLine) → is_long line ≡ true → LineIsAnswered D.Direction self.old.engine line
-            Overlong result (lender_ready D.Direction self.new) self.new.engine }
-        ensures stays { EngineKeepsNotes D.Direction self.old.engine result self.new.engine }
+        ensures steps { step_made result [] (lender_state D.Direction self.new)
+            ≡ state_next D.by_line (lender_state D.Direction self.old) Overlong }
+        ensures drained { lender_ready D.Direction self.new ≡ [] }
+        ensures takes { (line : InputLine) → is_long line ≡ true
+            → TakesLine D.Direction self.old.engine line Overlong result [] self.new.engine }
     {
         self.engine.overlong(number)
     }
@@ -79,8 +82,7 @@ impl<D: Direction> Lender<D> {
     /// ended the run.
     pub fn end(&mut self) -> Result<Step, At>
         requires drained { lender_ready D.Direction self.old ≡ [] }
-        ensures answers { EndIsAnswered D.Direction self.old.engine result (lender_ready D.Direction self.new)
-            self.new.engine }
+        ensures takes { TakesEnd D.Direction self.old.engine result (lender_ready D.Direction self.new) self.new.engine }
     {
         self.engine.end()
     }
@@ -91,9 +93,8 @@ impl<D: Direction> Lender<D> {
     /// call answers the same, and no line is ready.
     pub fn feed(&mut self, line: Line<'_>) -> Result<Step, At>
         requires next { IsNextLine (lender_ready D.Direction self.old) self.old.engine.number (line_number line) }
-        ensures answers { LineIsAnswered D.Direction self.old.engine (line_shown line.entry) (Content
+        ensures takes { TakesLine D.Direction self.old.engine (line_shown line.entry) (Content
             (line_shown line.entry).content) result (lender_ready D.Direction self.new) self.new.engine }
-        ensures stays { EngineKeepsNotes D.Direction self.old.engine result self.new.engine }
     {
         match self.engine.answer_line(line) {
             None => crx_runs::Engine::answer(&self.engine),

@@ -10,7 +10,6 @@ pub mod direction;
 pub mod engine;
 pub mod expansion;
 mod filters;
-pub mod first_lines;
 pub mod laws;
 pub mod lender;
 pub mod report;

@@ -5,6 +5,7 @@ ghost use Rattle.std.specs.List.{flat_map};
 ghost use Rattle.crx_filter.specs.meaning.Standard.{standard_text, systems_text, count_text, report_lines};
 ghost use Rattle.crx_filter.specs.Totals.{found_held};
 
+use crate::totals::Totals;
 use crx_base::limits::VERSION_WIDTH;
 use crx_header::Types;
 use crx_rinex::Epoch;
@@ -15,19 +16,6 @@ use itoa::Buffer;
 
 /// How many lines a report has.
 pub const REPORT_LINES: usize = 6;
-
-/// What a check counts.
-#[derive(Clone, Copy)]
-pub struct Totals {
-    /// Columns 1 to 9 of the header's first line, blanks before it.
-    pub version: [u8; VERSION_WIDTH],
-    /// How many observation epochs were accepted.
-    pub epochs: u64,
-    /// How many events were accepted.
-    pub events: u64,
-    /// How many observations were accepted.
-    pub observations: u64,
-}
 
 /// Replaces a text by a word and a number.
 fn put_count(text: &mut Text, word: &[u8], count: u64)

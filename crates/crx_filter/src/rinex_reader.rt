@@ -5,14 +5,14 @@ ghost use Rattle.std.specs.Prelude.{ℕ, List, ◌≡◌, ◌≤◌, length, tru
 ghost use Rattle.crx_base.specs.declared.limits.TheConstants.{SATELLITES_LIMIT};
 ghost use Rattle.crx_filter.specs.RinexStages.{is_rinex_stage};
 
-use crate::stage::{Stage, after_header_line, counts_types, with_records_left};
+use crate::stage::{Stage, counts_types, with_records_left};
 use crate::types_lines::{accept_header_line, accept_record};
 use crx_base::{Fault, Padded};
 use crx_header::Types;
 use crx_rinex::{EpochLine, Head, RowBuffer, RowsSoFar, begins_epoch};
 use std::alloc::Global;
 
-/// What a line of RINEX is, where it has no fault.
+/// What a line of RINEX is that is no row of an epoch, where it has no fault.
 #[derive(Clone, Copy)]
 pub enum RinexStep {
     /// A line that was passed over.
@@ -28,10 +28,6 @@ pub enum RinexStep {
     Record,
     /// The line of an epoch; no satellite line of it has come.
     Begun,
-    /// A satellite line after which others of the epoch are to come.
-    Row,
-    /// The last line of an epoch whose satellite lines have come.
-    Epoch,
 }
 
 /// Reads RINEX one line at a time. Of an epoch it has the line and the row that was read last; whoever takes
@@ -54,7 +50,7 @@ pub struct RinexReader {
 }
 
 impl RinexReader {
-    ghost use Rattle.std.specs.Prelude.{◌⊎◌, ◌++◌, ◌∷◌, [], Ok, false, OnOk, IfOk, IfErr, OnErr};
+    ghost use Rattle.std.specs.Prelude.{◌⊎◌, ◌++◌, ◌∷◌, [], Ok, false, OnOk, IfErr};
     ghost use Rattle.crx_base.specs.Padded.{line_in};
     ghost use Rattle.crx_base.specs.meaning.AsRead.{Content};
     ghost use Rattle.crx_header.specs.meaning.EpochColumns.{begins_epoch};
@@ -65,7 +61,7 @@ impl RinexReader {
     ghost use Rattle.crx_filter.specs.Memory.{may_take_memory};
     ghost use Rattle.crx_filter.specs.RinexStages.{is_open_stage};
     ghost use Rattle.crx_filter.specs.Stages.{is_ended};
-    ghost use Rattle.crx_filter.specs.RinexReaders.{is_row, reader_phase, made_at, IsSameReader, ReadsRinexLine, TakesRinexLine, RefusesRinexLine};
+    ghost use Rattle.crx_filter.specs.RinexReaders.{reader_phase, made_at, IsSameReader, ReadsRinexLine, TakesRow};
     ghost use Rattle.crx_filter.specs.Rooms.{LackTypes};
 
     /// A reader before the first line.
@@ -99,8 +95,7 @@ impl RinexReader {
     {
         match self.stage {
             Stage::Header { is_first } => {
-                accept_header_line(&mut self.types, is_first, line)?;
-                self.stage = after_header_line(line);
+                self.stage = accept_header_line(&mut self.types, is_first, line)?;
                 Ok(RinexStep::Header { is_first })
             }
             Stage::Event { left, counted } => {
@@ -170,14 +165,13 @@ impl RinexReader {
         self.row.read(&self.types, line)
     }
 
-    /// Takes the row that was read last: it is the next one of the open epoch.
+    /// Takes the row that was read last, the next one of the open epoch: `true` says that it is its last.
     #[inline(always)]
-    pub fn take_row(&mut self) -> RinexStep
+    pub fn take_row(&mut self) -> bool
         requires open { is_open_stage self.old.stage ≡ true }
         ensures takes { (line : List ℕ) (kept : Written) → row_of self.old.types line ≡ Ok self.old.row
             → begins_epoch line ≡ false → has_satellite self.old.row.name self.old.rows.rows ≡ false
-            → TakesRinexLine (made_at self.old line kept) self.old line result self.new }
-        ensures steps { is_row result ≡ true }
+            → TakesRow (made_at self.old line kept) result self.old self.new }
         ensures rows { self.new.rows.rows ≡ self.old.rows.rows ++ self.old.row ∷ [] }
         ensures row { self.new.row ≡ self.old.row }
     {
@@ -189,8 +183,8 @@ impl RinexReader {
         self.count += 1;
         if self.count == announced {
             self.stage = Stage::Between;
-            return RinexStep::Epoch;
+            return true;
         }
-        RinexStep::Row
+        false
     }
 }

@@ -1,18 +1,12 @@
 //! Where a run is between two lines, in either direction.
 
-ghost use Rattle.std.specs.Prelude.{ℕ, ◌≡◌, List, Option, Some, IfSome, true, false, if◌then◌else◌};
-ghost use Rattle.crx_rinex.specs.meaning.EpochPlaces.{OpenEpoch};
-ghost use Rattle.crx_compact.specs.OpenEpochs.{OpenRawEpoch};
-ghost use Rattle.crx_filter.specs.LineByLine.{fault_at_end_in, may_skip, with_records_left, InHeader, BetweenUnits};
+ghost use Rattle.std.specs.Prelude.{◌≡◌, Some, true};
+ghost use Rattle.crx_filter.specs.LineByLine.{fault_at_end_in, may_skip, with_records_left};
 ghost use Rattle.crx_filter.specs.meaning.Items.{counts_types};
-ghost use Rattle.crx_filter.specs.Stages.{bare_phase, phase_of_stage};
-ghost use Rattle.crx_filter.specs.RinexStages.{is_open_stage, is_rinex_stage};
-ghost use Rattle.crx_header.specs.meaning.Header.{is_end_of_header};
-ghost use Rattle.crx_rinex.specs.meaning.Observations.{Row};
-ghost use Rattle.crx_rinex.specs.meaning.EpochLines.{ObservationHead};
+ghost use Rattle.crx_filter.specs.Stages.{IsClosedStage, bare_phase};
+ghost use Rattle.crx_filter.specs.RinexStages.{is_open_stage};
 
 use crx_base::{At, Fault};
-use crx_header::is_end;
 
 /// Where a run is between two lines.
 #[derive(Clone, Copy)]
@@ -78,30 +72,9 @@ impl Stage {
     }
 }
 
-/// The stage after a header line.
-pub fn after_header_line(line: &[u8]) -> Stage
-    ensures rinex { (held : Option OpenEpoch)
-        → phase_of_stage held result ≡ (if is_end_of_header line.now then BetweenUnits else InHeader false) }
-    ensures compact { (held : Option OpenRawEpoch)
-        → phase_of_stage held result ≡ (if is_end_of_header line.now then BetweenUnits else InHeader false) }
-    ensures consistent { (head : Option ObservationHead) (count : ℕ) (rows : List Row)
-        → is_rinex_stage result head count rows ≡ true }
-    ensures closed { is_open_stage result ≡ false }
-{
-    if is_end(line) {
-        Stage::Between
-    } else {
-        Stage::Header { is_first: false }
-    }
-}
-
 /// The stage with so many records of an event still to come.
 pub fn with_records_left(left: usize, counted: bool) -> Stage
-    ensures rinex { (held : Option OpenEpoch) → phase_of_stage held result ≡ with_records_left left counted }
-    ensures compact { (held : Option OpenRawEpoch) → phase_of_stage held result ≡ with_records_left left counted }
-    ensures consistent { (head : Option ObservationHead) (count : ℕ) (rows : List Row)
-        → is_rinex_stage result head count rows ≡ true }
-    ensures closed { is_open_stage result ≡ false }
+    ensures stage { IsClosedStage result (with_records_left left counted) (with_records_left left counted) }
 {
     if left == 0 {
         Stage::Between

@@ -2,18 +2,26 @@
 
 ghost use Rattle.std.specs.Option.{is_some};
 ghost use Rattle.std.specs.Prelude.{◌≡◌, ◌⊎◌, ◌&&◌, [], None, Some, is_none, true, false, if◌then◌else◌, OnOk, OnErr, IfOk, IfErr};
+ghost use Rattle.crx_header.specs.meaning.Header.{is_end_of_header};
 ghost use Rattle.crx_header.specs.meaning.ObservationTypes.{count_of_types_line};
 ghost use Rattle.crx_header.specs.ObservationTypes.{with_line};
+ghost use Rattle.crx_filter.specs.LineByLine.{BetweenUnits, InHeader};
+ghost use Rattle.crx_filter.specs.Stages.{IsClosedStage};
 ghost use Rattle.crx_filter.specs.meaning.Expanded.{empties_state};
 ghost use Rattle.crx_filter.specs.meaning.Items.{are_lacking};
 ghost use Rattle.crx_filter.specs.meaning.UnitPlaces.{header_line_fault, types_fault};
 
+use crate::stage::Stage;
 use crx_base::Fault;
-use crx_header::{Types, header_first, is_types};
+use crx_header::{Types, header_first, is_end, is_types};
 
-/// Takes in a header line, or answers what is wrong with it: the first line has checks of its own. After a
-/// fault the types are as they were. `OutOfMemory` comes only where no system has types yet.
-pub fn accept_header_line(types: &mut Types, is_first: bool, line: &[u8]) -> Result<(), Fault>
+/// Takes in a header line and gives the stage after it, or answers what is wrong with it: the first line has
+/// checks of its own. After a fault the types are as they were. `OutOfMemory` comes only where no system has
+/// types yet.
+pub fn accept_header_line(types: &mut Types, is_first: bool, line: &[u8]) -> Result<Stage, Fault>
+    ensures stage { IfOk result (λ stage. IsClosedStage stage
+        (if is_end_of_header line.now then BetweenUnits else InHeader false)
+        (if is_end_of_header line.now then BetweenUnits else InHeader false)) }
     ensures good { OnOk result (header_line_fault is_first line.now ≡ None) }
     ensures ok { OnOk result (types.new ≡ with_line types.old line.now) }
     ensures same { OnErr result (types.new ≡ types.old) }
@@ -24,7 +32,11 @@ pub fn accept_header_line(types: &mut Types, is_first: bool, line: &[u8]) -> Res
     if is_first {
         header_first(line)?;
     }
-    types.accept_line(line)
+    types.accept_line(line)?;
+    if is_end(line) {
+        return Ok(Stage::Between);
+    }
+    Ok(Stage::Header { is_first: false })
 }
 
 /// Takes in a record of an event: types lines among them count where this is said, and `true` says that it is

@@ -21,8 +21,7 @@ searched-no_feed : (held : List ℕ) (n : ℕ)
     → n ≤ length held → ((k : ℕ) → k < n → slice_index held k ≢ 10) → HasNoFeed (take n held)
 searched-no_feed held n within none =
     All-from_get_or (λ b. b ≢ 10) _ 0
-    (λ k h. let inside : k < n = omega (arith, h, length-take n held) in rw (get_or-take n held k 0)
-    (none k inside))
+    (λ k h. grind (arith, common_steps, k, length-take, get_or-take))
 
 -- the line's bytes, discarded or held
 abbrev pub piece_at : List ℕ → List ℕ → ℕ → Bool → Piece

@@ -2,7 +2,7 @@
 use Rattle.std.proofs.{lemmas.{Grind.common_steps, List.{length_push, map-append}}, Math.Seq.take-append-add}
 use Rattle.std.proofs.{lemmas.List.take_all, Common.{◌≡◌, ◌⊎◌, inr, ℕ, ◌+◌, ◌-◌, ◌<◌, ◌≤◌, Bool, true}}
 use Rattle.std.proofs.Common.{false, Option, Some, None, Result, Ok, Err, List, [], ◌∷◌, ◌++◌, length, take}
-use Rattle.std.proofs.Common.{map, refl, sym, ap, ◌∙◌, subst, arith, append-nil, length-append}
+use Rattle.std.proofs.Common.{map, refl, sym, ap, ◌∙◌, subst, arith, append-nil, length-append, rules}
 use Rattle.crx_lines.specs.{Devices.{with_end, tally_after_line}, Reading.{HasNoFeed, ReaderState}}
 use Rattle.crx_lines.specs.Reading.{TakesPiece, ReaderAnswers, AnswersFault, Stops}
 use Rattle.crx_lines.specs.Progress.{IsOpen, IsOver, IsStopped, StandsAt, HasRead, IsOneMore, AtFault}
@@ -11,7 +11,7 @@ use Rattle.crx_lines.{proofs.PieceLemmas.ended-none, specs.meaning.Devices.{one_
 use Rattle.crx_lines.specs.declared.{line.Line.Line, phase.Phase.TheVariants.{Open, Ended, Stopped}}
 use Rattle.crx_base.specs.declared.fault.{At.At, Fault.{Fault, TheVariants.{LineTooLong, InputTooLong}}}
 use Rattle.crx_base.specs.declared.{fault.Fault.TheVariants.ReadFailed, limits.TheConstants.INPUT_LIMIT}
-use Rattle.crx_base.specs.meaning.Lines.{InputLine, Piece, pieces_of, lines_of, line_of}
+use Rattle.crx_base.specs.meaning.Lines.{InputLine, Piece, lines_of, line_of}
 use Rattle.crx_base.specs.meaning.AsRead.{ended_pieces}
 use Rattle.crx_base.specs.meaning.AsRead.{ended_lines_of}
 
@@ -65,12 +65,7 @@ module _ (at_end : Type 0) (start counted counted' : Tally) (given more : List �
 
   none-over : old.rest ++ more ≡ []
       → at_end → counted' ≡ with_end counted → IsOver at_end start counted' (given ++ more) lines
-  none-over none reported same = record {
-    reported = reported;
-    within = omega (arith, length-append given more, length-append old.rest more, ap length none, o.within);
-    all = sym (o.first more ∙ ap (λ l. lines ++ lines_of l) none ∙ append-nil lines);
-    counts = same ∙ ap with_end o.counts;
-  }
+  none-over none reported same = search (rules, arith, length-append given more, length-append old.rest more)
 
   -- the bytes so far, of which the last have no LF
   ended-so-far : (front : List ℕ) → HasNoFeed (old.rest ++ front) → lines ≡ ended_lines_of (given ++ front)
@@ -127,18 +122,20 @@ module _ (gave gives step : List ℕ → Type 0)
       → (then : List InputLine) × AtFault f at old new lines then × HasRead gives at_end' start counted' new
       then
   at-fault LineTooLong at is e more lead a = grind (arith, common_steps, one-more, read-line)
-  at-fault InputTooLong at is e more lead a = (
-    lines,
-    (refl, a.2.phase),
-    read-stop InputTooLong more lead at is a.2 (over-stops at_end' start counted counted' h.given more old new
-        lines (is-open e) a.0 a.1 a.3),
-  )
-  at-fault ReadFailed at is e more lead a = (
-    lines,
-    (refl, a.2.phase),
-    read-stop ReadFailed more lead at is a.2 (failed-stops at_end' start counted counted' h.given more old new
-        lines (is-open e) a.0 a.1 a.3),
-  )
+  at-fault InputTooLong at is e more lead a =
+      grind (
+        arith,
+        common_steps,
+        read-stop InputTooLong more lead at is a.2 (over-stops at_end' start counted
+            counted' h.given more old new lines (is-open e) a.0 a.1 a.3),
+      )
+  at-fault ReadFailed at is e more lead a =
+      grind (
+        arith,
+        common_steps,
+        read-stop ReadFailed more lead at is a.2 (failed-stops at_end' start counted
+            counted' h.given more old new lines (is-open e) a.0 a.1 a.3),
+      )
   at-fault _ at is e more lead a = absurd a
 
   -- an answer where lines may come
@@ -148,29 +145,17 @@ module _ (gave gives step : List ℕ → Type 0)
       × HasRead gives at_end' start counted' new then
   HasRead-next e more lead (Ok (Some line)) a = grind (arith, common_steps, one-more, read-line)
   HasRead-next e more lead (Ok None) a =
-      let phase = ap (λ (r : ReaderState). r.phase) a.2 in (
-        lines,
-        (refl, phase),
-        record {
-          given = h.given ++ more;
-          lead = goes h.given more h.lead lead;
-          number = ap (λ (r : ReaderState). r.number) a.2 ∙ h.number;
-          stands = rw phase
-              (none-over at_end' start counted counted' h.given more old new lines (is-open e) a.0 a.1 a.3);
-        },
+      grind (
+        arith,
+        common_steps,
+        none-over at_end' start counted counted' h.given more old new lines (is-open e) a.0 a.1 a.3,
       )
   HasRead-next e more lead (Err at) a = at-fault at.fault at refl e more lead a
 
 -- the lines whose LF was given come first, whatever follows
 pub ended_lines-come_first : (given : List ℕ) → (rest : List ℕ) × HasNoFeed rest
     × ((more : List ℕ) → lines_of (given ++ more) ≡ ended_lines_of given ++ lines_of (rest ++ more))
-ended_lines-come_first given =
-    let s = pieces-split given in (
-      s.0,
-      s.1,
-      λ more. ap (map line_of) (s.2 more)
-          ∙ map-append line_of (ended_pieces (pieces_of given)) (pieces_of (s.0 ++ more)),
-    )
+ended_lines-come_first given = grind (arith, common_steps, pieces-split given)
 
 -- what is at the end, and at a fault
 module _ (gave : List ℕ → Type 0) (at_end : Type 0) (start counted : Tally)
@@ -189,9 +174,5 @@ pub stopped-cases : (f : Fault) (start counted : Tally) (given : List ℕ) (line
     × (((f ≡ InputTooLong) × (INPUT_LIMIT < length given) × (counted.failures ≡ start.failures))
     ⊎ ((f ≡ ReadFailed) × (length given ≤ INPUT_LIMIT) × (counted.failures ≡ one_more start.failures)))
 stopped-cases InputTooLong start counted given lines s = grind arith
-stopped-cases ReadFailed start counted given lines s = (
-  ap (λ (t : Tally). t.ends) s.2,
-  s.1 ∙ ap ended_lines_of (sym (take_all INPUT_LIMIT given s.0)),
-  inr (refl, s.0, ap (λ (t : Tally). t.failures) s.2),
-)
+stopped-cases ReadFailed start counted given lines s = search (rules, arith, take_all INPUT_LIMIT given s.0)
 stopped-cases _ start counted given lines s = absurd s

@@ -1,6 +1,6 @@
 -- A CR at the end of a text.
 use Rattle.std.proofs.Common.{◌≡◌, ◌==◌, ℕ, ◌+◌, ◌-◌, ◌≤◌, ◌<◌, suc, Bool, ◌&&◌, not, List, [], ◌∷◌, length}
-use Rattle.std.proofs.Common.{take, get_or, slice_range, slice_set, refl, ap, ◌∙◌, arith}
+use Rattle.std.proofs.Common.{take, get_or, slice_range, slice_set, refl, ap, arith}
 use Rattle.std.proofs.{Common.{length-take, length-drop}, lemmas.{Grind.common_steps}}
 use Rattle.std.proofs.lemmas.List.{take-take, get_or-take, get_or-drop}
 use Rattle.crx_base.specs.meaning.Lines.{InputLine, line_of, without_return, ends_with_return}
@@ -45,11 +45,7 @@ module _ (xs : List ℕ) (start end n : ℕ) (inside : start + n ≤ end) (withi
   -- they end with CR where the last of them is one
   pub last-byte : (d : ℕ) → 0 < n → ends_with_return (take n (slice_range xs start end))
       ≡ (get_or xs (start + n - 1) d == 13)
-  last-byte d some =
-      let at : start + (n - 1) ≡ start + n - 1 = omega (arith, some) in
-      let byte : get_or first (n - 1) d ≡ get_or xs (start + n - 1) d =
-      rw (← at) (grind (arith, common_steps, get_or-take, get_or-drop)) in
-      returned-last first (n - 1) d (omega (arith, len, some)) ∙ ap (λ b. b == 13) byte
+  last-byte d some = grind (arith, common_steps, get_or-take, get_or-drop, returned-last first (n - 1) d)
 
   -- as a line, where a blank was put behind its content
   pub cut-line : (place : ℕ) (has_return is_ended : Bool)

@@ -1,7 +1,7 @@
 -- The search for the end of a line, step by step.
 use Rattle.std.proofs.Common.{rules, ◌≡◌, ◌≢◌, ℕ, ◌+◌, ◌-◌, ◌<◌, ◌≤◌, List, [], ◌∷◌, ◌++◌, ◌⊎◌, length}
 use Rattle.std.proofs.Common.{slice_index}
-use Rattle.std.proofs.Common.{refl, sym, ap, subst, ◌∙◌, arith, inr, ⊎_elim, append-nil, append_assoc, take}
+use Rattle.std.proofs.Common.{refl, sym, ap, subst, ◌∙◌, arith, ⊎_elim, append-nil, append_assoc, take}
 use Rattle.std.proofs.{Common.length-append, lemmas.{Grind.common_steps, List.{get_or_append_left, take_at}}}
 use Rattle.std.proofs.lemmas.List.Elements.{All-append, All-from_get_or, All-contains, Contains-append_left}
 use Rattle.std.specs.List.{Contains}
@@ -32,26 +32,14 @@ module _ (gave : List ℕ → Type 0) (old held : List ℕ) (before room passed 
   module _ (s : Seeking gave old held before room passed (length held)) where
     pub Seeking-none : HasNoFeed (old ++ s.given)
     Seeking-none =
-        rw s.input (All-append NoFeed s.front held s.none_passed (All-from_get_or NoFeed held 0 (λ k h.
-        s.none_searched k h)))
+        search (rules, arith, All-append NoFeed s.front held s.none_passed, All-from_get_or NoFeed held 0)
 
     pub Seeking-not_old : Contains old 10 → ⊥
     Seeking-not_old has = All-contains NoFeed _ 10 Seeking-none (Contains-append_left old s.given 10 has) refl
 
     -- all that is held is discarded
     Seeking-passed : LINE_LIMIT + 1 < length held → Seeking gave old [] before room (passed + length held) 0
-    Seeking-passed long = record {
-      given = s.given;
-      front = s.front ++ held;
-      lead = s.lead;
-      input = s.input ∙ sym (append-nil (s.front ++ held));
-      room_is = s.room_is;
-      passed_is = length-append s.front held ∙ ap (λ n. n + length held) s.passed_is;
-      far = inr (omega (arith, long));
-      none_passed = subst HasNoFeed s.input Seeking-none;
-      none_searched = λ k h. absurd (omega (arith, h));
-      searched_within = omega arith;
-    }
+    Seeking-passed long = grind (arith, common_steps, length-append, Seeking-none)
 
     -- more was given and is held
     pub Seeking-filled : (then : List ℕ → Type 0) (after more : List ℕ) (n m : ℕ)
@@ -67,21 +55,8 @@ module _ (gave : List ℕ → Type 0) (old held : List ℕ) (before room passed 
     Seeking-ends step then goes tally counted InputTooLong end =
         let front = old ++ s.given in
         let cut = ap (take (INPUT_LIMIT - before)) (sym (append_assoc old s.given (end.0 ∷ [])))
-        ∙ take_at front (end.0 ∷ []) (INPUT_LIMIT - before) (omega (arith, s.room_is, end.2)) in (
-          s.given ++ end.0 ∷ [],
-          goes _ _ s.lead end.1,
-          (
-            omega (
-              arith,
-              length-append front (end.0 ∷ []),
-              ap length (append_assoc old s.given (end.0 ∷ [])),
-              s.room_is,
-              end.2,
-            ),
-            rw cut Seeking-none,
-            end.3,
-          ),
-        )
+        ∙ take_at front (end.0 ∷ []) (INPUT_LIMIT - before) (omega (arith, s.room_is, end.2)) in
+        grind (arith, common_steps, front, cut, length-append front (end.0 ∷ []), Seeking-none)
     Seeking-ends step then goes tally counted ReadFailed end = (
       s.given,
       subst then (append-nil s.given) (goes _ _ s.lead end.0),

@@ -1,6 +1,6 @@
 -- The bytes of a window, after a read past its end or a step of its start.
 use Rattle.std.proofs.Common.{◌≡◌, ℕ, ◌+◌, ◌-◌, ◌≤◌, ◌<◌, ◌⊎◌, List, ◌++◌, length, take, drop}
-use Rattle.std.proofs.Common.{slice_range, slice_set, sym, ap, ◌∙◌, arith}
+use Rattle.std.proofs.Common.{slice_range, slice_set, arith}
 use Rattle.std.proofs.{Common.{zero, suc, ◌∷◌}, lemmas.Grind.common_steps}
 use Rattle.std.proofs.lemmas.List.{take-append-le, drop-take, drop-drop}
 use Rattle.std.proofs.lemmas.List.{length-take}
@@ -21,8 +21,7 @@ pub passed : (xs : List ℕ) (start end count : ℕ) → start + count ≤ end
     → slice_range xs (start + count) end ≡ drop count (slice_range xs start end)
 passed xs start end count inside =
     let parts : end - start ≡ count + (end - (start + count)) = omega arith in
-    sym (ap (λ j. drop count (take j (drop start xs))) parts ∙ drop-take count _ _
-    ∙ ap (take _) (drop-drop count start xs))
+    grind (arith, common_steps, parts, drop-take, drop-drop)
 
 -- a window holds no more than it spans
 pub length-kept : (xs : List ℕ) (start end : ℕ) → length (slice_range xs start end) ≤ end

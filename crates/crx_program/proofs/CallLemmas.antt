@@ -1,22 +1,17 @@
 -- How a log of calls grows.
-use Rattle.std.proofs.Common.{◌≡◌, ◌∙◌, ℕ, Bool, List, [], ◌++◌, Option, Some, ap, sym, inl, inr, refl}
+use Rattle.std.proofs.Common.{◌≡◌, ◌∙◌, ℕ, Bool, List, [], ◌++◌, Option, Some, sym, inl, inr, refl}
 use Rattle.std.proofs.{Common.{append_assoc, append-nil, arith}, lemmas.Grind.common_steps}
-use Rattle.std.specs.declared.fs.options.OpenOptions.{OpenOptions}
-use Rattle.crx_lines.specs.declared.device.{Sink.Ghosts as SinkGhosts, Source.Ghosts as SourceGhosts, Std.Std}
-use Rattle.crx_runs.specs.meaning.Spans.{Input, Device}
-use Rattle.jiff.specs.declared.timestamp.Timestamp.{Timestamp}
 use Rattle.crx_command.specs.declared.job.Job.{Job}
-use Rattle.crx_program.specs.declared.log.Logged.{Logged}
 use Rattle.crx_program.specs.meaning.Calls.{Call, options_to_read, with_call}
 use Rattle.crx_program.specs.meaning.Jobs.{call_to_read, call_to_write, calls_of, options_of_target, Hindrance}
-use Rattle.crx_program.specs.meaning.Jobs.{MadeUntil, IsJobDone, NoMemory, CannotRead, FileExists, CannotCreate}
+use Rattle.crx_program.specs.meaning.Jobs.{MadeUntil, NoMemory, CannotRead, FileExists, CannotCreate}
 use Rattle.crx_program.specs.meaning.Streams.{OpensInOrder}
 
 -- a call to write
-pub called-to_write : (before after : List Call) (name : List ℕ) (how : OpenOptions) (target : Option (List ℕ))
-    (force : Bool) → target ≡ Some name → how ≡ options_of_target force → after ≡ with_call before name how
+pub called-to_write : (before after : List Call) (name : List ℕ) (target : Option (List ℕ)) (force : Bool)
+    → target ≡ Some name → after ≡ with_call before name (options_of_target force)
     → after ≡ before ++ call_to_write target force
-called-to_write before after name how target force named asked made = rw (named, sym asked) made
+called-to_write before after name target force named made = rw named made
 
 -- a call to read
 pub called-to_read : (before after : List Call) (name : List ℕ) (source : Option (List ℕ))
@@ -40,15 +35,3 @@ opens-until (CannotRead name) job before after made =
     (call_to_read job.source, call_to_write job.target job.force, made, refl)
 opens-until (FileExists name) job before after made = (calls_of job, [], made, append-nil (calls_of job))
 opens-until (CannotCreate name) job before after made = (calls_of job, [], made, append-nil (calls_of job))
-
--- and so it is of a job, done or not begun
-pub opens-in_order : {F G : Type 0} (sources : SourceGhosts (Logged (Std F))) (sink : SinkGhosts (Logged G))
-    (moment : Option Timestamp) (job : Job) (source : Option (Logged (Std F))) (target : Option (Logged G))
-    (input : Input) (output messages : Device) (status : ℕ) (untouched : Type 0) (before after : List Call)
-    → IsJobDone sources sink moment job source target input output messages status untouched before after
-    → OpensInOrder job before after
-opens-in_order sources sink moment job source target input output messages status untouched before after done =
-    elim done [
-      | inl begun ↦ (calls_of job, [], begun.2, append-nil (calls_of job))
-      | inr not_begun ↦ opens-until not_begun.why job before after not_begun.opened
-    ]

@@ -1,15 +1,9 @@
 -- What a run promises of its input follows from what its logs are.
 use Rattle.std.proofs.lemmas.Grind.{common_steps}
-use Rattle.std.proofs.Common.{arith, ◌≡◌, ℕ, List, Option, Some, None, map, refl, ◌∙◌}
-use Rattle.std.specs.Prelude.{reverse}
-use Rattle.crx_base.specs.declared.fault.At.{At}
-use Rattle.crx_base.specs.meaning.{AsRead.as_read, Choices.Choices, Lines.lines_of}
+use Rattle.std.proofs.Common.{arith, ◌≡◌, ℕ, List, Option, None, ◌∙◌}
+use Rattle.crx_base.specs.meaning.{Choices.Choices}
 use Rattle.crx_filter.proofs.accounts.ByResults.{check-keeps, compaction-keeps, expansion-keeps, gives-back}
-use Rattle.crx_filter.specs.meaning.{Compacted.{whole_rinex}, Expanded.{whole_compact}}
-use Rattle.crx_filter.specs.meaning.{Reading.WholeReading, Written.warnings_in}
-use Rattle.crx_filter.specs.meaning.Standard.{Findings, checked_by, findings_of, whole_of}
-use Rattle.crx_filter.proofs.Words.{Epoch, ReadEpoch}
-use Rattle.crx_runs.specs.meaning.Results.{FilterResult, status_after}
+use Rattle.crx_runs.specs.meaning.Results.{FilterResult}
 use Rattle.jiff.specs.declared.timestamp.Timestamp.{Timestamp}
 use Rattle.crx_command.specs.declared.job.{Job.Job, Tool.{Tool, TheVariants.{Compact, Expand, Check}}}
 use Rattle.crx_program.specs.declared.streams.Whole.{Whole}

@@ -1,7 +1,8 @@
 -- What the logs of a run's devices are, by what ran between them.
 use Rattle.std.proofs.lemmas.Grind.{common_steps}
 use Rattle.std.proofs.Common.{arith, ◌≡◌, ◌⊎◌, ◌∙◌, ◌<◌, ℕ, Bool, true, false, List, [], ◌++◌, Option, Some, None}
-use Rattle.std.{proofs.Common.{ap, inl, inr, is_some, refl}, specs.Io.KnownBytes.{Appends, Consumes, IsAtEnd}}
+use Rattle.std.proofs.Common.{ap, append-nil, inl, inr, is_some, refl}
+use Rattle.std.specs.Io.KnownBytes.{Appends, Consumes, IsAtEnd}
 use Rattle.crx_lines.specs.declared.device.{Sink.Ghosts as SinkGhosts, Source.Ghosts as SourceGhosts, Std.Std}
 use Rattle.crx_base.specs.meaning.Choices.{Choices}
 use Rattle.crx_runs.specs.meaning.Spans.{Input, Device, reader_span, span}
@@ -9,10 +10,10 @@ use Rattle.jiff.specs.declared.timestamp.Timestamp.{Timestamp}
 use Rattle.crx_command.specs.declared.job.{Job.Job, Tool.Tool}
 use Rattle.crx_program.specs.{declared.log.{Logged.Logged, Opening.Opening}, meaning.Jobs.IsChosen}
 use Rattle.crx_program.specs.meaning.Calls.{Call}
-use Rattle.crx_program.specs.meaning.Jobs.{IsFiltered, IsFilteredFrom, IsFilteredInto, IsJobDone}
+use Rattle.crx_program.specs.meaning.Jobs.{calls_of, IsFiltered, IsFilteredFrom, IsFilteredInto, IsJobDone}
 use Rattle.crx_program.specs.meaning.Streams.{ReadsGave, WritesTook, IsAllOf, IsEndTold, IsFlushedLast}
 use Rattle.crx_program.specs.meaning.Streams.{IsUnused, IsPrefixOf, OpensInOrder}
-use Rattle.crx_program.proofs.CallLemmas.{opens-in_order}
+use Rattle.crx_program.proofs.CallLemmas.{opens-until}
 
 -- ---- the devices of the program
 
@@ -189,33 +190,22 @@ module _ {F G I O E : Type 0} (file : F → Option (List ℕ)) (made : G → Opt
           (choices, chosen, elim front.first [ inl some ↦ inl some | inr all ↦ inr all.1 ]),
         )
 
-    -- a job that was begun has a reader and a writer
-    place_of : (choices : Choices) → IsFilteredFrom (reader_of file) (writer_of made) job.source source
-        job.target job.force target job.tool choices input output messages status → IsPlaced choices
-    place_of choices h = placed job _ refl source target first last before after none empty same_input same
-        choices _ status h
-
-    exact_run : (P : Type 0) → IsJobDone (reader_of file) (writer_of made) moment job source target input
-        output messages status P fewer calls → (status ≡ 1 → ⊥) → IsExact
-    exact_run P (inl begun) well = exact_of begun.0 begun.1 (place_of begun.0 begun.3) well
-    exact_run P (inr not_begun) well = absurd (well not_begun.status_is)
-
-    front_run : IsJobDone (reader_of file) (writer_of made) moment job source target input output messages
-        status ((last ≡ first) × (after ≡ before) × (target ≡ None)) fewer calls
-        → IsFront ⊎ ((last.log.bytes ≡ []) × (after.log.bytes ≡ []) × (target ≡ None))
-    front_run (inl begun) = inl (front_of begun.0 begun.1 (place_of begun.0 begun.3))
-    front_run (inr not_begun) =
-        inr (rw not_begun.same.0 none, rw not_begun.same.1 empty, not_begun.same.2)
-
+    -- where the job was begun it has a reader and a writer
     pub run_over : IsJobDone (reader_of file) (writer_of made) moment job source target input output messages
         status ((last ≡ first) × (after ≡ before) × (target ≡ None)) fewer calls → ((status ≡ 1 → ⊥) → IsExact)
         × (IsFront ⊎ ((last.log.bytes ≡ []) × (after.log.bytes ≡ []) × (target ≡ None)))
         × OpensInOrder job fewer calls
-    run_over done = (
-      exact_run _ done,
-      front_run done,
-      opens-in_order (reader_of file) (writer_of made) moment job source target input output messages status
-          ((last ≡ first) × (after ≡ before) × (target ≡ None)) fewer calls done,
+    run_over (inl begun) =
+        let place = placed job _ refl source target first last before after none empty same_input same begun.0
+        messages status begun.3 in (
+          exact_of begun.0 begun.1 place,
+          inl (front_of begun.0 begun.1 place),
+          (calls_of job, [], begun.2, append-nil (calls_of job)),
+        )
+    run_over (inr not_begun) = (
+      λ well. absurd (well not_begun.status_is),
+      inr (rw not_begun.same.0 none, rw not_begun.same.1 empty, not_begun.same.2),
+      opens-until not_begun.why job fewer calls not_begun.opened,
     )
 
 -- a new device over a new one of std is unused

@@ -1,6 +1,5 @@
 //! The writer of a file that is made later.
 
-ghost use Rattle.std.specs.Prelude.{◌≡◌, None, Some};
 ghost use Rattle.crx_program.specs.LateWriters.{late_contents};
 
 use std::io;
@@ -9,25 +8,8 @@ use std::io::{ErrorKind, Write};
 /// A writer that comes later: a buffer can be made before it. Till it comes each write and flush fails.
 #[derive(Drop)]
 pub struct LateWriter<W> {
-    writer: Option<W>,
-}
-
-impl<W> LateWriter<W> {
-    /// None yet.
-    pub fn none() -> LateWriter<W>
-        ensures late { result.writer ≡ None }
-    {
-        LateWriter { writer: None }
-    }
-
-    /// The writer that came.
-    pub fn of(writer: W) -> LateWriter<W>
-        ensures come { result.writer ≡ Some writer }
-    {
-        LateWriter {
-            writer: Some(writer),
-        }
-    }
+    /// The writer, where it came.
+    pub(crate) writer: Option<W>,
 }
 
 impl<W: Write> Write for LateWriter<W> {

@@ -1,6 +1,6 @@
 //! Devices that know what went through them, and by which name they were opened. What they know is read by
 //! contracts alone.
-ghost use Rattle.std.specs.Prelude.{◌≡◌, ◌<◌, List, ℕ, [], ◌++◌};
+ghost use Rattle.std.specs.Prelude.{◌≡◌, ◌<◌, List, ℕ, [], None, ◌++◌};
 ghost use Rattle.std.specs.Borrow.{ftrue};
 ghost use Rattle.std.proofs.Common.{◌∙◌, refl};
 ghost use Rattle.crx_program.specs.Logs.{adds_none, adds_both};
@@ -64,21 +64,6 @@ pub struct Opening {
     how: Option<OpenOptions>,
 }
 
-impl Opening {
-    /// That of a device that was opened by this name, for writing where there are options.
-    fn by(name: &str, how: Option<OpenOptions>) -> Opening
-        ensures name { result.name.bytes ≡ name.now }
-        ensures how { result.how ≡ how }
-    {
-        let mut opening = Opening {
-            name: Log::new(),
-            how,
-        };
-        opening.name.add(name.as_bytes());
-        opening
-    }
-}
-
 /// A device that knows what went through it, and how it was opened. It reads, writes and flushes by the
 /// device in it, once for each call.
 #[derive(Drop)]
@@ -110,6 +95,7 @@ impl<S> Logged<S> {
         ensures inner { result.inner ≡ inner }
         ensures log { result.log.bytes ≡ [] }
         ensures name { result.opening.name.bytes ≡ [] }
+        ensures how { result.opening.how ≡ None }
     {
         Logged {
             inner,

@@ -2,15 +2,16 @@
 
 ghost use Rattle.std.specs.Prelude.{◌≡◌, ◌⊎◌, ◌++◌, [], IfOk, None, is_some, map, string_bytes, true};
 ghost use Rattle.std.specs.Option.{option_map_or};
-ghost use Rattle.crx_base.specs.meaning.Choices.{choices_of, is_date};
+ghost use Rattle.crx_base.specs.meaning.Choices.{is_date};
 ghost use Rattle.crx_command.specs.meaning.Planning.{Help, Refusal, Refused, Run, plan_of};
 ghost use Rattle.crx_program.specs.Devices.{LeavesDevices};
-ghost use Rattle.crx_program.specs.meaning.Jobs.{IsChosen, IsJobDone, IsJobEnded, IsFiltered, IsFilteredInto, IsNotBegun, MadeUntil, call_to_write, options_of_target};
+ghost use Rattle.crx_program.specs.meaning.Jobs.{IsChosen, IsJobDone, IsJobEnded, IsFiltered, IsFilteredInto, IsNotBegun, MadeUntil, call_to_write};
 ghost use Rattle.crx_program.specs.meaning.Program.{IsHelped, IsRefused, IsShown, at_start};
 ghost use Rattle.crx_runs.specs.meaning.Spans.{span, reader_span};
 
-use crate::log::opener::{Opener, file_buffer};
-use crate::log::{Log, Logged, SourceFile, TargetFile};
+use crate::late_writer::LateWriter;
+use crate::log::opener::Opener;
+use crate::log::{Log, Logged, OUTPUT_BUFFER, SourceFile, TargetFile};
 use crate::refusal::{refuse, report, report_at_start};
 use crx_base::Fault;
 use crx_command::date::{date_of, moment_now};
@@ -21,7 +22,6 @@ use crx_filter::{Options, check, compact, expand};
 use crx_lines::{Sink, Source, Std, write_all_counted};
 use jiff::Timestamp;
 use std::alloc::{AllocError, Global};
-use std::fs::OpenOptions;
 use std::io::{BufWriter, ErrorKind, Write};
 use std::rt::{Clock, Files};
 
@@ -81,28 +81,22 @@ impl<F: Write + Drop> Ended<F> {
     }
 }
 
-/// The job's choices, with a date that fits its columns.
-fn options_with(job: &Job, date: &str) -> Options
-    requires { is_date date.now ≡ true }
-    ensures { result ≡ choices_of job.now.every job.now.skip date.now }
-{
-    Options::new(job.every, job.skip, date.as_bytes()).unwrap()
-}
-
 /// What the user chose: the date among the arguments, else that of the moment where one is needed.
 fn options_of(alloc: Global, moment: Option<Timestamp>, job: &Job) -> Result<Options, AllocError>
     requires { option_map_or is_date job.now.date true ≡ true }
     ensures { IfOk result (λ options.
         IsChosen moment job.now.tool job.now.date job.now.every job.now.skip options) }
 {
-    match (&job.date, job.tool) {
-        (Some(date), _) => Ok(options_with(job, date.text())),
+    let options = match (&job.date, job.tool) {
+        (Some(date), _) => Options::new(job.every, job.skip, date.text().as_bytes()),
         (None, Tool::Compact) => {
             let date = date_of(alloc, moment)?;
-            Ok(options_with(job, date.as_str()))
+            Options::new(job.every, job.skip, date.as_bytes())
         }
-        (None, _) => Ok(options_with(job, "")),
-    }
+        (None, _) => Options::new(job.every, job.skip, b""),
+    };
+    // A date that was given fits its columns, and so does that of a moment.
+    Ok(options.unwrap())
 }
 
 /// Runs a filter, and answers the exit status: that of its outcome.
@@ -122,21 +116,6 @@ fn filter<R: Source, W: Sink, M: Sink>(
         Tool::Expand => expand(alloc, reader, writer, messages, options).status,
         Tool::Check => check(alloc, reader, writer, messages).status,
     }
-}
-
-/// How the output file of a job is opened.
-fn options_to_write(force: bool) -> OpenOptions
-    ensures { result ≡ options_of_target force }
-{
-    let mut how = OpenOptions::new();
-    how.write(true);
-    if force {
-        how.create(true);
-        how.truncate(true);
-    } else {
-        how.create_new(true);
-    }
-    how
 }
 
 /// Runs a filter into the job's target: a file, or `output` where the job names none. A file that exists is
@@ -164,10 +143,11 @@ fn run_to_target<H: Files, R: Source, W: Sink, M: Sink>(
     let Some(name) = &job.target else {
         return Ended::without_files(filter(alloc, job.tool, options, reader, output, messages));
     };
-    let Ok(buffer) = file_buffer(alloc) else {
+    let late = LateWriter { writer: None };
+    let Ok(buffer) = BufWriter::with_capacity(alloc, OUTPUT_BUFFER, late) else {
         return Ended::without_files(report_at_start(messages, Fault::OutOfMemory));
     };
-    match files.open_to_write(options_to_write(job.force), name.text(), buffer) {
+    match files.open_to_write(job.force, name.text(), buffer) {
         Ok(device) => {
             let mut writer = device;
             let status = filter(alloc, job.tool, options, reader, &mut writer, messages);

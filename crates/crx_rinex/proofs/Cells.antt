@@ -7,7 +7,7 @@ use Rattle.std.proofs.{Common.{suc, zero, Bool, true, cond, nat_lt, Err, MatchBo
 use Rattle.std.proofs.{lemmas.Bool.{and_from, cases_lt, le-ltb, lt-ltb}, Math.{Bool.and-true, Seq.take-add}}
 use Rattle.std.proofs.lemmas.{Grind.common_steps, List.{take_more_set, length-set, take_at, take-append-le}}
 use Rattle.std.proofs.lemmas.List.{drop_all, drop-drop, drop-replicate, drop-set, drop-set-lt, drop-take}
-use Rattle.std.proofs.lemmas.List.{length-drop, get_or_past, get_or-append-add}
+use Rattle.std.proofs.lemmas.List.{length-drop, get_or_past}
 use Rattle.std.proofs.lemmas.List.{length-replicate, length-take, length-take-le, take-replicate, take-take}
 use Rattle.std.proofs.lemmas.List.{take_all, take_rest}
 use Rattle.std.proofs.lemmas.{List.{Elements.{All-append, All-replicate, filter-append}, Folds.{concat-append, list_all-append}}}
@@ -70,14 +70,7 @@ field_inside line k h =
 -- a cell's columns are its field and its two indicators
 pub cell_parts : (field cell : List ℕ) (a b : ℕ) → length field ≡ 14 → cell ≡ field ++ a ∷ b ∷ []
     → (take 14 cell ≡ field) × (get_or (cell ++ cell) 14 0 ≡ a) × (get_or (cell ++ cell) 15 0 ≡ b)
-cell_parts field cell a b long is =
-    let at : (i : ℕ) → get_or ((field ++ a ∷ b ∷ []) ++ cell) (length field + i) 0
-    ≡ get_or (a ∷ b ∷ cell) i 0 =
-    λ i. ap (λ t. get_or t (length field + i) 0) (append_assoc field (a ∷ b ∷ []) cell)
-    ∙ get_or-append-add field (a ∷ b ∷ cell) i 0 in
-    let one = at 0 in
-    let two = at 1 in
-    grind (arith, take-append-le 14 field, take_all 14 field)
+cell_parts field cell a b long is = grind (arith, take-append-le 14 field, take_all 14 field)
 
 -- one cell more
 pub cells_more : (line : List ℕ) (values : List (Option ℤ)) (flags flags_after : List ℕ) (k : ℕ)
@@ -134,21 +127,13 @@ later_empty : {X : Type 0} (xs : List X) (x : X) (first later count rest : ℕ)
     → drop first xs ≡ replicate count x → first ≤ later → rest ≡ count - (later - first)
     → drop later xs ≡ replicate rest x
 later_empty xs x first later count rest empty less is =
-    let sum : first + (later - first) ≡ later = omega (arith, less) in
-    ap (λ n. drop n xs) (sym sum) ∙ sym (drop-drop (later - first) first xs)
-    ∙ rw (empty, is) (drop-replicate (later - first) count x)
+    grind (arith, common_steps, drop-drop (later - first) first xs, drop-replicate (later - first) count x)
 
 pub less_empty : (values : List (Option ℤ)) (flags : List ℕ) (first later : ℕ)
     → AreEmptyFrom first values flags
     → first ≤ later → later ≤ length values → AreEmptyFrom later values flags
 less_empty values flags first later empty less within =
-    record {
-      pairs = empty.pairs;
-      within = within;
-      missing = later_empty values None first later _ _ empty.missing less (omega (arith, less, within));
-      blank = later_empty flags 32 (2 * first) (2 * later) _ _ empty.blank (omega (arith, less))
-          (omega (arith, less, within));
-    }
+    grind (arith, later_empty values None first later, later_empty flags 32 (2 * first) (2 * later))
 
 -- where they are missing, they aren't counted
 pub observed : (values : List (Option ℤ)) (flags : List ℕ) (first m : ℕ) → AreEmptyFrom first values flags
@@ -166,11 +151,13 @@ pub whole_columns : (line bytes : List ℕ) (start : ℕ) → take (length line)
     → start + 16 ≤ length line → take 16 (take (length bytes - start) (drop start bytes)) ≡ columns line
     (start + 1) 16
 whole_columns line bytes start is room =
-    let all = take_rest bytes start in
-    let cut = drop-take start (length line - start) bytes in
-    let twice = take-take 16 (length line - start) (drop start bytes) (omega (arith, room)) in
-    let whole = take-append-le 16 (drop start line) in
-    grind (arith, length-drop)
+    grind (
+      arith,
+      common_steps,
+      drop-take start (length line - start) bytes,
+      take-take 16 (length line - start) (drop start bytes),
+      take-append-le 16 (drop start line),
+    )
 
 -- lanes below a place, and blanks
 first_lanes : (left i : ℕ) (xs : List ℕ)
@@ -246,10 +233,7 @@ cells_past line n (suc d) vs fs short values flags =
     (values_in_more line n vs None values (field_past line n end))
     (flags_in_more line n ∙ ap (λ t. t ++ flags_at line n) flags
     ∙ ap (λ t. fs ++ t) (flags_past line n end)) in
-    rw (← place, pair) (
-      rest.0 ∙ ap Some (append_assoc vs (None ∷ []) (replicate d None)),
-      rest.1 ∙ append_assoc fs (32 ∷ 32 ∷ []) (replicate (2 * d) 32),
-    )
+    grind (arith, common_steps, place, pair, rest)
 cells_past line n d vs fs short values flags = grind (arith, common_steps, append-nil)
 
 -- a field that spells nothing

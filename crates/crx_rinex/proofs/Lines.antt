@@ -1,6 +1,5 @@
 -- Lines that are borrowed one by one, from the first of a list on.
-use Rattle.std.proofs.Common.{◌≡◌, ◌≢◌, ◌↔◌, ◌<◌, ℕ, ◌-◌, List, [], ◌∷◌, Option, None, is_none, is_some, not}
-use Rattle.std.proofs.Common.{Bool, Bor, option_copied, IsTrue, drop, map, slice_get, arith}
+use Rattle.std.proofs.Common.{◌≡◌, ◌≢◌, ℕ, ◌-◌, List, ◌∷◌, None, drop, slice_get, arith}
 use Rattle.std.proofs.{Common.{suc}, lemmas.{Grind.common_steps, Option.none-some}}
 use Rattle.std.proofs.lemmas.Option.{slice_get-map, slice_get_within}
 
@@ -14,18 +13,6 @@ first_of_rest xs n = grind (arith, common_steps)
 
 pub no_next : {X : Type 0} (xs : List X) → slice_get xs 0 ≡ None → xs ≡ drop 1 xs
 no_next = grind (arith, common_steps, none-some)
-
--- no element is at a place exactly where nothing is left from there on
-none-left : {A B : Type 0} (f : A → B) (xs : List A) (k : ℕ)
-    → IsTrue (is_none (slice_get xs k)) ↔ (drop k (map f xs) ≡ [])
-none-left f (x ∷ xs) (suc k) = none-left f xs k
-none-left f xs k = grind (arith, common_steps)
-
--- lines that are a first one and others are all borrowed where no other is at the last place
-pub all-handed_out : {A B : Type 0} (f : A → B) (first : B) (xs : List A) (n : ℕ) (b : Bool)
-    (o : Option (Bor A)) → 0 < n → is_some o ≡ not b → option_copied o ≡ slice_get xs (n - 1)
-    → IsTrue b ↔ (drop n (first ∷ map f xs) ≡ [])
-all-handed_out = grind (arith, common_steps, is_none, slice_get, none-left)
 
 -- the lines of an epoch, one by one
 pub ruleset each_line = (after_first, slice_get-map, slice_get_within, first_of_rest, no_next)

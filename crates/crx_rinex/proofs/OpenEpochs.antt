@@ -1,6 +1,6 @@
 -- Epochs whose lines come one after another.
 use Rattle.std.proofs.Common.{rules, ◌≡◌, ℕ, ◌-◌, ◌<◌, zero, suc, List, [], ◌∷◌, ◌++◌, length, Option, Some}
-use Rattle.std.proofs.Common.{None, Result, refl, inl, inr, arith, append-nil}
+use Rattle.std.proofs.Common.{None, Result, refl, inl, arith, append-nil}
 use Rattle.std.{proofs.lemmas.{Grind.common_steps, Option.none-some}, specs.Prelude.⊤}
 use Rattle.crx_base.specs.{declared.fault.Fault.Fault, meaning.AsRead.{ReadLine, Content, Overlong}}
 use Rattle.crx_rinex.proofs.Steady.{steady-here, steady-first_line, steady-then}
@@ -143,8 +143,7 @@ begins : (types : List Count) (line : ReadLine) (so_far : OpenEpoch)
     → opened_at types line ≡ Some so_far → Begins types line so_far
 begins types Overlong so_far h = absurd (none-some so_far h)
 begins types (Content line) so_far h =
-    let by = begins_by types line (beginning_of line) so_far h in
-    record { wants = by.0; place = by.1 }
+    grind (arith, common_steps, begins_by types line (beginning_of line) so_far h)
 
 decided_by : (types : List Count) (line : List ℕ) (r : Result Beginning Fault) (lines : List ReadLine)
     → opened_by types r ≡ None
@@ -190,13 +189,12 @@ wanted_by_open types (line ∷ lines) later h =
 
 pub wanted-open : (types : List Count) (lines : List ReadLine) → IsWantedWhereOpen types lines
 wanted-open types [] = (λ w. inl refl, λ o. refl)
-wanted-open types (line ∷ lines) = (
-  λ w. inr (wanted_from types line lines (opened_at types line) refl w),
-  λ o. elim o [
-    | inl e ↦ absurd (cc)
-    | inr s ↦ wanted_by_open types (line ∷ lines) s.0 s.1
-  ],
-)
+wanted-open types (line ∷ lines) =
+    grind (
+      arith,
+      wanted_from types line lines (opened_at types line) refl,
+      wanted_by_open types (line ∷ lines),
+    )
 
 -- what a step makes, so many lines after the epoch line
 step_place : (count : ℕ) (step : EpochStep)

@@ -62,12 +62,7 @@ module _ (c : ℕ → ℕ) where
         (sym (number_of_width 14 3 (drop 2 row) refl) ∙ reads)
 
   form : OnTrue (not (not (eqb (mask_l (map (top 7) (odd row)) % 2 ^ 64) 0))) (Prints (drop 2 row))
-  form =
-      let mask : ℕ = mask_l (map (top 7) (odd row)) in
-      OnTrue_from (not (not (eqb (mask % 2 ^ 64) 0))) (Prints (drop 2 row)) (λ is_true.
-      prints (not-true (list_any (top 7) (odd row)) (sym (no_bit (top 7) (odd row))
-      ∙ ap (λ m. eqb m 0) (sym (mask_l-mod (map (top 7) (odd row)) 64 (omega arith)))
-      ∙ not-false (eqb (mask % 2 ^ 64) 0) (not-true (not (eqb (mask % 2 ^ 64) 0)) is_true))))
+  form = grind (arith, common_steps, OnTrue_from, prints, not-true, no_bit, mask_l-mod, not-false)
 
 pub form_from_lanes : (v : List ℕ) → length v ≡ 16
     → OnTrue (not (not (eqb (mask_l (map (top 7) (odd v)) % 2 ^ 64) 0))) (Prints (drop 2 v))

@@ -23,17 +23,14 @@ pub inside_prints : (line : List ℕ) (k : ℕ) → 16 * k + 1 + 16 ≤ length l
     → Prints (drop 2 (take 16 (take (16 * k + 1 + 16 - (16 * k + 1)) (drop (16 * k + 1) line))))
     → Prints (field line k)
 inside_prints line k within =
-    let place : 16 * k + 1 + 2 ≡ 16 * k + 3 = omega arith in
-    let width : 16 * k + 1 + 16 - (16 * k + 1) ≡ 16 = omega arith in
-    let inside = field_inside line k (omega (arith, within)) in
-    subst Prints (rw (
-      width,
-      take-take 16 16 (drop (16 * k + 1) line) (omega arith),
+    grind (
+      arith,
+      common_steps,
+      field_inside line k,
+      take-take 16 16 (drop (16 * k + 1) line),
       drop-take 2 14 (drop (16 * k + 1) line),
       drop-drop 2 (16 * k + 1) line,
-      place,
-      inside,
-    ) refl)
+    )
 
 -- so are those before it
 pub next_prints : (line : List ℕ) (k : ℕ) → ((j : ℕ) → j < k → Prints (field line j)) → Prints (field line k)
@@ -91,15 +88,7 @@ cell_split line k n =
     let one : 16 * k + 18 ≡ 16 * k + 3 + 14 + 1 = omega arith in
     let two : 16 * k + 19 ≡ 16 * k + 3 + 14 + 2 = omega arith in
     let next : 16 * (k + 1) + 3 + 1 ≡ 16 * k + 3 + 14 + 2 + 1 = omega arith in
-    rw (
-      width,
-      one,
-      two,
-      next,
-      columns_split line (16 * k + 3) 14 (2 + 16 * n),
-      columns_split line (16 * k + 3 + 14) 2 (16 * n),
-      two_columns line (16 * k + 3 + 14),
-    ) refl
+    grind (arith, common_steps, width, one, two, next, columns_split, two_columns)
 
 -- ---- cells
 

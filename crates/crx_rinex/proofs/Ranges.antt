@@ -38,8 +38,7 @@ decimal_within decimals (c ∷ cs) v =
       | inl t ↦ rw t (λ h. mapped (signed_number true) (size_of _ cs) v h
           (λ n e s. subst (IsWithin (length (c ∷ cs))) s
           (signed_is_within true n (length cs) (length (c ∷ cs)) (omega arith) (size_small decimals cs n e))))
-      | inr f ↦ rw f (λ h. mapped _ _ v h (λ n e s. subst (IsWithin _) s (signed_is_within false n
-          (length (c ∷ cs)) (length (c ∷ cs)) (omega arith) (size_small decimals _ n e))))
+      | inr f ↦ rw f (λ h. grind (arith, common_steps, mapped, signed_is_within false, size_small decimals))
     ]
 
 first_blanks_shorter : (text : List ℕ) → length (without_first_blanks text) ≤ length text

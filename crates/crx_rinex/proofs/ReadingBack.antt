@@ -20,7 +20,7 @@ use Rattle.crx_rinex.specs.meaning.{EpochPlaces.{beginning_of, epoch_place}, Epo
 use Rattle.crx_rinex.specs.meaning.{Epochs.{are_different, IsWholeEpoch}, Observations.{Row, Epoch}}
 use Rattle.crx_rinex.specs.meaning.{Places.{Done, after_lines, then_place}, Printing.printed_row}
 use Rattle.crx_rinex.specs.meaning.{Printing.{printed_head, printed_epoch}, SatelliteLines.{all_some, field}}
-use Rattle.crx_rinex.specs.meaning.SatelliteLines.{flags_at, flags_in, row_with, row_of_types, row_of}
+use Rattle.crx_rinex.specs.meaning.SatelliteLines.{flags_at, flags_in, row_with, row_of}
 use Rattle.crx_rinex.specs.meaning.{SatelliteLines.{IsSoundRow, HasItsTypes}, Units.Observation}
 use Rattle.crx_header.{proofs.Apart.other_way, specs.meaning.EpochColumns.{begins_epoch, is_event_flag}}
 use Rattle.crx_header.specs.meaning.EpochColumns.{is_observation_flag, satellites_in, satellites_of}
@@ -61,15 +61,10 @@ first-cell : (line rest : List ℕ) (k : ℕ) (value : Option ℤ) (a b : ℕ) �
 first-cell line rest k value a b fits same =
     let width = value-width value fits in
     let found = columns-are line (16 * k + 3 + 1) 14 _ width (λ p less.
-    let place : 16 * k + 3 + 1 - 1 + p ≡ 16 * k + 3 + p = omega arith in
-    ap (at line) place ∙ same p ∙ at-append (observation_text value) (a ∷ b ∷ rest) p
-    (omega (arith, less, width))) in
+    grind (arith, common_steps, width, at-append (observation_text value) (a ∷ b ∷ rest) p)) in
     let one : 16 * k + 18 - 1 ≡ 16 * k + 3 + (14 + 0) = omega arith in
-    let two : 16 * k + 19 - 1 ≡ 16 * k + 3 + (14 + 1) = omega arith in (
-      ap observation_of found ∙ value-back value fits,
-      ap (at line) one ∙ same _ ∙ at-append_past _ _ 14 0 width,
-      ap (at line) two ∙ same _ ∙ at-append_past _ _ 14 1 width,
-    )
+    let two : 16 * k + 19 - 1 ≡ 16 * k + 3 + (14 + 1) = omega arith in
+    grind (arith, common_steps, width, found, one, two, value-back value fits, at-append_past)
 
 -- the first cell, and those after it
 pub cells-are : (values : List (Option ℤ)) (flags : List ℕ) (value : Option ℤ) (a b : ℕ)
@@ -97,18 +92,13 @@ cells-read line k (value ∷ values) (a ∷ b ∷ flags) same pairs fit =
     let first = first-cell line (printed_cells values flags) k value a b fits now in
     let rest : AreCells line (k + 1) values flags = cells-read line (k + 1) values flags (λ p.
     let place : 16 * (k + 1) + 3 + p ≡ 16 * k + 3 + (14 + suc (suc p)) = omega arith in
-    ap (at line) place ∙ now (14 + suc (suc p)) ∙ at-append_past (observation_text value)
-    (a ∷ b ∷ printed_cells values flags) 14 (suc (suc p)) width) (omega (arith, pairs))
+    grind (arith, common_steps, width, now, place, at-append_past)) (omega (arith, pairs))
     (All-tail IsValue value values fit) in
     record {
       values_read = ap all_some (from-next (length values) k (λ j. observation_of (field line j)))
           ∙ ap (λ o. all_some (o ∷ each_place (length values) (λ j. observation_of (field line (k + 1 + j)))))
           first.0 ∙ ap (option_and_then (λ vs. Some (value ∷ vs))) rest.values_read;
-      flags_read = ap concat (from-next (length values) k (flags_at line)) ∙ ap
-          (λ c. c ∷ character_at line (16 * k + 19) ∷ concat
-          (each_place (length values) (λ j. flags_at line (k + 1 + j)))) first.1 ∙ ap
-          (λ c. a ∷ c ∷ concat (each_place (length values) (λ j. flags_at line (k + 1 + j)))) first.2
-          ∙ ap (λ fs. a ∷ b ∷ fs) rest.flags_read;
+      flags_read = grind (arith, common_steps, first, rest, from-next (length values) k (flags_at line));
     }
 cells-read line k values flags same pairs fit = grind (arith, common_steps)
 
@@ -146,18 +136,14 @@ row-of_text : (types : List Count) (row : Row) (line : List ℕ) → IsSoundRow 
 row-of_text types row line h typed same =
     let three = name-length row h in
     let named = columns-are line 1 3 _ three (λ p less.
-    let place : 1 - 1 + p ≡ p = omega arith in
-    ap (at line) place ∙ same p ∙ at-append row.name (printed_cells _ _) p (omega (arith, less, three))) in
+    grind (arith, common_steps, three, at-append row.name)) in
     let counted : types_of_satellite types line ≡ Some _ = sym (name_types types line) ∙ ap
     (types_of_satellite types) named ∙ typed in
     let read = cells-read line 0 _ _ (λ p.
     let place : 16 * 0 + 3 + p ≡ 3 + p = omega arith in
     ap (at line) place ∙ same (3 + p) ∙ at-append_past _ _ 3 p three) h.paired h.ranged in
     let wide = length-row row h in
-    ap (row_of_types line) counted ∙ ap (row_with _ line)
-    (ap all_some (from-none (length _) (λ j. observation_of (field line j))) ∙ read.values_read) ∙ row-chosen
-    (length _) line _ _ _ (after-text line _ _ wide same)
-    (ap concat (from-none (length _) (flags_at line)) ∙ read.flags_read) h.kept named
+    grind (arith, common_steps, named, counted, read, wide, from-none, row-chosen, after-text line)
 
 pub row-back : (types : List Count) (row : Row)
     → IsSoundRow row → HasItsTypes types row → row_of types (printed_row row) ≡ Ok row
@@ -198,8 +184,7 @@ head-of_text head line h same =
     let both = (and_parts _ (list_all is_kept head.head) tests).0 in
     let two = and_parts _ _ both in
     let named = columns-are line 1 41 _ wide (λ p less.
-    let place : 1 - 1 + p ≡ p = omega arith in
-    ap (at line) place ∙ front p less) in
+    grind (arith, common_steps, front)) in
     let offset = columns-are line 42 15 _ reads (λ p less.
     let place : 42 - 1 + p ≡ 41 + p = omega arith in
     ap (at line) place ∙ same _ ∙ at-append_past _ _ 41 p wide) in
@@ -242,12 +227,12 @@ rows-back : (so_far : OpenEpoch) (rows : List Row) (lines : List ReadLine)
     ≡ Done (epoch_of (with_rows so_far rows)) (length rows)
 rows-back so_far [] lines h typed apart = grind (arith, common_steps, epoch_of, append-nil)
 rows-back so_far (row ∷ rows) lines h typed apart =
-    let same = append_assoc so_far.rows (row ∷ []) rows in
-    let rest = rows-back (with_next_row so_far row) rows lines (All-tail IsSoundRow row rows h)
-    (All-tail (HasItsTypes so_far.types) row rows typed) (ap are_different same ∙ apart) in
-    let next = next-read so_far row (All-head IsSoundRow row rows h)
-    (All-head (HasItsTypes so_far.types) row rows typed) (row-new so_far.rows row rows apart) in
-    grind (arith, row-then)
+    grind (
+      arith,
+      common_steps,
+      rows-back (with_next_row so_far row) rows lines (All-tail IsSoundRow row rows h) (All-tail (HasItsTypes so_far.types) row rows typed),
+      next-read so_far row (All-head IsSoundRow row rows h) (All-head (HasItsTypes so_far.types) row rows typed) (row-new so_far.rows row rows apart),
+    )
 
 epoch-begun : (types : List Count) (line : List ℕ) (head : ObservationHead) (lines : List ReadLine)
     → beginning_of line ≡ Ok (EpochBegins head) → epoch_place types (Content line ∷ lines) ≡ after_lines 1

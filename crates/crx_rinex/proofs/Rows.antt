@@ -1,6 +1,6 @@
 -- Rows of different satellites, one after another.
 use Rattle.std.proofs.Common.{◌≡◌, ℕ, ◌≤◌, Bool, false, List, [], ◌∷◌, ◌++◌, length, map, ◌||◌, refl}
-use Rattle.std.proofs.Common.{ap, sym, ◌∙◌, arith, Option, None, unwrap_or, cond, leb}
+use Rattle.std.proofs.Common.{ap, ◌∙◌, arith, Option, None, unwrap_or, cond, leb}
 use Rattle.std.proofs.lemmas.{Bool.{cases_Bool, leb-true, eqb-false}, Grind.common_steps, List.length_push}
 use Rattle.std.proofs.lemmas.{List.{map-append, Elements.All-push}, Slice.Eq.bytes_eq-Decides}
 use Rattle.std.specs.{List.list_any, Option.option_and_then, Str.bytes_eq}
@@ -40,13 +40,13 @@ pub parts-more : (head : ObservationHead) (names : List (List ℕ)) (rows : List
     → is_full_epoch (record { head = head.head; clock = head.clock; rows = rows }) ≡ false
     → IsSoundRow row → has_satellite row.name rows ≡ false
     → AreEpochParts head (names ++ row.name ∷ []) (rows ++ row ∷ [])
-parts-more head names rows row parts unfilled sound new = (
-  sound-with_row (record { head = head.head; clock = head.clock; rows = rows }) row
-      parts.0 sound unfilled new,
-  parts.1,
-  ap (λ (ns : List (List ℕ)). ns ++ row.name ∷ []) parts.2
-      ∙ sym (map-append (λ (r : Row). r.name) rows (row ∷ [])),
-)
+parts-more head names rows row parts unfilled sound new =
+    grind (
+      arith,
+      common_steps,
+      sound-with_row (record { head = head.head; clock = head.clock; rows = rows })
+          row parts.0 sound unfilled new,
+    )
 
 same-both_ways : (xs ys : List ℕ) → bytes_eq xs ys ≡ bytes_eq ys xs
 same-both_ways xs ys = grind (arith, common_steps, cases_Bool, bytes_eq, bytes_eq-Decides, other_way)

@@ -56,9 +56,7 @@ values_sound (Some x ∷ xs) values h e = grind (arith, common_steps, values_sou
 flags_long : (line : List ℕ) (m : ℕ) → length (flags_in m line) ≡ 2 * m
 flags_long line zero = refl
 flags_long line (suc m) =
-    let ih = flags_long line m in
-    let more = ap (λ (fs : List ℕ). length fs) (flags_in_more line m) ∙ length-append (flags_in m line) _ in
-    grind arith
+    grind (arith, common_steps, flags_long line m, flags_in_more line m, length-append (flags_in m line))
 
 -- what a satellite line is read as
 abbrev IsSoundRead : List Count → Result Row Fault → Type 0
@@ -194,9 +192,15 @@ good_rows zero so_far lines counts h sum = grind arith
 good_rows (suc count) so_far [] counts h sum = tt
 good_rows (suc count) so_far (Overlong ∷ lines) counts h sum = tt
 good_rows (suc count) so_far (Content line ∷ lines) counts h sum =
-    good_row count so_far line lines (λ row n. good_rows count (with_next_row so_far row) lines counts
-    (sound-next_row so_far row h n) (omega (arith, sum, length_push so_far.rows row))) (next_row so_far line)
-    (next_sound so_far line counts)
+    grind (
+      arith,
+      common_steps,
+      good_row count so_far line lines,
+      good_rows count,
+      sound-next_row so_far,
+      length_push so_far.rows,
+      next_sound so_far line counts,
+    )
 
 -- ---- where an epoch or an event may begin
 

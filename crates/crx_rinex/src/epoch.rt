@@ -1,6 +1,6 @@
 //! Observation epochs. RINEX 3.05, table A3.
 
-ghost use Rattle.std.specs.Prelude.{◌≡◌, ◌≤◌, ◌⊎◌, ◌+◌, [], length, true, false, vec_capacity, OnOk, OnErr, IfErr, IfSome, slice_get};
+ghost use Rattle.std.specs.Prelude.{◌≡◌, ◌≤◌, ◌⊎◌, [], length, true, false, OnOk, IfErr, IfSome, slice_get};
 ghost use Rattle.std.specs.Option.{option_copied};
 ghost use Rattle.crx_base.specs.declared.limits.TheConstants.{SATELLITES_LIMIT};
 ghost use Rattle.crx_header.specs.meaning.EpochColumns.{satellites_of};
@@ -8,14 +8,13 @@ ghost use Rattle.crx_rinex.specs.meaning.EpochLines.{IsObservationHead};
 ghost use Rattle.crx_rinex.specs.Epochs.{begun, is_full_epoch, with_row};
 ghost use Rattle.crx_rinex.specs.meaning.Epochs.{has_satellite, IsSoundEpoch};
 ghost use Rattle.crx_rinex.specs.meaning.SatelliteLines.{IsSoundRow};
-ghost use Rattle.indexmap.specs.IndexSet.{spare};
 
 use crate::epoch_line::EpochLine;
 use crate::satellite_row::SatRow;
 use crx_base::Fault;
 use crx_base::limits::NAME_WIDTH;
 use indexmap::IndexSet;
-use std::alloc::{AllocError, Global};
+use std::alloc::Global;
 use std::marker::Model;
 
 /// An observation epoch: its line and the rows of its satellites, each satellite once.
@@ -70,8 +69,11 @@ impl Epoch {
         if self.names.contains(&row.name()) {
             return Err((row, Fault::RepeatedSatellite));
         }
-        if make_room(&mut self.rows, &mut self.names, self.head.count()).is_err() {
-            return Err((row, Fault::OutOfMemory));
+        if self.rows.is_empty() {
+            let count = self.head.count();
+            if self.rows.reserve_exact(count).is_err() || self.names.reserve(count).is_err() {
+                return Err((row, Fault::OutOfMemory));
+            }
         }
         self.names.insert(row.name()).unwrap();
         self.rows.push(row).unwrap();
@@ -96,14 +98,6 @@ impl Epoch {
         &self.head
     }
 
-    /// How many rows there are so far.
-    pub fn count(&self) -> usize
-        ensures value { result ≡ length self.now.rows }
-        ensures within { result ≤ SATELLITES_LIMIT }
-    {
-        self.rows.len()
-    }
-
     /// The row at this place, from 0.
     pub fn row(&self, index: usize) -> Option<&SatRow>
         ensures value { option_copied result ≡ slice_get self.now.rows index }
@@ -112,25 +106,4 @@ impl Epoch {
     {
         self.rows.get(index)
     }
-}
-
-/// Asks for room for so many rows and identifiers in all, where there are none yet.
-fn make_room(
-    rows: &mut Vec<SatRow>,
-    names: &mut IndexSet<[u8; NAME_WIDTH]>,
-    count: usize,
-) -> Result<(), AllocError>
-    requires asked { (rows.old.items ≡ [])
-        ⊎ ((count ≤ vec_capacity rows.old) × (count ≤ length rows.old.items + spare names.old)) }
-    ensures rows { rows.new.items ≡ rows.old.items }
-    ensures names { names.new.keys ≡ names.old.keys }
-    ensures room { OnOk result
-        ((count ≤ vec_capacity rows.new) × (count ≤ length rows.new.items + spare names.new)) }
-    ensures err { OnErr result (rows.new.items ≡ []) }
-{
-    if rows.is_empty() {
-        rows.reserve_exact(count)?;
-        names.reserve(count)?;
-    }
-    Ok(())
 }

@@ -1,11 +1,9 @@
 //! The lines of an observation epoch, printed one at a time. RINEX 3.05, table A3.
 
-ghost use Rattle.std.specs.Prelude.{◌≡◌, ◌≤◌, ◌↔◌, [], None, Some, IsTrue, MatchBool, drop, slice_get};
-ghost use Rattle.std.specs.Bool.{OnTrue};
+ghost use Rattle.std.specs.Prelude.{◌≡◌, drop, slice_get};
 ghost use Rattle.std.specs.Borrow.{sem};
 ghost use Rattle.std.specs.Io.BufRead.{Rests};
 ghost use Rattle.std.specs.Option.{option_copied};
-ghost use Rattle.crx_base.specs.declared.limits.TheConstants.{SATELLITES_LIMIT};
 ghost use Rattle.crx_rinex.specs.meaning.Printing.{printed_epoch, printed_head};
 ghost use Rattle.crx_rinex.specs.contracts.printed.Printed.{the_row};
 
@@ -48,44 +46,20 @@ impl Printed {
         }
     }
 
-    /// Whether no line is pending.
-    pub fn is_drained(&self) -> bool
-        ensures value { IsTrue result ↔ (self.now ≡ []) }
-    {
-        self.next > 0 && self.epoch.row(self.next - 1).is_none()
-    }
-
     /// Hands out the next line, without its line end; `None` once none is pending.
     #[tactic(auto, using(crate::proofs::Lines::each_line))]
     pub fn next_line(&mut self) -> Option<&[u8]>
         ensures value { option_copied result ≡ slice_get self.old 0 }
         ensures* after_borrow { sem 𝓛 (Rests the_row self.entry (λ new. new ≡ drop 1 self.old)) }
     {
-        if print_line(&self.epoch, self.next, &mut self.text) {
-            self.next += 1;
-            return Some(self.text.bytes());
+        if self.next == 0 {
+            print_head(self.epoch.head(), &mut self.text);
+        } else {
+            self.epoch.row(self.next - 1)?.print(&mut self.text);
         }
-        None
+        self.next += 1;
+        Some(self.text.bytes())
     }
-}
-
-/// Prints the line of an epoch at a place, from 0; `false` where it has no such line.
-#[tactic(auto, using(crate::proofs::Lines::each_line))]
-fn print_line(epoch: &Epoch, index: usize, text: &mut Text) -> bool
-    ensures line { MatchBool result
-        (slice_get (printed_epoch epoch.now) index ≡ Some text.new)
-        (slice_get (printed_epoch epoch.now) index ≡ None) }
-    ensures within { OnTrue result (index ≤ SATELLITES_LIMIT) }
-{
-    if index == 0 {
-        print_head(epoch.head(), text);
-        return true;
-    }
-    let Some(row) = epoch.row(index - 1) else {
-        return false;
-    };
-    row.print(text);
-    true
 }
 
 /// Replaces a text by the printed epoch line, without blanks at its end.

@@ -1,6 +1,6 @@
 //! Satellite lines. RINEX 3.05, table A3, OBSERVATION record, A1,I2.2,m(F14.3,I1,I1).
 
-ghost use Rattle.std.specs.Prelude.{◌≡◌, ◌≤◌, ◌<◌, ◌+◌, ◌*◌, ◌++◌, ◌⊎◌, true, Ok, Err, filter, is_some, length, All, IfOk, IfErr, OnOk, MatchResult, slice_get, take};
+ghost use Rattle.std.specs.Prelude.{◌≡◌, ◌≤◌, ◌<◌, ◌+◌, ◌*◌, ◌++◌, ◌⊎◌, true, Ok, Err, is_some, length, All, IfOk, IfErr, MatchResult, slice_get, take};
 ghost use Rattle.std.specs.List.{list_all};
 ghost use Rattle.std.specs.Option.{ForSome};
 ghost use Rattle.crx_base.specs.declared.limits.TheConstants.{CELL_WIDTH, NAME_WIDTH, TYPES_LIMIT};
@@ -8,10 +8,9 @@ ghost use Rattle.crx_text.specs.meaning.Numbers.{IsValue};
 ghost use Rattle.crx_text.specs.Numbers.{IsObservation};
 ghost use Rattle.crx_text.specs.meaning.Texts.{is_kept};
 ghost use Rattle.crx_header.specs.meaning.ObservationTypes.{IsAllowedCount};
-ghost use Rattle.crx_rinex.specs.meaning.Observations.{observations_of};
 ghost use Rattle.crx_rinex.specs.meaning.Printing.{printed_row};
 ghost use Rattle.crx_text.specs.meaning.PrintedCells.{printed_cells};
-ghost use Rattle.crx_rinex.specs.SatelliteLines.{blank_row, row_by_cells, with_flags, with_value, ArePaired, IsRowOf};
+ghost use Rattle.crx_rinex.specs.SatelliteLines.{blank_row, with_flags, with_value};
 ghost use Rattle.crx_rinex.specs.meaning.SatelliteLines.{row_of, IsSoundRow};
 ghost use Rattle.crx_header.specs.meaning.Satellites.{is_identifier, types_of_satellite};
 
@@ -48,7 +47,8 @@ impl Model for SatRow {
 }
 
 impl SatRow {
-    /// Reads a satellite line, with the counts of types that the header declared (RINEX 3.05, table A3).
+    /// Reads a satellite line of any length, with the counts of types that the header declared (RINEX 3.05,
+    /// table A3).
     ///
     /// `BadSatellite` comes where columns 1 to 3 hold no identifier (a letter that has types, a digit or a
     /// blank, a digit); then `OutOfMemory`; then `BadField` where a field is neither blank nor a number of
@@ -69,7 +69,20 @@ impl SatRow {
         let Ok(mut flags) = vec![in alloc; b' '; 2 * m] else {
             return Err(Fault::OutOfMemory);
         };
-        read_any_line(line, &mut values, &mut flags)?;
+        let read = values.as_mut_slice();
+        let marks = flags.as_mut_slice();
+        for k in 0..m {
+            let cell = u8x16::from_array(padded(line, CELL_WIDTH * k + NAME_WIDTH + 1));
+            if !read_cell(cell, k, read, marks) {
+                return Err(Fault::BadField);
+            }
+        }
+        if !all_blank(after_columns(line, CELL_WIDTH * m + NAME_WIDTH)) {
+            return Err(Fault::BadField);
+        }
+        if !all_kept(marks) {
+            return Err(Fault::BadFlags);
+        }
         Ok(SatRow {
             name: identifier(line, 1),
             values,
@@ -148,14 +161,6 @@ impl SatRow {
         put_flags(&mut self.flags, flags);
     }
 
-    /// How many of the values aren't missing.
-    pub fn observations(&self) -> usize
-        ensures value { result ≡ observations_of self.now }
-        ensures within { result ≤ TYPES_LIMIT }
-    {
-        present(&self.values)
-    }
-
     /// Replaces a text by the printed satellite line, without blanks at its end.
     pub fn print(&self, text: &mut Text)
         ensures value { text.new ≡ printed_row self.now }
@@ -163,19 +168,6 @@ impl SatRow {
     {
         print_row(self.name, &self.values, &self.flags, text);
     }
-}
-
-/// How many of some values aren't missing. The loop becomes one of vectors; an iterator's count takes some
-/// ten instructions for each value.
-pub(crate) fn present(values: &[Option<i64>]) -> usize
-    ensures value { result ≡ length (filter is_some values.now) }
-    ensures within { result ≤ length values.now }
-{
-    let mut count = 0;
-    for k in 0..values.len() {
-        count += usize::from(values[k].is_some());
-    }
-    count
 }
 
 /// Replaces a text by the printed line of a row, without blanks at its end.
@@ -192,28 +184,6 @@ pub(crate) fn print_row(
     append(text, &name);
     text.len = print_cells(values, flags, &mut text.bytes, NAME_WIDTH);
     text.trim_end_blanks();
-}
-
-/// Reads the cells of a line of any length one by one, as many as there are values.
-fn read_any_line(line: &[u8], values: &mut [Option<i64>], flags: &mut [u8]) -> Result<(), Fault>
-    requires { ArePaired values.old flags.old }
-    ensures ok { OnOk result (IsRowOf (length values.old) line.now values.new flags.new) }
-    ensures err { IfErr result (λ fault. row_by_cells (length values.old) line.now ≡ Err fault) }
-{
-    let count = values.len();
-    for k in 0..count {
-        let cell = u8x16::from_array(padded(line, CELL_WIDTH * k + NAME_WIDTH + 1));
-        if !read_cell(cell, k, values, flags) {
-            return Err(Fault::BadField);
-        }
-    }
-    if !all_blank(after_columns(line, CELL_WIDTH * count + NAME_WIDTH)) {
-        return Err(Fault::BadField);
-    }
-    if !all_kept(flags) {
-        return Err(Fault::BadFlags);
-    }
-    Ok(())
 }
 
 /// Prints cells in place of the bytes from an index on, each value in its columns, and its two indicators,

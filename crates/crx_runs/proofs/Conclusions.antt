@@ -1,21 +1,21 @@
 -- What follows from how a run ended.
 use Rattle.std.proofs.lemmas.Grind.{common_steps}
-use Rattle.std.proofs.Common.{◌≡◌, ◌⊎◌, inl, inr, ℕ, ◌≤◌, Bool, true, List, [], ◌++◌, length, Option, Some}
-use Rattle.std.proofs.Common.{None, refl, sym, ap, subst, ◌∙◌, arith, append-nil, length-append}
+use Rattle.std.proofs.Common.{◌≡◌, ◌⊎◌, inl, inr, ℕ, ◌≤◌, Bool, false, true, List, [], ◌++◌, length, Option, Some}
+use Rattle.std.proofs.Common.{None, refl, sym, ap, ◌∙◌, arith, append-nil, length-append}
 use Rattle.crx_lines.{proofs.ProgressLemmas.{HasRead-ended, HasRead-stopped}, specs.Reading.ReaderState}
 use Rattle.crx_lines.specs.{Progress.{HasRead, IsStopped}, declared.phase.Phase.TheVariants.{Open, Ended}}
 use Rattle.crx_base.specs.{declared.fault.Fault.Fault, meaning.Lines.{InputLine, lines_of}}
 use Rattle.crx_base.specs.declared.{limits.TheConstants.INPUT_LIMIT}
 use Rattle.crx_base.specs.declared.fault.{Fault.TheVariants.{ReadFailed, OutOfMemory}, At.At}
-use Rattle.crx_runs.proofs.{Salvaged.{AskedOnce, is-open, none-failed, asked-once}, RunEndings.line-stands}
-use Rattle.crx_runs.proofs.RunEndings.{end-stands, handing-stands, reader-stands, start-stands, flush-stands, StandsAfter}
+use Rattle.crx_runs.proofs.{Salvaged.{AskedOnce, is-open, none-failed, asked-once}, RunEndings.next-stands}
+use Rattle.crx_runs.proofs.RunEndings.{handing-stands, reader-stands, start-stands, flush-stands, StandsAfter}
 use Rattle.crx_runs.proofs.{RunEndings.well-front, DeviceSpans.{Joins, took-still}}
 use Rattle.crx_lines.specs.meaning.Devices.{with_failed_flush}
 use Rattle.crx_runs.specs.{Runs.result_by, Lawful.IsLawful, meaning.Spans.{Device, TookAll, Input}}
-use Rattle.crx_runs.specs.meaning.{Filters.{Filter, with_next}, Interruptions.IsFrontPart, Runs.IsResult}
+use Rattle.crx_runs.specs.meaning.{Filters.{Filter, course_with}, Interruptions.IsFrontPart, Runs.IsResult}
 use Rattle.crx_runs.specs.meaning.{Runs.{NoneFailed, FaultIs, RunsAs}, Results.{Course, result_of_course}}
 use Rattle.crx_runs.specs.{meaning.Results.status_after, Endings.{EndedByFault, EndsAt, Finishes}}
-use Rattle.crx_runs.specs.Endings.{FlushFailed, IsFlushed, StopsAt, WorkEnds}
+use Rattle.crx_runs.specs.Endings.{EndsBy, FlushFailed, IsFlushed, StopsAt, WorkEnds}
 use Rattle.crx_runs.specs.{declared.one_line.Halt.Halt, meaning.Messages.{error_text, notices_text}}
 use Rattle.crx_runs.specs.declared.one_line.Halt.TheVariants as halt
 
@@ -102,6 +102,27 @@ module _ (filter : Filter) (lawful : IsLawful filter) (input : Input)
         input writer messages has_ended status fault
     interrupted = grind arith
 
+    -- what came next ended the run: in every longer input that begins with what was given, a fault of it is
+    -- the same
+    same-whole : {lines : List InputLine} (next : Option InputLine) (e : EndsBy filter input writer1 messages1
+        now lines next halt) (rest : List ℕ) → (input.at_end → rest ≡ []) → (at : At)
+        → (course_with filter lines next).fault ≡ Some at
+        → filter.whole (lines_of (e.read.given ++ rest)) ≡ course_with filter lines next
+    same-whole (Some line) e rest none at bad = let first = first-lines e.read e.going rest none in
+        ap filter.whole first.1 ∙ lawful.decided _ first.0 at bad
+    same-whole None e rest none at bad = ap filter.whole (all-lines e.read (e.ended refl) rest none)
+
+    stopped-next : (lines : List InputLine) (next : Option InputLine)
+        → EndsBy filter input writer1 messages1 now lines next halt
+        → last ≡ now.number → Comes filter input writer messages has_ended status fault
+    stopped-next lines next e last_is =
+        let h = e.read in
+        interrupted h.given h.lead
+        (next-stands filter lawful input w m now last warned halt status fault finished lines next e last_is)
+        (λ rn wn mn memory rest none within. ends-whole _ _ (filter.so_far lines) _ _
+        halt last warned status fault (same-whole next e rest none) e.ends finished wn mn memory)
+        (asked-once h e.going) (λ other. none-failed h e.going)
+
     stopped-in-lines : (lines : List InputLine) → StopsAt filter input writer1 messages1 now lines halt
         → last ≡ now.number → Comes filter input writer messages has_ended status fault
     stopped-in-lines lines (inl s) last_is =
@@ -109,25 +130,15 @@ module _ (filter : Filter) (lawful : IsLawful filter) (input : Input)
         let stopped = HasRead-stopped _ _ _ _ _ _ h s.0 s.2.stopped in
         interrupted h.given h.lead
         (reader-stands filter lawful input w m now last warned halt status fault finished lines s.0 s.1 s.2)
-        (λ rn wn mn memory rest none within. absurd (stopped-none s.0.fault h.given lines rest stopped.0
-        within rn))
+        (λ rn wn mn memory rest none within. grind (arith, common_steps, h, stopped, stopped-none))
         (grind arith)
         (grind arith)
-    stopped-in-lines lines (inr (inl e)) last_is =
-        let h = e.read in
-        interrupted h.given h.lead
-        (line-stands filter lawful input w m now last warned halt status fault finished lines e last_is)
-        (λ rn wn mn memory rest none within. let first = first-lines h e.going rest none in
-        ends-whole _ _ (filter.so_far lines) (filter.so_far (with_next lines e.line)) _ halt last warned
-        status fault
-        (λ at bad. ap filter.whole first.1 ∙ lawful.decided _ first.0 at bad) e.ends finished wn mn memory)
-        (asked-once h e.going) (λ other. none-failed h e.going)
+    stopped-in-lines lines (inr (inl (line, e))) last_is = stopped-next lines (Some line) e last_is
     stopped-in-lines lines (inr (inr (is, s))) last_is =
         let h = s.read in
         interrupted h.given h.lead
         (handing-stands filter lawful input w m now last warned halt status fault finished lines is s last_is)
-        (λ rn wn mn memory rest none within. absurd (handing-none s.failed (subst (λ (stop : Halt). Finishes
-        writer2 messages2 last warned (Some stop) status fault) is finished).0.1 wn))
+        (λ rn wn mn memory rest none within. grind (arith, common_steps, handing-none s.failed, fault))
         (asked-once h s.going) (λ other. none-failed h s.going)
 
   pub runs-as : (has_ended : List InputLine → Type 0) (now : ReaderState) (last : ℕ) (warned : Bool)
@@ -152,43 +163,29 @@ module _ (filter : Filter) (lawful : IsLawful filter) (input : Input)
         (λ e. rw (← over.all) done.engine_ended),
       )
   runs-as has_ended now last warned None status (Some at) done finished =
-      let over = HasRead-ended _ _ _ _ _ _ done.read done.ended in
-      let never : Some at ≡ None → ⊥ = no-fault at (Some at) refl in (
-        done.read.given,
-        done.read.lead,
-        record {
-          whole = grind arith;
-          good = λ e. absurd (never e);
-          flushed = λ e. absurd (never e);
-          ended = flush-stands filter lawful input w m has_ended now last warned status at done finished;
-          asked = inr (ap (λ t. t.ends) over.counts);
-          read = λ other. ap (λ t. t.failures) over.counts;
-          front = well-front filter lawful input w m has_ended now last warned done finished.0.0;
-        },
-        (λ e. absurd (never e)),
+      grind (
+        arith,
+        common_steps,
+        HasRead-ended,
+        no-fault at (Some at) refl,
+        flush-stands filter lawful input w m has_ended now last warned status at done finished,
+        well-front filter lawful input w m has_ended now last warned done finished.0.0,
       )
-  runs-as has_ended now last warned (Some halt) status fault (inl s) finished =
-      stopped-in-lines has_ended now last warned halt status fault finished s.0 s.1 s.2
-  runs-as has_ended now last warned (Some halt) status fault (inr (inl s)) finished =
-      let h = s.read in
-      interrupted has_ended now last warned halt status fault finished h.given h.lead
-      (end-stands filter lawful input w m now last warned halt status fault finished s)
-      (λ rn wn mn memory rest none within.
-      ends-whole None (length s.lines) (filter.so_far s.lines) (filter.whole s.lines) _ halt last warned
-      status fault (λ at bad. ap filter.whole (all-lines h s.ended rest none)) s.ends finished wn mn memory)
-      (asked-once h (inr s.ended)) (λ other. none-failed h (inr s.ended))
-  runs-as has_ended now last warned (Some halt) status fault (inr (inr s)) finished =
+  runs-as has_ended now last warned (Some halt) status fault (inl (lines, inl s, is)) finished =
+      stopped-in-lines has_ended now last warned halt status fault finished lines s is
+  runs-as has_ended now last warned (Some halt) status fault (inl (lines, inr e, is)) finished =
+      stopped-next has_ended now last warned halt status fault finished lines None e is
+  runs-as has_ended now last warned (Some halt) status fault (inr s) finished =
       interrupted has_ended now last warned halt status fault finished [] s.gave
       (start-stands filter lawful input w m now last warned halt status fault finished s) (grind arith)
       (inl (ap (λ t. t.ends) s.counts)) (λ other. ap (λ t. t.failures) s.counts)
 
   -- memory ran out before the first line was asked for
-  pub runs-nothing : (has_ended : List InputLine → Type 0) (last : ℕ) (warned : Bool) (stop : Option Halt)
-      (status : ℕ) (fault : Option At) → stop ≡ Some (halt.Fault (record { line = 0; fault = OutOfMemory }))
-      → last ≡ 0 → input.gave [] → input.counted ≡ input.start → TookAll writer1 [] → TookAll messages1 []
-      → Finishes writer2 messages2 last warned stop status fault → Comes filter input writer messages
-      has_ended status fault
-  runs-nothing has_ended last warned stop status fault is none gave counts wrote reported finished =
+  pub runs-nothing : (has_ended : List InputLine → Type 0) (status : ℕ) (fault : Option At) → input.gave []
+      → input.counted ≡ input.start → TookAll writer1 [] → TookAll messages1 [] → Finishes writer2 messages2 0
+      false (Some (halt.Fault (record { line = 0; fault = OutOfMemory }))) status fault
+      → Comes filter input writer messages has_ended status fault
+  runs-nothing has_ended status fault gave counts wrote reported finished =
       let now : ReaderState = record { rest = []; passed = 0; number = 0; phase = Open } in
-      runs-as has_ended now last warned stop status fault
-      (grind arith) finished
+      runs-as has_ended now 0 false (Some (halt.Fault (record { line = 0; fault = OutOfMemory }))) status
+      fault (grind arith) finished

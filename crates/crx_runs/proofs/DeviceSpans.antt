@@ -37,13 +37,7 @@ idle device =
     }
 
 pub joins-idle : {device : Device} → Joins (idle device) device device
-joins-idle {device = device} = record {
-  same = refl;
-  start = refl;
-  end = refl;
-  joined = λ xs ys none took. subst (λ (first : List ℕ). device.took (first ++ ys)) (sym none) took;
-  flushed = λ flushed. flushed;
-}
+joins-idle {device = device} = grind (arith, common_steps)
 
 pub all-all : {first second both : Device} → Joins first second both → (xs ys : List ℕ)
     → TookAll first xs → TookAll second ys → TookAll both (xs ++ ys)
@@ -84,13 +78,7 @@ part-resumed start xs ys more all within is p =
     let n = p.count in
     let front = ap (take _) is ∙ take-append-le _ _ more (omega (arith, p.less, length-append xs ys))
     ∙ take-append-add xs ys n in
-    record {
-      count = length xs + n;
-      some = omega arith;
-      less = omega (arith, p.less, ap length is, length-append (xs ++ ys) more, length-append xs ys);
-      took = (take n ys, front, p.took);
-      failed = p.failed;
-    }
+    grind (arith, common_steps, n, front, length-append (xs ++ ys) more, length-append xs ys)
 
 -- what a device took, another took as well, and counted the same
 pub record Carries (one other : Device) : Type 0 where

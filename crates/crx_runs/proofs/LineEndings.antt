@@ -6,8 +6,8 @@ use Rattle.crx_base.specs.declared.fault.{At.At, Fault.TheVariants.OutOfMemory}
 use Rattle.crx_runs.proofs.DeviceSpans.{Joins, Carries, all-all, all-resumed, carry-on, none-resumed}
 use Rattle.crx_runs.proofs.DeviceSpans.{part-resumed}
 use Rattle.crx_runs.{proofs.DeviceSpans.notices-append}
-use Rattle.crx_runs.{specs.Endings.{Adds, IsAllOut, EndsAt, EndsFrom, resumed}}
-use Rattle.crx_runs.specs.{Engines.EndsWith, Taking.IsDone, declared.one_line.Halt.Halt}
+use Rattle.crx_runs.{specs.Endings.{IsAllOut, EndsAt, EndsFrom, resumed}}
+use Rattle.crx_runs.specs.{Engines.{Adds, EndsWith}, Taking.IsDone, declared.one_line.Halt.Halt}
 use Rattle.crx_runs.specs.declared.one_line.Halt.TheVariants.{Fault, Unwritten, Unreported}
 use Rattle.crx_runs.specs.meaning.{Messages.notices_text, Results.{Course, are_some}}
 use Rattle.crx_runs.specs.meaning.{Spans.{Device, TookAll, AreNext}}
@@ -79,10 +79,7 @@ module _ {writer1 writer2 writer messages1 messages2 messages : Device} (w : Joi
           adds = a;
           wrote = part-resumed before.output before.output text [] after.output (omega arith)
               (a.output ∙ sym (append-nil (before.output ++ text))) e.wrote;
-          reported = all-resumed messages2 (notices_text told) (notices_text after.warnings) (notices_text
-              notices)
-              (ap notices_text (a.warnings ∙ sym (append_assoc _ earlier notices)) ∙ notices-append told
-              notices) e.reported;
+          reported = grind (arith, common_steps, a, all-resumed, earlier, notices-append);
         })
     step-ends text notices adds next Unreported e = over-both Unreported (record {
       notices = earlier ++ notices;

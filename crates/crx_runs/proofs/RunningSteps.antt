@@ -6,7 +6,7 @@ use Rattle.crx_base.specs.meaning.Lines.{InputLine}
 use Rattle.crx_lines.specs.Reading.{HasNoFeed, ReaderState}
 use Rattle.crx_lines.specs.declared.phase.Phase.TheVariants.{Open}
 use Rattle.crx_runs.proofs.{DeviceSpans.{Joins, all-still, took-still}, LineEndings.out-more, StepReading.ReadsLine}
-use Rattle.crx_runs.specs.{Endings.{EndsFrom, FlushFailed, HandingFailed, StoppedByEnd, WellDone}, Engines.Awaited}
+use Rattle.crx_runs.specs.{Endings.{EndsBy, EndsFrom, FlushFailed, HandingFailed, WellDone}, Engines.Awaited}
 use Rattle.crx_runs.specs.{Running.{ComesToEnd, GoesOnBy, IsRunning, StepGoes}, Taking.{Becomes, IsDone}}
 use Rattle.crx_runs.specs.{declared.one_line.Halt.Halt, meaning.Filters.{Filter, with_next}}
 use Rattle.crx_runs.specs.meaning.{Results.{Course, are_some}, Spans.{Device, Input, TookAll}}
@@ -40,19 +40,18 @@ module _ (filter : Filter) {input then : Input} {old new : ReaderState} {lines :
 module _ {filter : Filter} {input : Input} {now : ReaderState} {lines : List InputLine}
     {writer1 writer2 writer messages1 messages2 messages : Device} (w : Joins writer1 writer2 writer)
     (m : Joins messages1 messages2 messages) {shows : List InputLine → List Awaited → Type 0}
-    (comes : ComesToEnd filter shows input writer1 messages1 now lines) {last : ℕ}
-    (last_is : last ≡ now.number) where
+    (comes : ComesToEnd filter shows input writer1 messages1 now lines) where
   -- the end was taken
-  pub well-done : {has_ended : List InputLine → Type 0} {warned warning both : Bool}
-      → warned ≡ are_some (filter.so_far lines).warnings → both ≡ (warned || warning)
+  pub well-done : {has_ended : List InputLine → Type 0} {last : ℕ} {warned warning both : Bool}
+      → last ≡ now.number → warned ≡ are_some (filter.so_far lines).warnings → both ≡ (warned || warning)
       → IsDone (filter.so_far lines) (filter.whole lines) (has_ended lines) writer2 messages2 warning
       → WellDone filter has_ended input writer messages now last both
   well-done = grind (arith, common_steps, out-more)
 
   -- the end ended the run
   pub stopped-end : (halt : Halt)
-      → EndsFrom None (length lines) writer2 messages2 (filter.so_far lines) (filter.whole lines) halt
-      → StoppedByEnd filter input writer messages now last halt
+      → EndsFrom None (length lines + 1) writer2 messages2 (filter.so_far lines) (filter.whole lines) halt
+      → EndsBy filter input writer messages now lines None halt
   stopped-end = grind arith
 
 module _ {input : Input} {now : ReaderState} {lines : List InputLine} {course : Course}

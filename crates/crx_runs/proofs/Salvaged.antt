@@ -1,6 +1,6 @@
 -- What is after a run, by how it ended.
 use Rattle.std.proofs.lemmas.Grind.{common_steps}
-use Rattle.std.proofs.Common.{arith, ◌≡◌, ◌⊎◌, inl, inr, ℕ, ◌≤◌, List, [], ◌++◌, length, take, drop, refl}
+use Rattle.std.proofs.Common.{arith, ◌≡◌, ◌⊎◌, inl, inr, ℕ, ◌≤◌, List, [], ◌++◌, length, take, drop, Option, Some, None, refl}
 use Rattle.std.proofs.{Common.{sym, ap, subst, ◌∙◌, append-nil, append_assoc}, lemmas.List.take_all}
 use Rattle.std.proofs.lemmas.List.{take-append-drop}
 use Rattle.crx_lines.proofs.ProgressLemmas.{ended_lines-none}
@@ -10,7 +10,7 @@ use Rattle.crx_base.specs.declared.fault.Fault.{TheVariants.{InputTooLong, ReadF
 use Rattle.crx_base.specs.{declared.limits.TheConstants.INPUT_LIMIT, meaning.AsRead.ended_lines_of}
 use Rattle.crx_base.specs.meaning.Lines.{InputLine, lines_of}
 use Rattle.crx_runs.specs.{Lawful.IsLawful, meaning.Interruptions.{complete_lines, AreAll, AreAllSoFar, AreTaken, IsTurn}}
-use Rattle.crx_runs.specs.meaning.{Results.{Course, Begins}, Filters.Filter, Spans.Input}
+use Rattle.crx_runs.specs.meaning.{Results.Begins, Filters.{Filter, course_with, lines_with}, Spans.Input}
 
 -- ---- what was read
 
@@ -57,9 +57,13 @@ module _ {input : Input} {now : ReaderState} {lines : List InputLine}
   pub asked-once : (now.phase ≡ Open) ⊎ (now.phase ≡ Ended) → AskedOnce input
   asked-once = grind arith
 
-pub all-of : {input : Input} {given : List ℕ} {lines : List InputLine}
-    → AreAll input given lines → AreAll input given (lines_of given)
-all-of a = record { reported = a.reported; within = a.within; same = refl }
+-- what was taken last, of an input that came to it
+pub turn-read : {input : Input} {now : ReaderState} (lines : List InputLine) (next : Option InputLine)
+    (h : HasRead input.gave input.at_end input.start input.counted now (lines_with lines next))
+    → (now.phase ≡ Open) ⊎ (now.phase ≡ Ended) → (next ≡ None → now.phase ≡ Ended)
+    → IsTurn input h.given lines next
+turn-read lines (Some line) h going ended = taken-read h going
+turn-read lines None h going ended = all-read h (ended refl)
 
 -- the lines before the reading stopped are those that were complete
 pub complete-stopped : (given : List ℕ) (lines : List InputLine) (f : Fault) (start counted : Tally)
@@ -95,16 +99,17 @@ module _ {filter : Filter} (lawful : IsLawful filter) (input : Input) (given : L
   )
 
   -- the output after a turn is first, and so is that before it
-  pub first-after-turn : {before after : Course} {last : ℕ} (written : List ℕ)
-      → IsTurn filter input given before after last → Begins after.output written → IsFirst written
-  first-after-turn written (inl t) begins = first-taken _ written t.taken (rw (← t.after_is) begins)
-  first-after-turn written (inr t) begins = grind arith
+  pub first-after-turn : (lines : List InputLine) (next : Option InputLine) (written : List ℕ)
+      → IsTurn input given lines next → Begins (course_with filter lines next).output written → IsFirst
+      written
+  first-after-turn lines (Some line) written turn begins = first-taken _ written turn begins
+  first-after-turn lines None written turn begins = inr (turn.reported, rw turn.same begins)
 
-  pub first-before-turn : {before after : Course} {last : ℕ} (written : List ℕ)
-      → IsTurn filter input given before after last → Begins before.output written → IsFirst written
-  first-before-turn written (inl t) begins = first-taken _ written t.taken
-      (begins-more (lawful.grows t.lines _) (rw (← t.before_is) begins))
-  first-before-turn written (inr t) begins = first-taken _ written (inr t.all) (rw (← t.before_is) begins)
+  pub first-before-turn : (lines : List InputLine) (next : Option InputLine) (written : List ℕ)
+      → IsTurn input given lines next → Begins (filter.so_far lines).output written → IsFirst written
+  first-before-turn lines (Some line) written turn begins =
+      first-taken _ written turn (begins-more (lawful.grows lines _) begins)
+  first-before-turn lines None written turn begins = first-taken _ written (inr turn) begins
 
   pub first-complete : (lines : List InputLine) → lines ≡ complete_lines given
       → IsFirst (filter.so_far lines).output

@@ -1,6 +1,6 @@
 -- What a reader of lines answers, by the lines that were read before.
 use Rattle.std.proofs.lemmas.Grind.{common_steps}
-use Rattle.std.proofs.Common.{◌≡◌, ◌⊎◌, ⊎_elim, ℕ, ◌+◌, true, List, [], ◌++◌, length, Option, Some, None}
+use Rattle.std.proofs.Common.{◌≡◌, ◌⊎◌, ℕ, ◌+◌, true, List, [], ◌++◌, length, Option, Some, None}
 use Rattle.std.proofs.Common.{Result, Ok, Err, arith, ◌∙◌, ◌≢◌}
 use Rattle.std.{proofs.lemmas.List.Elements.{All-from_get_or}, specs.List.{Contains}}
 use Rattle.crx_lines.{proofs.ProgressLemmas.HasRead-next, specs.Progress.{AtAnswer, HasRead}}
@@ -63,10 +63,7 @@ module _ {step : List ℕ → Type 0} {at_end' : Type 0} {counted counted' : Tal
     pub overlong-read : (at : At) → r ≡ Err at → at.fault ≡ LineTooLong → (line : InputLine)
         × (is_long line ≡ true) × ReadsLine gives at_end' start counted' new lines line at.line
     overlong-read at is long =
-        let a = answers (Err at) is (err-not-none at) in
-        let f : AnswersFault old a.1.0 at_end' counted counted' at LineTooLong new = grind arith in
-        let n = next-lines (Err at) a.0 a.1 in
-        (grind arith)
+        grind (arith, common_steps, answers (Err at) is (err-not-none at), next-lines (Err at))
 
     pub stop-read : (at : At) → r ≡ Err at → (at.fault ≡ LineTooLong → ⊥)
         → HasRead gives at_end' start counted' new lines × (new.phase ≡ Stopped at)
@@ -77,9 +74,7 @@ module _ {step : List ℕ → Type 0} {at_end' : Type 0} {counted counted' : Tal
 
     pub end-read : r ≡ Ok None → (old.phase ≡ Ended → HasRead gives at_end' start counted' new lines
         × (new.phase ≡ Ended)) → HasRead gives at_end' start counted' new lines × (new.phase ≡ Ended)
-    end-read is kept = ⊎_elim (λ e.
-        let n = next-lines (Ok None) e (grind arith) in
-        grind arith) kept asked.going
+    end-read is kept = grind (arith, common_steps, next-lines (Ok None))
 
 -- bytes among which there is no LF
 pub has-no-feed : (bytes : List ℕ) → (Contains bytes 10 → ⊥) → HasNoFeed bytes

@@ -10,8 +10,8 @@ use Rattle.crx_lines.specs.Reading.{HasNoFeed, ReaderState}
 use Rattle.crx_runs.specs.declared.one_line.Halt.{Halt}
 use Rattle.crx_runs.specs.declared.one_line.Halt.TheVariants.{Unwritten, Unreported}
 use Rattle.crx_runs.specs.declared.one_line.Halt.TheVariants as halts
-use Rattle.crx_runs.specs.Engines.{EndsWith}
-use Rattle.crx_runs.specs.meaning.Filters.{Filter, with_next}
+use Rattle.crx_runs.specs.Engines.{Adds, EndsWith}
+use Rattle.crx_runs.specs.meaning.Filters.{Filter, course_with, lines_with, memory_with}
 use Rattle.crx_runs.specs.meaning.Messages.{error_text, notices_text}
 use Rattle.crx_runs.specs.meaning.Results.{Course, are_some, good_status}
 use Rattle.crx_runs.specs.meaning.Spans.{Device, TookAll, TookPart, AreNext, Input, IsPart}
@@ -23,12 +23,6 @@ pub record IsAllOut (writer messages : Device) (course : Course) : Type 0 where
   pub reported : TookAll messages (notices_text course.warnings)
 
 -- ---- by what the lines of the input make
-
--- a course goes on by a text and warnings, and nothing ends it
-pub record Adds (before after : Course) (text : List ℕ) (notices : List At) : Type 0 where
-  pub output : after.output ≡ before.output ++ text
-  pub warnings : after.warnings ≡ before.warnings ++ notices
-  pub good : after.fault ≡ None
 
 -- memory ran out at a line that may take some: all before it was written and reported, and those of its own warnings
 -- after which it may
@@ -99,14 +93,14 @@ pub record ReaderStopped (input : Input)
   pub stopped : now.phase ≡ Stopped at
   pub out : IsAllOut writer messages course
 
--- the line after these ended the run
-pub record EndsBy (filter : Filter)
-    (input : Input) (writer messages : Device) (now : ReaderState) (lines : List InputLine) (halt : Halt) : Type 0 where
-  pub line : InputLine
-  pub read : HasRead input.gave input.at_end input.start input.counted now (with_next lines line)
+-- what came after these lines ended the run: a line, or the end of the input
+pub record EndsBy (filter : Filter) (input : Input) (writer messages : Device) (now : ReaderState)
+    (lines : List InputLine) (next : Option InputLine) (halt : Halt) : Type 0 where
+  pub read : HasRead input.gave input.at_end input.start input.counted now (lines_with lines next)
   pub going : (now.phase ≡ Open) ⊎ (now.phase ≡ Ended)
-  pub ends : EndsAt (filter.memory_after lines line)
-      (length lines + 1) writer messages (filter.so_far lines) (filter.so_far (with_next lines line)) halt
+  pub ended : next ≡ None → now.phase ≡ Ended
+  pub ends : EndsAt (memory_with filter lines next)
+      (length lines + 1) writer messages (filter.so_far lines) (course_with filter lines next) halt
 
 -- what these lines make was written, and couldn't be handed on before more was to be read, as no line with its LF is
 -- held: a flush failed
@@ -124,17 +118,8 @@ pub record HandingFailed (input : Input)
 abbrev pub StopsAt : Filter → Input → Device → Device → ReaderState → List InputLine → Halt → Type 0
 StopsAt filter input writer messages now lines halt =
     ((at : At) × (halt ≡ halts.Fault at) × ReaderStopped input writer messages now lines (filter.so_far lines) at)
-    ⊎ (EndsBy filter input writer messages now lines halt
+    ⊎ (((line : InputLine) × EndsBy filter input writer messages now lines (Some line) halt)
     ⊎ ((halt ≡ Unwritten) × HandingFailed input writer messages now lines (filter.so_far lines)))
-
--- the end of the input ended it
-pub record StoppedByEnd (filter : Filter)
-    (input : Input) (writer messages : Device) (now : ReaderState) (last : ℕ) (halt : Halt) : Type 0 where
-  pub lines : List InputLine
-  pub read : HasRead input.gave input.at_end input.start input.counted now lines
-  pub ended : now.phase ≡ Ended
-  pub ends : EndsAt None (length lines) writer messages (filter.so_far lines) (filter.whole lines) halt
-  pub last_is : last ≡ length lines
 
 -- memory ran out before the first line was asked for
 pub record StoppedAtStart (input : Input) (writer messages : Device) (last : ℕ) (halt : Halt) : Type 0 where
@@ -162,9 +147,9 @@ abbrev pub WorkEnds : Filter → (List InputLine → Type 0)
 WorkEnds filter has_ended input writer messages now last warned None =
     WellDone filter has_ended input writer messages now last warned
 WorkEnds filter has_ended input writer messages now last warned (Some halt) =
-    ((lines : List InputLine) × StopsAt filter input writer messages now lines halt × (last ≡ now.number))
-    ⊎ (StoppedByEnd filter input writer messages now last halt
-    ⊎ StoppedAtStart input writer messages last halt)
+    ((lines : List InputLine) × (StopsAt filter input writer messages now lines halt
+    ⊎ EndsBy filter input writer messages now lines None halt) × (last ≡ now.number))
+    ⊎ StoppedAtStart input writer messages last halt
 
 -- ---- how a run is finished once its work has ended: the writer is flushed, and the fault is reported
 

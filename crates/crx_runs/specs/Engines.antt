@@ -6,8 +6,9 @@ use Rattle.crx_base.specs.declared.fault.At.{At}
 use Rattle.crx_base.specs.declared.fault.Fault.TheVariants.{OutOfMemory}
 use Rattle.crx_base.specs.declared.limits.TheConstants.{INPUT_LIMIT}
 use Rattle.crx_runs.specs.meaning.Results.{Course}
-use Rattle.crx_runs.specs.meaning.Filters.{Filter, with_next}
 use Rattle.crx_base.specs.meaning.Lines.{lines_text}
+use Rattle.crx_runs.specs.meaning.Filters.{Filter, course_with, memory_with, with_next}
+use Rattle.crx_runs.specs.meaning.Spans.{AreNext}
 use Rattle.crx_runs.specs.declared.engine.HandedOut.{HandedOut}
 use Rattle.crx_runs.specs.declared.engine.HandedOut.TheVariants.{Nothing, Lines, AsItIs}
 use Rattle.crx_runs.specs.declared.engine.Step.{Step}
@@ -57,9 +58,9 @@ pub record HasStepped (before after : Filter) (ready : List (List ℕ)) (answer 
   pub drained : IfOk answer (λ step. IsDrainedAfter step ready)
   pub nothing : OnErr answer (ready ≡ [])
 
--- a course goes on: these lines are written then, these warnings are reported, and no fault ends it
-pub record GoesOn (before after : Course) (texts : List (List ℕ)) (notices : List At) : Type 0 where
-  pub output : after.output ≡ before.output ++ lines_text texts
+-- a course goes on by a text and warnings, and nothing ends it
+pub record Adds (before after : Course) (text : List ℕ) (notices : List At) : Type 0 where
+  pub output : after.output ≡ before.output ++ text
   pub warnings : after.warnings ≡ before.warnings ++ notices
   pub good : after.fault ≡ None
 
@@ -68,11 +69,6 @@ pub record EndsWith (before after : Course) (notices : List At) (at : At) : Type
   pub output : after.output ≡ before.output
   pub warnings : after.warnings ≡ before.warnings ++ notices
   pub fault : after.fault ≡ Some at
-
--- a warning is the first that a line adds
-abbrev pub IsNext : Filter → List InputLine → InputLine → At → Type 0
-IsNext filter lines line notice = (more : List At)
-    × ((filter.so_far (with_next lines line)).warnings ≡ (filter.so_far lines).warnings ++ notice ∷ more)
 
 -- a warning that was answered to a line which is to come a second time
 pub record Awaited : Type 0 where
@@ -97,36 +93,35 @@ pub record KeepsAllElse (before after : Filter) (took takes : List InputLine →
   pub shows : (lines : List InputLine) (notices : List Awaited) → took lines notices → takes lines notices
   pub ended : (lines : List InputLine) → had_ended lines → has_ended lines
 
--- memory ran out at a line that may take some, after these of its warnings
-pub record RunsOutAt (filter : Filter)
-    (lines : List InputLine) (line : InputLine) (notices : List At) (at : At) : Type 0 where
-  pub fault : at.fault ≡ OutOfMemory
-  pub place : at.line ≡ length lines + 1
-  pub allowed : filter.memory_after lines line ≡ Some notices
+-- what an engine shows once it took what came after some lines: one line more, or the end
+abbrev pub shown_with : (List InputLine → List Awaited → Type 0) → (List InputLine → Type 0) → List InputLine
+    → Option InputLine → Type 0
+shown_with shows has_ended lines (Some line) = shows (with_next lines line) []
+shown_with shows has_ended lines None = has_ended lines
 
--- what an engine answers to a line. It showed these lines, and where the line comes a second time the warning of the
--- first time: nothing, pending lines, a warning with the line or before it comes a second time, or a fault
-abbrev pub EngineAnswers : Filter → (List InputLine → List Awaited → Type 0)
-    → List (List ℕ) → List InputLine → List Awaited → InputLine → Result Step At → Type 0
-EngineAnswers filter shows ready lines notices line (Ok Quiet) =
-    shows (with_next lines line) []
-    × GoesOn (filter.so_far lines) (filter.so_far (with_next lines line)) [] (awaited_notices notices)
-EngineAnswers filter shows ready lines notices line (Ok Ready) =
-    shows (with_next lines line) []
-    × GoesOn (filter.so_far lines) (filter.so_far (with_next lines line)) ready (awaited_notices notices)
-EngineAnswers filter shows ready lines notices line (Ok (Warned notice true)) =
-    shows lines (record { notice = notice; line = line } ∷ []) × (notices ≡ []) × IsNext filter lines line notice
-EngineAnswers filter shows ready lines notices line (Ok (Warned notice false)) =
-    shows (with_next lines line) [] × GoesOn
-    (filter.so_far lines) (filter.so_far (with_next lines line)) [] (awaited_notices notices ++ notice ∷ [])
-EngineAnswers filter shows ready lines notices line (Err at) =
-    RunsOutAt filter lines line (awaited_notices notices) at ⊎ EndsWith
-    (filter.so_far lines) (filter.so_far (with_next lines line)) (awaited_notices notices) at
+-- or it is to come a second time, after this warning, as only a line does
+abbrev pub awaits : (List InputLine → List Awaited → Type 0) → List InputLine → Option InputLine → At → Type 0
+awaits shows lines (Some line) notice = shows lines (record { notice = notice; line = line } ∷ [])
+awaits shows lines None notice = ⊥
 
--- what an engine answers at the end of the input, after these lines
-abbrev pub Concludes : Filter → List (List ℕ) → List InputLine → Result Step At → Type 0
-Concludes filter ready lines (Ok Quiet) = (ready ≡ []) × GoesOn (filter.so_far lines) (filter.whole lines) [] []
-Concludes filter ready lines (Ok Ready) = GoesOn (filter.so_far lines) (filter.whole lines) ready []
-Concludes filter ready lines (Ok (Warned notice again)) = (ready ≡ [])
-    × GoesOn (filter.so_far lines) (filter.whole lines) [] (notice ∷ [])
-Concludes filter ready lines (Err at) = EndsWith (filter.so_far lines) (filter.whole lines) [] at
+-- what an engine answers to what comes after some lines: a line, or the end of the input. It showed these
+-- lines, and where a line comes a second time, the warning of the first time. The answer is nothing, pending
+-- lines, a warning with the line, a warning before it comes a second time, memory that ran out at a line that
+-- may take some, or a fault
+abbrev pub EngineAnswers : Filter → (List InputLine → List Awaited → Type 0) → (List InputLine → Type 0)
+    → List (List ℕ) → List InputLine → List Awaited → Option InputLine → Result Step At → Type 0
+EngineAnswers filter shows has_ended ready lines notices next (Ok Quiet) =
+    shown_with shows has_ended lines next
+    × Adds (filter.so_far lines) (course_with filter lines next) [] (awaited_notices notices)
+EngineAnswers filter shows has_ended ready lines notices next (Ok Ready) =
+    shown_with shows has_ended lines next
+    × Adds (filter.so_far lines) (course_with filter lines next) (lines_text ready) (awaited_notices notices)
+EngineAnswers filter shows has_ended ready lines notices next (Ok (Warned notice true)) =
+    awaits shows lines next notice × (notices ≡ [])
+    × AreNext (filter.so_far lines) (course_with filter lines next) (notice ∷ [])
+EngineAnswers filter shows has_ended ready lines notices next (Ok (Warned notice false)) =
+    shown_with shows has_ended lines next
+    × Adds (filter.so_far lines) (course_with filter lines next) [] (awaited_notices notices ++ notice ∷ [])
+EngineAnswers filter shows has_ended ready lines notices next (Err at) = ((at.fault ≡ OutOfMemory)
+    × (at.line ≡ length lines + 1) × (memory_with filter lines next ≡ Some (awaited_notices notices)))
+    ⊎ EndsWith (filter.so_far lines) (course_with filter lines next) (awaited_notices notices) at

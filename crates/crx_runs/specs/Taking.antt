@@ -10,9 +10,9 @@ use Rattle.crx_runs.specs.declared.engine.Step.{Step}
 use Rattle.crx_runs.specs.declared.engine.Step.TheVariants.{Quiet, Ready, Warned}
 use Rattle.crx_runs.specs.declared.one_line.Halt.{Halt}
 use Rattle.crx_runs.specs.meaning.Results.{Course}
-use Rattle.crx_runs.specs.meaning.Filters.{Filter, with_next}
-use Rattle.crx_runs.specs.Engines.{IsDrainedAfter, KeepsAllElse, taken_after}
-use Rattle.crx_runs.specs.Endings.{Adds, EndsAt, EndsFrom, IsAllOut, WarnsAtEnd}
+use Rattle.crx_runs.specs.meaning.Filters.{course_with, memory_with}
+use Rattle.crx_runs.specs.Engines.{Adds, IsDrainedAfter, KeepsAllElse, shown_with, taken_after}
+use Rattle.crx_runs.specs.Endings.{EndsAt, EndsFrom, IsAllOut, WarnsAtEnd}
 use Rattle.crx_runs.specs.meaning.Messages.{notices_text}
 pub use Rattle.crx_runs.specs.meaning.Results.{are_some}
 use Rattle.crx_runs.specs.meaning.Spans.{Device, TookAll}
@@ -93,23 +93,18 @@ Becomes memory number before after shown writer messages (Ok warned) =
 Becomes memory number before after shown writer messages (Err halt) =
     EndsFrom memory number writer messages before after halt
 
--- an engine of a filter took a line, whichever it is of those that can come after some others and that it can be
-pub record LineIsTaken {E : Type 0} (engine : EngineGhosts E) (its : Filter) (now : E)
-    (comes : List InputLine → InputLine → Type 0) (can_be : InputLine → Type 0)
+-- an engine took what came next, whichever it is of what can come after some lines: a line, or the end
+pub record TakesNext {E : Type 0} (engine : EngineGhosts E) (before now : E)
+    (comes : List InputLine → Option InputLine → Type 0)
     (writer messages : Device) (result : Result Bool Halt) : Type 0 where
-  pub filter : engine.filter now ≡ its
-  pub drained : OnOk result (engine.ready now ≡ [])
-  pub becomes : (lines : List InputLine) (line : InputLine) → comes lines line → can_be line
-      → Becomes (its.memory_after lines line) (length lines + 1) (its.so_far lines)
-      (its.so_far (with_next lines line))
-      (engine.shows now (with_next lines line) []) writer messages result
-
--- an engine took the end of the input, after whichever lines
-pub record EndIsTaken {E : Type 0} (engine : EngineGhosts E) (before now : E) (writer messages : Device)
-    (result : Result Bool Halt) : Type 0 where
   pub filter : engine.filter now ≡ engine.filter before
-  pub becomes : (lines : List InputLine) → engine.shows before lines []
-      → Becomes None (length lines) ((engine.filter before).so_far lines) ((engine.filter before).whole lines)
-      (engine.has_ended now lines) writer messages result
-  pub warns : (lines : List InputLine) → engine.shows before lines []
-      → IfErr result (WarnsAtEnd ((engine.filter before).so_far lines) ((engine.filter before).whole lines))
+  pub drained : OnOk result (engine.ready now ≡ [])
+  pub becomes : (lines : List InputLine) (next : Option InputLine) → comes lines next
+      → Becomes (memory_with (engine.filter before) lines next) (length lines + 1)
+      ((engine.filter before).so_far lines) (course_with (engine.filter before) lines next)
+      (shown_with (engine.shows now) (engine.has_ended now) lines next) writer messages result
+
+-- the end of the input ended the run, after whichever lines: it has no warning then, or the one that failed
+abbrev pub EndWarns : {E : Type 0} → EngineGhosts E → E → Result Bool Halt → Type 0
+EndWarns engine before result = (lines : List InputLine) → engine.shows before lines []
+    → IfErr result (WarnsAtEnd ((engine.filter before).so_far lines) ((engine.filter before).whole lines))

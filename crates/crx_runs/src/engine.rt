@@ -1,6 +1,6 @@
 //! Engines: they take the lines of an input one at a time, and what is to be written is borrowed from them.
 
-ghost use Rattle.std.specs.Prelude.{◌≡◌, ◌≤◌, ℕ, List, [], drop, length, slice_get, Result, if◌then◌else◌, is_some, IfOk, IfSome, true};
+ghost use Rattle.std.specs.Prelude.{◌≡◌, ◌≤◌, ℕ, List, [], drop, length, slice_get, Result, if◌then◌else◌, is_some, IfOk, IfSome, Some, None, true};
 ghost use Rattle.std.specs.Borrow.{sem};
 ghost use Rattle.std.specs.Io.BufRead.{Rests};
 ghost use Rattle.std.specs.Option.{option_copied};
@@ -10,7 +10,7 @@ ghost use Rattle.crx_base.specs.declared.fault.At.{At};
 ghost use Rattle.crx_base.specs.declared.limits.TheConstants.{INPUT_LIMIT};
 ghost use Rattle.crx_runs.specs.meaning.Filters.{Filter};
 ghost use Rattle.crx_base.specs.meaning.Lines.{lines_text};
-ghost use Rattle.crx_runs.specs.Engines.{EngineAnswers, answer_given, Awaited, IsAwaited, Concludes, HasStepped, IsNextLine, KeepsAllElse, Stays, lines_handed_out, taken_after};
+ghost use Rattle.crx_runs.specs.Engines.{EngineAnswers, answer_given, Awaited, IsAwaited, HasStepped, IsNextLine, KeepsAllElse, Stays, lines_handed_out, taken_after};
 
 use crx_base::At;
 use crx_lines::Line;
@@ -76,8 +76,8 @@ pub trait Engine {
         // What a line hands out is what is ready, and after it that line itself where it is copied.
         ensures answers { (lines : List InputLine) (notices : List Awaited) → shows self.old lines notices
             → IsAwaited notices (line_shown line.entry) → EngineAnswers (filter self.old) (shows self.new)
-            (lines_handed_out result (line_shown line.entry).content (ready self.new)) lines notices
-            (line_shown line.entry) (answer_given result (answer self.new)) };
+            (has_ended self.new) (lines_handed_out result (line_shown line.entry).content (ready self.new)) lines
+            notices (Some (line_shown line.entry)) (answer_given result (answer self.new)) };
 
     /// The answer to the line that [`Engine::take`] took last, where it answered `None`: what is to be
     /// reported, or ended the run.
@@ -94,17 +94,16 @@ pub trait Engine {
             → shows self.old lines notices
             → IsAwaited notices line
             → is_long line ≡ true
-            → EngineAnswers (filter self.old) (shows self.new) (ready self.new) lines notices line result };
+            → EngineAnswers (filter self.old) (shows self.new) (has_ended self.new) (ready self.new) lines
+            notices (Some line) result };
 
     /// Takes the end of the input.
     fn end(&mut self) -> Result<Step, At>
         requires drained { ready self.old ≡ [] }
         requires within { taken self.old ≤ INPUT_LIMIT }
         ensures stepped { HasStepped (filter self.old) (filter self.new) (ready self.new) result }
-        ensures concludes { (lines : List InputLine) → shows self.old lines []
-            → Concludes (filter self.old) (ready self.new) lines result }
-        ensures ended { (lines : List InputLine)
-            → shows self.old lines [] → IfOk result (λ _. has_ended self.new lines) };
+        ensures answers { (lines : List InputLine) → shows self.old lines [] → EngineAnswers (filter self.old)
+            (shows self.new) (has_ended self.new) (ready self.new) lines [] None result };
 
     /// Borrows the next of the lines that are ready, without its line end; `None` once none is pending.
     fn next_line(&mut self) -> Option<&[u8]>

@@ -1,14 +1,14 @@
 //! One line of the input, through an engine to the writer and the messages.
 
-ghost use Rattle.std.specs.Prelude.{◌≡◌, ◌≤◌, [], OnOk, true};
+ghost use Rattle.std.specs.Prelude.{◌≡◌, ◌≤◌, [], None, OnOk, Some, true};
 ghost use Rattle.crx_base.specs.Padded.{line_in};
-ghost use Rattle.crx_base.specs.meaning.Lines.{is_long};
+ghost use Rattle.crx_base.specs.meaning.Lines.{InputLine, is_long};
 ghost use Rattle.crx_lines.specs.Reading.{line_shown, line_number};
 ghost use Rattle.crx_base.specs.declared.fault.At.{At};
 ghost use Rattle.crx_base.specs.declared.limits.TheConstants.{INPUT_LIMIT};
 ghost use Rattle.crx_runs.specs.Engines.{EngineAnswers, IsDrainedAfter, IsNextLine};
 ghost use Rattle.crx_runs.specs.declared.one_line.Halt.TheVariants as halts;
-ghost use Rattle.crx_runs.specs.Taking.{EndIsTaken, HoldsAnswer, IsSettled, IsTouchedBy, KeepsLines, KeepsOrder, LineIsTaken, ReportsLast, made_by};
+ghost use Rattle.crx_runs.specs.Taking.{EndWarns, HoldsAnswer, IsSettled, TakesNext, IsTouchedBy, KeepsLines, KeepsOrder, ReportsLast, made_by};
 ghost use Rattle.crx_runs.specs.meaning.Spans.{span};
 
 use crate::engine::{Engine, HandedOut, Step};
@@ -80,8 +80,8 @@ pub fn take_line<E: Engine, W: Sink, M: Sink>(
     line: Line<'_>,
 ) -> Result<bool, Halt>
     requires may_take { IsNextLine (E.ready engine.old) (E.taken engine.old) (line_number line) }
-    ensures taken { LineIsTaken E.Engine (E.filter engine.old) engine.new
-        (λ lines _. E.shows engine.old lines []) (λ l. l ≡ line_shown line.entry)
+    ensures taken { TakesNext E.Engine engine.old engine.new (λ lines next. E.shows engine.old lines []
+        × (next ≡ Some (line_shown line.entry)))
         (span W.Sink writer.old writer.new) (span M.Sink messages.old messages.new) result }
     ensures order { KeepsOrder W.Sink writer.old writer.new messages.old messages.new }
 {
@@ -115,9 +115,9 @@ fn take_again<E: Engine, W: Sink, M: Sink>(
     is_plain: bool,
 ) -> Result<bool, Halt>
     requires { HoldsAnswer E.Engine engine.old (line_in content) number }
-    ensures taken { LineIsTaken E.Engine (E.filter engine.old) engine.new
-        (λ lines l. EngineAnswers (E.filter engine.old) (E.shows engine.old) (E.ready engine.old) lines [] l
-        (E.answer engine.old)) (λ l. l ≡ record { content = line_in content.entry; is_plain = is_plain })
+    ensures taken { TakesNext E.Engine engine.old engine.new (λ lines next. EngineAnswers (E.filter engine.old)
+        (E.shows engine.old) (E.has_ended engine.old) (E.ready engine.old) lines [] next (E.answer engine.old)
+        × (next ≡ Some (record { content = line_in content.entry; is_plain = is_plain })))
         (span W.Sink writer.old writer.new) (span M.Sink messages.old messages.new) result }
     ensures order { KeepsOrder W.Sink writer.old writer.new messages.old messages.new }
 {
@@ -148,8 +148,8 @@ pub fn take_overlong<E: Engine, W: Sink, M: Sink>(
     number: u64,
 ) -> Result<bool, Halt>
     requires may_take { IsNextLine (E.ready engine.old) (E.taken engine.old) number }
-    ensures taken { LineIsTaken E.Engine (E.filter engine.old) engine.new
-        (λ lines _. E.shows engine.old lines []) (λ l. is_long l ≡ true)
+    ensures taken { TakesNext E.Engine engine.old engine.new (λ lines next. E.shows engine.old lines []
+        × ((l : InputLine) × (next ≡ Some l) × (is_long l ≡ true)))
         (span W.Sink writer.old writer.new) (span M.Sink messages.old messages.new) result }
     ensures order { KeepsOrder W.Sink writer.old writer.new messages.old messages.new }
 {
@@ -165,8 +165,9 @@ pub fn take_end<E: Engine, W: Sink, M: Sink>(
 ) -> Result<bool, Halt>
     requires drained { E.ready engine.old ≡ [] }
     requires within { E.taken engine.old ≤ INPUT_LIMIT }
-    ensures taken { EndIsTaken E.Engine engine.old engine.new (span W.Sink writer.old writer.new)
-        (span M.Sink messages.old messages.new) result }
+    ensures taken { TakesNext E.Engine engine.old engine.new (λ lines next. E.shows engine.old lines []
+        × (next ≡ None)) (span W.Sink writer.old writer.new) (span M.Sink messages.old messages.new) result }
+    ensures warns { EndWarns E.Engine engine.old result }
     ensures order { KeepsOrder W.Sink writer.old writer.new messages.old messages.new }
 {
     let step = engine.end()?;

@@ -1,6 +1,6 @@
 //! A whole run: an input through an engine to a writer and its messages.
 
-ghost use Rattle.std.specs.Prelude.{◌≡◌, ℕ, List, [], Some, None, false};
+ghost use Rattle.std.specs.Prelude.{◌≡◌, ℕ, List, [], None};
 ghost use Rattle.crx_base.specs.meaning.Lines.{lines_of};
 ghost use Rattle.crx_runs.specs.Lawful.{IsLawful};
 ghost use Rattle.crx_runs.specs.Runs.{result_by};
@@ -18,20 +18,14 @@ use crx_lines::{LineReader, Sink, Source};
 use std::alloc::Global;
 
 /// Memory ran out before the first line was asked for.
-pub(crate) fn no_memory() -> Work
-    ensures last { result.last ≡ 0 }
-    ensures warned { result.warned ≡ false }
-    ensures halt { result.halt ≡ Some (Halt.Fault (record { line = 0; fault = Fault.OutOfMemory })) }
-{
-    Work {
-        last: 0,
-        warned: false,
-        halt: Some(Halt::Fault(At {
-            line: 0,
-            fault: Fault::OutOfMemory,
-        })),
-    }
-}
+pub(crate) const NO_MEMORY: Work = Work {
+    last: 0,
+    warned: false,
+    halt: Some(Halt::Fault(At {
+        line: 0,
+        fault: Fault::OutOfMemory,
+    })),
+};
 
 /// Runs an engine over an input: reads its lines, writes what the engine makes ready, reports its warnings,
 /// and finishes.
@@ -52,7 +46,7 @@ pub fn run<E: Engine, R: Source, W: Sink, M: Sink>(
         × (result.fault ≡ None → E.has_ended engine.new (lines_of given)) }
 {
     match LineReader::new(alloc) {
-        Err(_) => finish(writer, messages, no_memory()),
+        Err(_) => finish(writer, messages, NO_MEMORY),
         Ok(mut input) => {
             let work = take_all(engine, &mut input, reader, writer, messages);
             finish(writer, messages, work)

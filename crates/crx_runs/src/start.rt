@@ -11,7 +11,7 @@ ghost use Rattle.crx_runs.specs.meaning.Spans.{reader_span};
 use crate::engine::Engine;
 use crate::finish::finish;
 use crate::outcome::Outcome;
-use crate::run::{no_memory, run};
+use crate::run::{NO_MEMORY, run};
 use crx_lines::{Sink, Source};
 use std::alloc::{AllocError, Global};
 
@@ -35,6 +35,6 @@ pub fn start<E: Engine + Drop, R: Source, W: Sink, M: Sink>(
 {
     match engine {
         Ok(mut engine) => run(alloc, &mut engine, reader, writer, messages),
-        Err(_) => finish(writer, messages, no_memory()),
+        Err(_) => finish(writer, messages, NO_MEMORY),
     }
 }

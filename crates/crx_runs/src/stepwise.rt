@@ -1,10 +1,10 @@
 //! A run that its caller takes from step to step.
 
-ghost use Rattle.std.specs.Prelude.{◌≡◌, ◌⊎◌, ◌≤◌, [], IfOk, true, false};
+ghost use Rattle.std.specs.Prelude.{◌≡◌, ◌⊎◌, ◌≤◌, [], IfOk, None, true, false};
 ghost use Rattle.crx_base.specs.declared.limits.TheConstants.{INPUT_LIMIT};
 ghost use Rattle.crx_lines.specs.Readers.{reading};
 ghost use Rattle.crx_runs.specs.Running.{CanStep, RunGoesOn, RunHasStepped};
-ghost use Rattle.crx_runs.specs.Taking.{EndIsTaken, KeepsOrder};
+ghost use Rattle.crx_runs.specs.Taking.{EndWarns, TakesNext, KeepsOrder};
 ghost use Rattle.crx_runs.specs.meaning.Spans.{span};
 
 use crate::engine::Engine;
@@ -69,8 +69,9 @@ impl<E: Engine + Drop> Run<E> {
     pub fn end<W: Sink, M: Sink>(&mut self, writer: &mut W, messages: &mut M) -> Result<bool, Halt>
         requires drained { E.ready self.old.engine ≡ [] }
         requires within { E.taken self.old.engine ≤ INPUT_LIMIT }
-        ensures taken { EndIsTaken E.Engine self.old.engine self.new.engine (span W.Sink writer.old writer.new)
-            (span M.Sink messages.old messages.new) result }
+        ensures taken { TakesNext E.Engine self.old.engine self.new.engine (λ lines next. E.shows self.old.engine lines []
+            × (next ≡ None)) (span W.Sink writer.old writer.new) (span M.Sink messages.old messages.new) result }
+        ensures warns { EndWarns E.Engine self.old.engine result }
         ensures order { KeepsOrder W.Sink writer.old writer.new messages.old messages.new }
     {
         take_end(&mut self.engine, writer, messages)

@@ -1,7 +1,7 @@
 -- Two digits at a time.
 use Rattle.std.proofs.Common.{rules, bit_and, ◌≡◌, ℕ, ℤ, w64, zero, suc, ◌+◌, ◌-◌, ◌*◌, ◌/◌, ◌%◌, ◌<◌, ◌≤◌}
 use Rattle.std.proofs.Common.{Bool, true, ◌&&◌, T, eqb, List, [], ◌∷◌, ◌++◌, length, take, drop, get_or}
-use Rattle.std.proofs.Common.{slice_set, arith, eqb→eq, eqb-true, append_assoc, decimal, ◌^◌, ap, sym, ◌∙◌}
+use Rattle.std.proofs.Common.{arith, eqb→eq, eqb-true, append_assoc, decimal, ◌^◌, ap, sym, ◌∙◌}
 use Rattle.std.proofs.{Common.{refl, subst}, Math.{Dec.ltb, Seq.take-append-add}, lemmas.Bool.agree_below}
 use Rattle.std.proofs.lemmas.{Bool.{agree_below_at, and_parts, cases_lt, le-ltb, lt-ltb}, Fmt.decimal_digit}
 use Rattle.std.proofs.lemmas.{Fmt.decimal_nonempty, Grind.common_steps, List.{take_more_set, length-set}}
@@ -51,9 +51,7 @@ zeros_counted n small =
     omega (arith, ap length (own_digits n small), length-drop (zeros_of n) (four n), few_zeros n)
 
 pub digits_last : (n z : ℕ) → n < 10000 → z + length (decimal n) ≡ 4 → drop z (four n) ≡ decimal n
-digits_last n z small count =
-    let same : z ≡ zeros_of n = omega (arith, count, zeros_counted n small) in
-    ap (λ k. drop k (four n)) same ∙ own_digits n small
+digits_last n z small count = grind (arith, common_steps, zeros_counted n small, own_digits n small)
 
 -- the bytes of a word that is shifted by whole bytes
 pub bytes_shifted : (word z : ℕ) → z ≤ 3 → word < 2 ^ 32
@@ -102,6 +100,4 @@ lowest_is n small =
 pub zeros_found : (n word : ℕ) → n < 10000 → word < 2 ^ 32 → to_le_bytes w32 word ≡ four n
     → count_trailing_zeros 32 (bit_and word 521080591) / 8 ≡ zeros_of n
 zeros_found n word small fits bytes =
-    let whole : word ≡ 808464432 + digits_beside n =
-    sym (from_le_bytes-to_le_bytes_4 word fits) ∙ ap (from_le_bytes w32) bytes ∙ omega arith in
-    ap (λ d. count_trailing_zeros 32 (bit_and d 521080591) / 8) whole ∙ lowest_is n small
+    grind (arith, common_steps, from_le_bytes-to_le_bytes_4 word fits, w32, lowest_is n small)

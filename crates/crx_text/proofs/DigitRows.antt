@@ -1,6 +1,6 @@
 -- Rows of digits, and the number that the first of them write.
 use Rattle.std.proofs.Common.{◌≡◌, ℕ, zero, suc, ◌+◌, ◌-◌, ◌*◌, ◌/◌, ◌%◌, ◌^◌, ◌<◌, ◌≤◌, Bool, true, false}
-use Rattle.std.proofs.Common.{not, cond, ◌&&◌, T, leb, eqb, List, [], ◌∷◌, ◌++◌, map, length, replicate}
+use Rattle.std.proofs.Common.{not, cond, ◌&&◌, T, leb, List, [], ◌∷◌, ◌++◌, map, length, replicate}
 use Rattle.std.proofs.Common.{take, drop, get_or, subst, Fits, w8, refl, sym, ap, ◌∙◌, arith}
 use Rattle.std.proofs.{Math.Nat.mul-le-mul_right, lemmas.Bool.{agree_below_at, and_parts}}
 use Rattle.std.proofs.lemmas.{Bool.{le-leb, Decides.nat_tests}, Grind.common_steps, List.length-append}
@@ -210,35 +210,30 @@ digits_found : (text : List ℕ) (size count : ℕ) → count < 8 → count ≤ 
     → all_ascii_digits (take count text) ≡ true → size ≡ digits_value_after 10 0 (take count text)
     → (count < length text → is_ascii_digit (get_or text count 0) ≡ false) → HasFirstDigits text size count
 digits_found text size count few long digits value stop =
-    let whole : text ≡ take count text ++ drop count text = sym (take-append-drop count text) in
-    let rest = drop count text in
-    let cell = ap first_cell whole ∙ first_cell-digits _ rest digits in
-    let within = length-take-le count text long in
-    record {
-      few = omega arith;
-      within = long;
-      small = let less = value_small 0 (take count text) digits in let power : 10 ^ length _ ≡ 10 ^ count =
-          ap (λ (n : ℕ). 10 ^ n) within in omega (arith, value, less, power);
-      digits = sym (ap all_ascii_digits cell ∙ digits_before (take count text) _ digits);
-      value = ap (λ n. digits_value_after 10 n (first_cell rest)) value ∙ sym
-          (ap (digits_value_after 10 0) cell ∙ digits_value_after-append 0 (take count text)
-          (first_cell rest));
-      long = ap length cell ∙ (length-append _ _ ∙ ap (λ n. n + length (first_cell rest)) within);
-      after = sym (ap after_cell whole ∙ after_cell-digits (take count text) rest digits);
-      stops = λ most more. stop more;
-    }
+    grind (
+      arith,
+      common_steps,
+      take-append-drop count text,
+      first_cell-digits,
+      length-take-le count text long,
+      value_small 0 (take count text) digits,
+      digits_before (take count text),
+      digits_value_after-append 0 (take count text),
+      length-append,
+      after_cell-digits (take count text),
+    )
 
 -- in a whole row
 pub first_digits_of : (text : List ℕ) (size count : ℕ) → count < 8 → 8 ≤ length text
     → count ≡ prefix_len is_ascii_digit
     (take 8 text) → size ≡ digits_value 10 (take count (take 8 text)) → HasFirstDigits text size count
 first_digits_of text size count few long count_is size_is =
-    let row = take 8 text in
-    let eight = length-take-le 8 text long in
-    let front : take count row ≡ take count text = take-take count 8 text (omega arith) in
-    let digits : all_ascii_digits (take count text) ≡ true = rw (← front, count_is) (prefix_digits row) in
-    digits_found text size count few (omega arith) digits (size_is ∙ ap (digits_value_after 10 0) front)
-    (λ more.
-    let stop = prefix_len_stops is_ascii_digit row 0 (omega (arith, eight, count_is)) in
-    sym (ap is_ascii_digit (get_or-take 8 text count 0 (omega arith)))
-    ∙ (ap (λ n. is_ascii_digit (get_or row n 0)) count_is ∙ stop))
+    grind (
+      arith,
+      length-take-le 8 text long,
+      take-take count 8 text,
+      prefix_digits,
+      digits_found text size count few,
+      prefix_len_stops,
+      get_or-take 8 text count 0,
+    )

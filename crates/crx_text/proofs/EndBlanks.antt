@@ -83,16 +83,16 @@ module _ (text : List ℕ) (end : ℕ) (within : end ≤ length text)
       → count ≡ length (without_end_blanks (chunk start size text))
       → take (start + count) text ≡ without_end_blanks text
   kept_in_piece size start count sum some kept =
-      let piece : List ℕ = chunk start size text in
-      let before : without_end_blanks (take end text) ≡ without_end_blanks text =
-      sym (none_append (take end text) (drop end text) none)
-      ∙ ap without_end_blanks (take-append-drop end text) in
-      let whole : without_end_blanks text ≡ take start text ++ without_end_blanks piece =
-      sym before ∙ (ap (λ (k : ℕ). without_end_blanks (take k text)) (sym sum) ∙ (ap without_end_blanks
-      (take-add start size text) ∙ kept_append (take start text) piece (omega (arith, kept, some)))) in
-      let long : start + count ≡ length (without_end_blanks text) =
-      grind (arith, common_steps, length-take-le) in
-      ap (λ (k : ℕ). take k text) long ∙ take_kept text
+      grind (
+        arith,
+        common_steps,
+        none_append (take end text) (drop end text) none,
+        take-append-drop end text,
+        take-add start size text,
+        kept_append (take start text),
+        length-take-le,
+        take_kept text,
+      )
 
   -- one that keeps nothing goes with the blanks after it
   pub none_in_piece : (size start : ℕ) → start + size ≡ end
@@ -121,8 +121,4 @@ module _ (text : List ℕ) (end : ℕ) (within : end ≤ length text)
 pub ended_at : (text : List ℕ) (last end : ℕ) → last + 1 ≡ end → end ≤ length text → get_or text last 0 ≢ 32
     → without_end_blanks (drop end text) ≡ [] → take end text ≡ without_end_blanks text
 ended_at text last end sum within other none =
-    let piece : chunk last 1 text ≡ get_or text last 0 ∷ [] =
-    ap (take 1) (drop_more text last 0 (omega (arith, sum, within))) in
-    let one : 1 ≡ length (without_end_blanks (chunk last 1 text)) =
-    rw (piece, ne_eqb (get_or text last 0) 32 other) refl in
-    ap (λ (k : ℕ). take k text) (sym sum) ∙ kept_in_piece text end within none 1 last 1 sum (omega arith) one
+    grind (arith, common_steps, kept_in_piece text end within none 1 last 1 sum)

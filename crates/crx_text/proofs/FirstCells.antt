@@ -49,10 +49,14 @@ module _ (line : List ℕ) (at n : ℕ) (counted : n ≡ length (first_cell (dro
       let one : n + 1 ≡ suc (length (first_cell (drop at line))) = omega (arith, counted) in
       ap (λ k. drop k (drop at line)) one ∙ after_blank (drop at line)
   next_cell false is =
-      let none : length (drop at line) ≤ n = grind (arith, long) in
-      let end : after_cell (drop at line) ≡ [] = sym (after_blank (drop at line))
-      ∙ drop_all (suc (length (first_cell (drop at line)))) (drop at line) (omega (arith, none, counted)) in
-      drop_all (n + 0) (drop at line) (omega (arith, none)) ∙ sym end
+      grind (
+        arith,
+        common_steps,
+        long,
+        after_blank (drop at line),
+        drop_all (suc (length (first_cell (drop at line)))) (drop at line),
+        drop_all (n + 0) (drop at line),
+      )
 
 -- ---- among the first lanes
 

@@ -72,8 +72,7 @@ module _ (c : ℕ → ℕ) (small : (i : ℕ) → c i < 256) (all : list_all (λ
         (and_from _ _ (whole_at 4 refl) (and_from _ _ (whole_at 5 refl) (and_from _ _ (whole_at 6 refl)
         (and_from _ _ (whole_at 7 refl) (and_from _ _ (whole_at 8 refl) refl)))))))));
     point = eqb-true _ _ (sym (point_lane (c 10) (small 10)) ∙ all_at (lanes c) 10 all);
-    fraction = and_from _ _ (fraction_at 11 refl) (and_from _ _ (fraction_at 12 refl)
-        (and_from _ _ (fraction_at 13 refl) refl));
+    fraction = grind (arith, common_steps, and_from, fraction_at);
   }
 
 -- what isn't allowed in a row, as the code makes it

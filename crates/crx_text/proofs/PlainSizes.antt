@@ -1,5 +1,5 @@
 -- The number that a row of lanes weighs, three digits at a time.
-use Rattle.std.proofs.Common.{◌≡◌, ℕ, suc, ◌+◌, ◌-◌, ◌*◌, ◌%◌, ◌^◌, ◌<◌, ◌≤◌, true, cond, ◌&&◌, ltb}
+use Rattle.std.proofs.Common.{◌≡◌, ℕ, suc, ◌+◌, ◌-◌, ◌*◌, ◌%◌, ◌^◌, ◌<◌, ◌≤◌, true, cond, ltb}
 use Rattle.std.proofs.Common.{bit_and, ◌/◌, leb, List, [], ◌∷◌, ◌++◌, map, length, replicate, get_or, subst}
 use Rattle.std.proofs.{Common.{Fits, w8, refl, sym, ◌∙◌, ltb-true, ltb-false, arith}, Math.Nat.pow-suc}
 use Rattle.std.proofs.{Math.Nat.mul-le-mul_right, lemmas.Bool.{and_parts, leb-true}}
@@ -89,10 +89,14 @@ plain_is_small before (c ∷ cs) plain = grind (arith, common_steps, plain_is_sm
 small_explicit : (c : ℕ → ℕ) → IsPlain (map c (range_with_len 0 16))
     → weighed 0 (plain_digits (map c (range_with_len 0 16))) < 10 ^ 12
 small_explicit c plain =
-    weighed_is_small 0 (plain_digits (map c (range_with_len 0 16)))
-    (list_all-append (λ b. leb b 57) (map c (range_with_len 1 9)) (map c (range_with_len 11 3))
-    ∙ (λ k. ((and_parts (leb (c 0) 57) _ (plain_is_small 32 (map c (range_with_len 0 10)) plain.whole)).1) k
-    && (digits_are_small (map c (range_with_len 11 3)) plain.fraction) k))
+    grind (
+      arith,
+      common_steps,
+      weighed_is_small 0 (plain_digits (map c (range_with_len 0 16))),
+      list_all-append,
+      plain_is_small 32 (map c (range_with_len 0 10)) plain.whole,
+      digits_are_small (map c (range_with_len 11 3)) plain.fraction,
+    )
 
 pub plain_size_is_small : (v : List ℕ) → length v ≡ 16 → IsPlain v → weighed 0 (plain_digits v) < 10 ^ 12
 plain_size_is_small v long =

@@ -56,9 +56,7 @@ decimal_after decimals c cs fraction no_blank no_sign digits then three =
     let sign = no_minus (c ∷ cs) digits in
     let reads = decimal_number_plain decimals text no_sign
     ∙ ap (option_map pos) (digits_decimal _ (c ∷ cs) _ digits then three) in
-    ap (missing_or_number _) (without_first_blanks-text text no_blank)
-    ∙ (missing_or_number_text decimals text (omega arith) ∙ ap (option_map Some) reads)
-    ∙ ap (λ b. Some (Some (signed_number b (weighed 0 (c ∷ cs ++ fraction))))) (sym sign)
+    grind (arith, common_steps, text, sign, reads, without_first_blanks-text, missing_or_number_text)
 
 abbrev Spells : ℕ → List ℕ → List ℕ → Type 0
 Spells decimals fraction whole = missing_or_number decimals (without_first_blanks (whole ++ 46 ∷ fraction))

@@ -1,13 +1,12 @@
 -- From the row of text to the text of a size.
 use Rattle.std.proofs.Common.{◌≡◌, ℕ, zero, suc, ◌+◌, ◌-◌, ◌/◌, ◌%◌, ◌^◌, ◌<◌, true, List, [], ◌∷◌}
-use Rattle.std.proofs.Common.{◌++◌, length, replicate, take, drop, refl, sym, ap, ◌∙◌, append_assoc}
+use Rattle.std.proofs.Common.{◌++◌, length, replicate, take, drop, refl, ap, ◌∙◌}
 use Rattle.std.proofs.{Common.{length-append, arith}, lemmas.Bool.{ne_eqb}}
 use Rattle.std.proofs.lemmas.{Grind.common_steps, List.{length-map, length-drop, length-replicate, take_at}}
 use Rattle.std.proofs.lemmas.List.{drop_at}
 use lib.Lanes.{zip2}
 use Rattle.crx_text.proofs.PrintedDigits.{written, are_digits, glyphs, decimal_of_digits, padded_digits}
 use Rattle.crx_text.{proofs.PrintedDigits.{leading_zeros, zeros_few}, specs.meaning.Numbers.size_text}
-use Rattle.crx_text.specs.meaning.Numbers.{zero_padded}
 
 -- ---- lanes added to their bases
 
@@ -66,35 +65,18 @@ module _ (size : ℕ) (small : size < 10 ^ 12) where
   fraction_weighs : written 0 (three_in size) ≡ size % 1000
   fraction_weighs = grind arith
 
-  abbrev pub twelve : List ℕ
-  twelve = nine_in size ++ three_in size
-
-  twelve_weigh : written 0 twelve ≡ size
-  twelve_weigh = grind arith
-
-  twelve_are_digits : are_digits twelve ≡ true
-  twelve_are_digits = grind (arith, common_steps)
-
-  -- twelve digits, zeros before the number among them
-  pub twelve_padded : take 12 (plus (twelve ++ (0 ∷ 0 ∷ 0 ∷ 0 ∷ [])) (replicate 16 48)) ≡ zero_padded 12 size
-  twelve_padded =
-      let fits : written 0 twelve < 2 ^ 64 = rw twelve_weigh (omega arith) in
-      let padded = padded_digits (size / 10 ^ 9 / 100) (drop 1 twelve) twelve_are_digits fits in
-      ap (take 12) (plus_digits twelve (0 ∷ 0 ∷ 0 ∷ 0 ∷ []) 4 16 twelve_are_digits refl)
-      ∙ (sym padded ∙ ap (zero_padded 12) twelve_weigh)
-
   -- the digits without the zeros before them, the point and three digits
   abbrev printed : List ℕ
   printed = glyphs (drop (leading_zeros (nine_in size)) (nine_in size)) ++ (46 ∷ glyphs (three_in size))
 
   printed_is : printed ≡ size_text 3 size
   printed_is =
-      let fits : written 0 (nine_in size) < 2 ^ 64 = rw whole_weighs (omega arith) in
-      let fraction_fits : written 0 (three_in size) < 2 ^ 64 = rw fraction_weighs (omega arith) in
-      let whole = decimal_of_digits (size / 10 ^ 9 / 100) (drop 1 (nine_in size)) nine_are_digits fits in
-      let fraction = padded_digits (size % 1000 / 100)
-      (drop 1 (three_in size)) three_are_digits fraction_fits in
-      rw (← whole, ← fraction, whole_weighs, fraction_weighs) refl
+      grind (
+        arith,
+        whole_weighs,
+        decimal_of_digits (size / 10 ^ 9 / 100) (drop 1 (nine_in size)) nine_are_digits,
+        padded_digits (size % 1000 / 100) (drop 1 (three_in size)) three_are_digits,
+      )
 
   -- ---- the text in a field
 
@@ -102,11 +84,7 @@ module _ (size : ℕ) (small : size < 10 ^ 12) where
       (cell_is : cell ≡ plus (row_of (nine_in size) (three_in size))
       (replicate start 32 ++ replicate (16 - start) 48)) where
     pub text_length : start + length (size_text 3 size) ≡ 14
-    text_length =
-        let long : length printed ≡ (9 - leading_zeros (nine_in size)) + 4 =
-        simp (length-append, length-map, length-drop) refl in
-        let same = ap (λ (t : List ℕ). length t) printed_is in
-        omega (arith, same, long, start_is, zeros_few (nine_in size))
+    text_length = grind (arith, common_steps, length-append, length-drop, printed_is, start_is, zeros_few)
 
     written_row : cell ≡ replicate start 32 ++ (size_text 3 size ++ (48 ∷ 48 ∷ []))
     written_row =
@@ -117,9 +95,7 @@ module _ (size : ℕ) (small : size < 10 ^ 12) where
         let tail = plus_digits (three_in size) (0 ∷ 0 ∷ []) 2 5 three_are_digits refl in
         let at : start ≡ suc zeros = omega (arith, start_is) in
         let count : 16 - suc zeros ≡ 15 - zeros = omega arith in
-        rw (cell_is, at, count) (ap (λ t. 32 ∷ t) (row ∙ ap (λ t. replicate zeros 32 ++ t)
-        (ap (λ t. left ++ (46 ∷ t)) tail ∙ sym (append_assoc left (46 ∷ glyphs (three_in size)) _)
-        ∙ ap (λ t. t ++ (48 ∷ 48 ∷ [])) printed_is)))
+        grind (arith, common_steps, zeros, left, row, tail, at, count, printed_is)
 
     field_text : take 14 cell ≡ replicate start 32 ++ size_text 3 size
     field_text = rw written_row (cut start 14 (size_text 3 size) (48 ∷ 48 ∷ []) text_length)

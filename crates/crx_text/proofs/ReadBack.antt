@@ -1,9 +1,9 @@
 -- What is printed is read back.
-use Rattle.std.proofs.Common.{true, ℕ, ℤ, pos, negsuc, neg_ℤ, suc, zero, ◌≡◌, ◌≢◌, ◌+◌, ◌-◌, ◌*◌, ◌<◌}
+use Rattle.std.proofs.Common.{true, ℕ, ℤ, pos, negsuc, suc, zero, ◌≡◌, ◌≢◌, ◌+◌, ◌-◌, ◌*◌, ◌<◌}
 use Rattle.std.proofs.Common.{◌≤◌, ◌^◌, List, [], ◌∷◌, ◌++◌, length, get_or, replicate, decimal, Option, Some}
 use Rattle.std.proofs.{Common.{None, arith, refl, ap, ◌∙◌}, Math.Nat.{pow-suc, div-le_self}}
 use Rattle.std.proofs.lemmas.Fmt.{decimal_is_IsNumeral, digits_decimal, first_decimal, decimal_nonempty}
-use Rattle.std.proofs.lemmas.{Fmt.decimal_digit, Grind.common_steps, Int.ints, List.get_or_at}
+use Rattle.std.proofs.lemmas.{Fmt.decimal_digit, Grind.common_steps, List.get_or_at}
 use Rattle.std.proofs.lemmas.Str.Parse.{IsNumeralModel, numerals_by_value}
 use Rattle.std.{proofs.lemmas.Str.Parse.tells_all_ascii_digits, specs.{Char.digit_value, Option.option_map}}
 use Rattle.std.specs.{Option.ForSome, Str.{all_ascii_digits, Parse.{digits_value, digits_value_after}}}
@@ -96,19 +96,14 @@ spelling_fits : (width decimals : ℕ) (number : ℤ) → 0 < decimals → decim
 spelling_fits width decimals (pos size) some room few within =
     size_text_fits decimals size width some (omega (arith, room)) few (abs_within width (pos size) within)
 spelling_fits width decimals (negsuc less) some room few within =
-    let short = size_text_fits decimals (less + 1) (width - 1) some (omega (arith, room)) (omega (arith, few))
-    (omega (arith, abs_within_below width (negsuc less) refl within)) in
-    omega (arith, short, room)
+    grind (arith, common_steps, size_text_fits, abs_within_below)
 
 spelling_reads : (decimals : ℕ) (number : ℤ) → 0 < decimals → decimals < 19
     → nat_abs number < 2 ^ 64 → decimal_number decimals (spelling decimals number) ≡ Some number
 spelling_reads decimals (pos size) some few small =
-    decimal_number_plain decimals _ (omega (arith, size_text_first decimals size small))
-    ∙ ap (option_map pos) (size_of-size_text decimals size some few small)
+    grind (arith, common_steps, decimal_number_plain, size_text_first, size_of-size_text)
 spelling_reads decimals (negsuc less) some few small =
-    let negated : neg_ℤ (pos (less + 1)) ≡ negsuc less = omega (arith, ints) in
-    decimal_number_minus _ (45 ∷ size_text decimals _) refl ∙ (ap (option_map (λ n. neg_ℤ (pos n)))
-    (size_of-size_text _ (less + 1) some few (omega (arith, small))) ∙ ap Some negated)
+    grind (arith, common_steps, decimal_number_minus, size_of-size_text)
 
 -- what is printed is read back, at any width
 pub number_of-number_text : (width decimals : ℕ) (value : Option ℤ) → 0 < decimals → decimals + 3 ≤ width
@@ -119,9 +114,12 @@ unfolding number_text
 number_of-number_text width decimals None some room few within =
     grind (arith, common_steps, without_first_blanks-blanks width [] (omega arith), number_of_width)
 number_of-number_text width decimals (Some number) some room few within =
-    let fits = within number refl in
-    let tiny : nat_abs number < 2 ^ 64 =
-    omega (arith, abs_within width number fits, ten_pow_small (width - 1) (omega arith)) in
-    number_of-right_justified width decimals (spelling decimals number) number
-    (spelling_fits width decimals number some room few fits) (spelling_first decimals number tiny)
-    (spelling_reads decimals number some (omega arith) tiny)
+    grind (
+      arith,
+      abs_within,
+      ten_pow_small,
+      number_of-right_justified width decimals (spelling decimals number) number,
+      spelling_fits width decimals number some room few,
+      spelling_first,
+      spelling_reads,
+    )

@@ -67,9 +67,7 @@ signed_in_range width size is_below small = grind (arith, common_steps, pow-le-p
 -- a minus takes a column
 pub signed_is_within : (is_below : Bool) (size columns all : ℕ) → columns + (if is_below then 1 else 0) ≡ all
     → size < 10 ^ (columns - 1) → IsWithin all (signed_number is_below size)
-signed_is_within true size columns all sum small =
-    let same : columns - 1 ≡ all - 1 - 1 = omega arith in
-    neg_is_within size all (rw (sym same) small)
+signed_is_within true size columns all sum small = grind (arith, common_steps, neg_is_within size all)
 signed_is_within false size columns all sum small = grind (arith, common_steps, pos_is_within)
 
 -- a number within some columns is within more of them

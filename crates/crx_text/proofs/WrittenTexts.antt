@@ -28,8 +28,7 @@ line-written bytes old cells marks at end written long room =
     let few : length kept ≤ length whole = few_kept whole in
     record {
       state =
-          sym (drop-take at (end - at) bytes) ∙ ap (λ n. drop at (take n bytes)) {x = at + (end - at)}
-          {y = end} (omega (arith, all)) ∙ ap (drop at) together ∙ drop_at (take at old) whole at before;
+          grind (arith, common_steps, whole, together, before, all, drop-take at (end - at) bytes);
       is =
           sym (take-take (at + length kept) end bytes (omega (arith, all, few))) ∙ ap
           (take (at + length kept)) together ∙ ap (λ n. take (n + length kept) (take at old ++ whole))

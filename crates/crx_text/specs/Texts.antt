@@ -1,7 +1,12 @@
 -- Beside meaning/Texts: what code and proofs see of it.
-use Rattle.std.specs.Prelude.{ℕ, List, ◌==◌, if◌then◌else◌}
+use Rattle.std.specs.Prelude.{ℕ, Bool, List, ◌==◌, if◌then◌else◌}
+use Rattle.crx_base.specs.meaning.Lines.{is_printable}
 use Rattle.crx_text.specs.meaning.Columns.{is_blank, without_end_blanks}
-use Rattle.crx_text.specs.meaning.Texts.{by_position}
+use Rattle.crx_text.specs.meaning.Texts.{by_position, is_kept}
+
+-- whether a character may be in a text which marks are made of, or else in marks
+abbrev pub is_allowed : Bool → ℕ → Bool
+is_allowed is_text c = if is_text then is_kept c else is_printable c
 
 -- the old character where the mark is blank, a blank where it is &, else the mark itself
 abbrev pub character_of : ℕ → ℕ → ℕ

@@ -7,7 +7,7 @@ ghost use Rattle.crx_base.specs.meaning.Lines.{is_printable};
 ghost use Rattle.crx_text.specs.Texts.{character_of, patched};
 ghost use Rattle.crx_base.specs.declared.limits.TheConstants.{LINE_LIMIT};
 
-use crate::lanes::{Kind, Rule, all_of, write_by_rule};
+use crate::lanes::{Rule, all_allowed, write_by_rule};
 use crate::text::Text;
 use crx_base::limits::LINE_LIMIT;
 use std::simd::prelude::*;
@@ -69,7 +69,7 @@ pub fn patch_bytes(old: &[u8], marks: &[u8], out: &mut Text) -> Result<(), BadCh
     ensures ok { OnOk result (out.new ≡ patched old.now marks.now) }
     ensures err { OnErr result (out.new ≡ out.old) }
 {
-    if !all_of::<Printable>(marks) {
+    if !all_allowed::<false>(marks) {
         return Err(BadCharacter);
     }
     out.len = write_by_position::<Characters>(old, marks, &mut out.bytes);
@@ -81,41 +81,7 @@ pub fn patch_bytes(old: &[u8], marks: &[u8], out: &mut Text) -> Result<(), BadCh
 pub fn all_kept(text: &[u8]) -> bool
     ensures value { result ≡ list_all is_kept text.now }
 {
-    all_of::<Kept>(text)
-}
-
-// The characters that may be in a text which marks are made of.
-struct Kept;
-
-impl Kind for Kept {
-    ghost is_of_kind = { is_kept };
-
-    fn holds(character: u8) -> bool {
-        32 <= character && character <= 126 && character != b'&'
-    }
-
-    fn with_others(others: u8x16, characters: u8x16) -> u8x16 {
-        let unprintable = (characters - u8x16::splat(32)).saturating_sub(u8x16::splat(94));
-        let ampersands = characters
-            .simd_eq(u8x16::splat(b'&'))
-            .select(u8x16::splat(255), u8x16::splat(0));
-        others | (unprintable | ampersands)
-    }
-}
-
-// The characters that may be in marks.
-struct Printable;
-
-impl Kind for Printable {
-    ghost is_of_kind = { is_printable };
-
-    fn holds(character: u8) -> bool {
-        32 <= character && character <= 126
-    }
-
-    fn with_others(others: u8x16, characters: u8x16) -> u8x16 {
-        others | (characters - u8x16::splat(32)).saturating_sub(u8x16::splat(94))
-    }
+    all_allowed::<true>(text)
 }
 
 // The mark at a position.

@@ -8,10 +8,10 @@ ghost use Rattle.crx_text.specs.meaning.Numbers.{size_text};
 
 use std::simd::prelude::*;
 
-/// The digits of the groups of three of a size, of its upper half and of its lower half, in each the lower
-/// group first: each group's three digits, the last one first, and a 0.
+// The digits of the groups of three of a size, of its upper half and of its lower half, in each the lower
+// group first: each group's three digits, the last one first, and a 0.
 #[inline(always)]
-pub(crate) fn digits(size: u64) -> u8x16
+fn digits(size: u64) -> u8x16
     requires { size < 10 ^ 12 }
     ensures { result ≡ group_digits (size / 10 ^ 6 % 1000 ∷ size / 10 ^ 9 ∷ size % 1000 ∷ size / 1000 % 1000 ∷ []) }
 {

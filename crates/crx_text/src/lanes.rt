@@ -1,49 +1,54 @@
 //! Texts read and written in vectors of 16 characters; the last one may overlap the one before it.
 
-ghost use Rattle.std.specs.Prelude.{◌≡◌, ℕ, ◌+◌, ◌-◌, ◌<◌, ◌≤◌, Bool, ◌++◌, ◌==◌, ◌&&◌, length, take, drop};
+ghost use Rattle.std.specs.Prelude.{◌≡◌, ℕ, ◌+◌, ◌-◌, ◌<◌, ◌≤◌, ◌++◌, ◌==◌, ◌&&◌, length, take, drop};
 ghost use Rattle.std.specs.List.{list_all};
 ghost use Rattle.std.specs.Simd.Lanes.{chunk, zip2};
+ghost use Rattle.crx_text.specs.Texts.{is_allowed};
 
 use std::simd::prelude::*;
 
 /// How many characters a vector holds.
 pub(crate) const LANES: usize = 16;
 
-/// A kind of characters.
-pub(crate) trait Kind {
-    ghost is_of_kind: { ℕ → Bool };
-
-    /// Whether a character is of the kind.
-    fn holds(character: u8) -> bool
-        ensures value { result ≡ is_of_kind character };
-
-    /// Lanes with those set whose characters aren't of the kind; those that are set stay so.
-    fn with_others(others: u8x16, characters: u8x16) -> u8x16
-        ensures both { list_all (λ lane. lane == 0) result
-            ≡ (list_all (λ lane. lane == 0) others && list_all is_of_kind characters) };
+// Lanes with those set whose characters aren't 32 to 126 or, where marks are to be made of a text, are `&`;
+// those that are set stay so.
+#[inline(always)]
+fn with_others<const IS_TEXT: bool>(others: u8x16, characters: u8x16) -> u8x16
+    ensures both { list_all (λ lane. lane == 0) result
+        ≡ (list_all (λ lane. lane == 0) others && list_all (is_allowed IS_TEXT) characters) }
+{
+    let unprintable = (characters - u8x16::splat(32)).saturating_sub(u8x16::splat(94));
+    if !IS_TEXT {
+        return others | unprintable;
+    }
+    let ampersands = characters
+        .simd_eq(u8x16::splat(b'&'))
+        .select(u8x16::splat(255), u8x16::splat(0));
+    others | (unprintable | ampersands)
 }
 
-// Whether all characters of a text are of the kind. Nearly all texts are, so that what was found is tested
-// once, at the end. From 8 characters on the two ends of a text are one vector: the indicators of four types
-// are as many, and one by one they take 6 instructions each.
-pub(crate) fn all_of<K: Kind>(text: &[u8]) -> bool
-    ensures { result ≡ list_all K.is_of_kind text.now }
+// Whether all characters of a text may be there, or of marks. In nearly all they may, so that what was found
+// is tested once, at the end. From 8 characters on the two ends of a text are one vector: the indicators of
+// four types are as many, and one by one they take 6 instructions each.
+pub(crate) fn all_allowed<const IS_TEXT: bool>(text: &[u8]) -> bool
+    ensures { result ≡ list_all (is_allowed IS_TEXT) text.now }
 {
     if text.len() >= LANES {
         let last = text.len() - LANES;
         let mut others = u8x16::splat(0);
         let mut at = 0;
         while at < last {
-            others = K::with_others(others, u8x16::from_slice(&text[at..]));
+            others = with_others::<IS_TEXT>(others, u8x16::from_slice(&text[at..]));
             at += LANES;
         }
-        return K::with_others(others, u8x16::from_slice(&text[last..])).reduce_or() == 0;
+        return with_others::<IS_TEXT>(others, u8x16::from_slice(&text[last..])).reduce_or() == 0;
     }
     if text.len() >= 8 {
-        return K::with_others(u8x16::splat(0), ends_of_eight(text)).reduce_or() == 0;
+        return with_others::<IS_TEXT>(u8x16::splat(0), ends_of_eight(text)).reduce_or() == 0;
     }
     for character in text {
-        if !K::holds(*character) {
+        let character = *character;
+        if character < 32 || character > 126 || IS_TEXT && character == b'&' {
             return false;
         }
     }

@@ -13,7 +13,6 @@ use Rattle.crx_filter.proofs.accounts.ByResults.{compaction-keeps, expansion-kee
 use Rattle.crx_filter.specs.meaning.{ByResults.ExpansionKeeps, CompactText.ReadsAnyText}
 use Rattle.rnxcmp_c.specs.meaning.Kept.{TaskKeeps}
 use Rattle.crx_filter.proofs.stretches.StretchesSaved.{rest-kept}
-use Rattle.rnxcmp_c.proofs.Words.{ap}
 use Rattle.crx_filter.proofs.anywriter.{AnyRun.reads-any, AnyText.first-units, OnlyTexts.only-text}
 
 -- what holds of the result of an expansion holds of what it brings back, saves and keeps
@@ -72,9 +71,7 @@ module _ (fed : List ℕ) (made kept : BothTexts) (answer : Answer) where
 
   pub run-expansion : (choices : Choices) → Has (expanded fed choices)
       → ExpansionPromises choices fed made kept answer
-  run-expansion choices whole =
-      let k = keeps-promises Has choices fed whole in
-      let status = ap (λ (a : Answer). a.status) whole.answered in search (rules, k, only-text, status)
+  run-expansion choices whole = grind (arith, common_steps, keeps-promises Has choices fed whole, only-text)
 
   pub run-check : Has (checked fed) → CheckPromises fed answer
   run-check whole = grind (arith, common_steps, RunHasResult.answered whole, what-passes, named-where_not)

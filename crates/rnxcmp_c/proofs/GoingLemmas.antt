@@ -13,7 +13,7 @@ use Rattle.rnxcmp_c.proofs.Words.{StepStops, ready_in, LINE_ROOM}
 use Rattle.rnxcmp_c.proofs.Words.{on_ok_weaker, IfErr-weaker, Result}
 use Rattle.rnxcmp_c.proofs.Words.{READY_LIMIT, Stop, Fault, Limit, line_reached, memory_next}
 use Rattle.rnxcmp_c.specs.{Counting.take-of_taken, Past.StopsSoon}
-use Rattle.rnxcmp_c.specs.Going.{AreTaken, EndStaysWithin, IsLineEnded, IsStopped, LastIsTaken, StopsAs}
+use Rattle.rnxcmp_c.specs.Going.{IsSoFar, EndStaysWithin, IsLineEnded, RunIsStopped, LastIsTaken, StopsAs}
 use Rattle.rnxcmp_c.specs.Going.{StopsEarly}
 use Rattle.rnxcmp_c.specs.{declared.piece.Piece.Piece}
 use Rattle.crx_lines.proofs.ProgressLemmas.{lines-first, lines-last, ended_lines-first, ended_lines-none}
@@ -69,11 +69,11 @@ decided-next filter lawful lines (line ∷ others) at fault =
     others at fault
 
 module _ {run : TaskRun} {held : HandleState} {taken : BothTexts} {lines : List InputLine}
-    (is : AreTaken run held taken lines) (new : HandleState) where
+    (is : IsSoFar run held taken lines) (new : HandleState) where
   -- a line more was taken
   pub taken-more : (line : InputLine) (shown : Type 0)
       → MovesWithin (run.filter.so_far lines) (run.filter.so_far (with_next lines line)) shown held new
-      → new.number ≡ held.number + 1 → AreTaken run new taken (with_next lines line)
+      → new.number ≡ held.number + 1 → IsSoFar run new taken (with_next lines line)
   taken-more line shown within number = grind (arith, common_steps, text-grows, flag-grows, length-append)
 
   -- the end was taken
@@ -121,7 +121,7 @@ module _ {run : TaskRun} {held : HandleState} {taken : BothTexts} {lines : List 
     }
 
     pub stopped : (stop : Stop) → StepStops number (memory_next run.filter lines others) before
-        (with_one_more run.filter lines others) held new stop → IsStopped is_line run input new taken stop
+        (with_one_more run.filter lines others) held new stop → RunIsStopped is_line run input new taken stop
     stopped (Fault at) (inl (memory, short), adds) = record {
       result = ran_out short;
       is = inr (inr (record {
@@ -192,8 +192,8 @@ pub stopped-as : {P Q : FilterResult → Type 0} {limit : ℕ} {held : HandleSta
 stopped-as = grind arith
 
 pub stopped-weaker : {run : TaskRun} {P Q : ℕ → Type 0} {input : List ℕ} {held : HandleState}
-    {taken : BothTexts} {stop : Stop} → ((n : ℕ) → P n → Q n) → IsStopped P run input held taken stop
-    → IsStopped Q run input held taken stop
+    {taken : BothTexts} {stop : Stop} → ((n : ℕ) → P n → Q n) → RunIsStopped P run input held taken stop
+    → RunIsStopped Q run input held taken stop
 stopped-weaker weaker is = stopped-as is
     (λ result. ⊎_elim (λ fails. inl fails) (λ early. inr (early-weaker weaker refl refl early)))
 
@@ -215,9 +215,7 @@ module _ {run : TaskRun} {ready : List (List ℕ)} {shows : List InputLine → L
     -- a line more is taken, or the last part of one, since little enough waits
     pub soon-by : (bytes : List ℕ) (n : ℕ) → HasNoFeed (take (n - 1) bytes) → ready_in held < READY_LIMIT
         → StopsSoon run fed taken bytes n
-    soon-by bytes n none low =
-        let still = ended-still (take (n - 1) bytes) none in
-        grind (arith, common_steps, length-append, is.after.text)
+    soon-by bytes n none low = grind (arith, common_steps, ended-still, length-append)
 
     -- ---- the end
 
@@ -251,7 +249,7 @@ module _ {run : TaskRun} {ready : List (List ℕ)} {shows : List InputLine → L
         pub mid-kept : piece.bytes.items ≡ take LINE_ROOM bytes_all
         mid-kept = rw (added, is.kept) (take-of_taken LINE_ROOM is.tail bytes)
 
-        pub mid-after : AreTaken run mid taken lines
+        pub mid-after : IsSoFar run mid taken lines
         mid-after = grind (arith, is.after)
 
         -- bytes without LF are kept, as far as there is room
@@ -318,7 +316,7 @@ module _ {run : TaskRun} {ready : List (List ℕ)} {shows : List InputLine → L
         pub stops-there : (new : HandleState) (rest : List ℕ) (stop : Stop)
             → StepStops (length lines + 1) (run.filter.memory_after lines line) (run.filter.so_far lines)
             (run.filter.so_far (with_next lines line)) mid new stop → (more : List ℕ)
-            → IsStopped (IsLineEnded fed (fed ++ (bytes ++ 10 ∷ rest))) run ((fed ++ (bytes ++ 10 ∷ rest))
+            → RunIsStopped (IsLineEnded fed (fed ++ (bytes ++ 10 ∷ rest))) run ((fed ++ (bytes ++ 10 ∷ rest))
             ++ more) new
             taken stop
         stops-there new rest stop stops more =

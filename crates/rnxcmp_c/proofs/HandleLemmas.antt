@@ -4,7 +4,7 @@ use Rattle.rnxcmp_c.proofs.{PieceLemmas.none-or, Words.{◌≡◌, ◌⊎◌, in
 use Rattle.rnxcmp_c.proofs.Words.{Some, None, take, drop, refl, arith, append-nil, length-append, ⊎_elim}
 use Rattle.rnxcmp_c.proofs.Words.{lines_of}
 use Rattle.rnxcmp_c.proofs.Words.{ended_lines_of, ended_lines-come_first, Outcome, ReaderRuns, FeedsBy}
-use Rattle.rnxcmp_c.proofs.Words.{HasEndedBy, HasFedBy, ReaderStands, BothTexts, INPUT_LIMIT, rooms}
+use Rattle.rnxcmp_c.proofs.Words.{HasEndedBy, HasFedBy, ReaderStands, BothTexts, rooms}
 use Rattle.rnxcmp_c.proofs.Words.{StandsBy, FilterResult, answer_now, is_some, false, limit_for, FeedsBytes}
 use Rattle.rnxcmp_c.proofs.Words.{HasFed}
 use Rattle.rnxcmp_c.proofs.Words.{Task, Answer, AnyEngine, HandleState, Reader}
@@ -56,11 +56,7 @@ pub either-fed : {task : Task} {old new : Reader} {fed : List ℕ} {taken : Both
     → HasFed fed task new (fed ++ take used bytes) taken
     ⊎ ((0 < length (drop used bytes)) × (fed ++ take used bytes ≡ fed)
     × ReaderHasPassed task new (fed ++ take used bytes) taken)
-either-fed {task} {old} {new} {fed} {taken} {bytes} {used} feeds = ⊎_elim (λ none. ⊎_elim
-    (λ empty. inl (feeds.fed_on (λ some. absurd (omega (arith, some, empty)))))
-    (λ some. let nothing : used ≡ 0 = grind (arith, feeds.takes) in
-    inr (rw (nothing, append-nil fed) (some, refl, feeds.over some none))) (none-or (length bytes)))
-    (λ more. inl (feeds.fed_on (λ _. more))) (none-or (length (take (INPUT_LIMIT - length fed) bytes)))
+either-fed {task} {old} {new} {fed} {taken} {bytes} {used} feeds = grind (arith, common_steps, inl, none-or)
 
 pub feeds-stands : (task : Task) (old new : Reader) (fed : List ℕ) (taken : BothTexts) (bytes : List ℕ)
     (used : ℕ)

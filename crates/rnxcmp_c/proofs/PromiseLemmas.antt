@@ -27,11 +27,7 @@ use Rattle.crx_filter.proofs.reading.Prefixes.{warnings-go_on}
 -- where more are warned of, their messages come after the others
 begins-more : (all some_of : List At) → (later : List At) × (all ≡ some_of ++ later)
     → Begins (notices_text all) (notices_text some_of)
-begins-more all some_of (later, e) = record {
-  rest = notices_text later;
-  same = rw e (notices-both some_of
-      later);
-}
+begins-more all some_of (later, e) = grind (arith, common_steps, notices-both)
 
 -- the warnings of the first lines are first in those of all
 pub warned-first : (task : Task) (lines more : List InputLine)

@@ -11,7 +11,7 @@ use Rattle.rnxcmp_c.proofs.Words.{Stop, Fault, Limit, result_of_course, FilterRe
 use Rattle.rnxcmp_c.proofs.Words.{StopsWhenFull}
 use Rattle.rnxcmp_c.proofs.Words.{engine_filter, has_ended_of, run_for, limit_for, result_for, Task, Compact}
 use Rattle.rnxcmp_c.proofs.Words.{Expand, Check, filter_for, AnyEngine, HandleState, ended_lines_of}
-use Rattle.rnxcmp_c.specs.Going.{AreTaken, FailsIn, IsLastLine, IsStopped, StopsAs, StopsEarly}
+use Rattle.rnxcmp_c.specs.Going.{IsSoFar, FailsIn, IsLastLine, RunIsStopped, StopsAs, StopsEarly}
 use Rattle.rnxcmp_c.specs.Handles.{EndsRunBy, EndsWithin, IsOf, IsPut, status_at_end}
 
 pub filter-is : (task : Task) (engine : AnyEngine) → IsOf task engine → engine_filter engine ≡ filter_for task
@@ -53,7 +53,7 @@ module _ {mid held : HandleState} {taken : BothTexts} {outcome : Outcome} where
 
   -- it has the result of the input, or stopped early
   pub stops-over : (task : Task) (is_line : ℕ → Type 0) (input : List ℕ) (stop : Stop)
-      → IsStopped is_line (run_for task) input mid taken stop → EndsRunBy mid held outcome stop
+      → RunIsStopped is_line (run_for task) input mid taken stop → EndsRunBy mid held outcome stop
       → EndsWithin (limit_for task) (λ result. ((result ≡ result_for task input) × (result.status ≡ 1))
       ⊎ StopsEarly is_line (run_for task) input held result) held taken outcome
   stops-over task is_line input stop stopped put = ended-as (put-ends stop stopped put) (λ result is.
@@ -68,7 +68,7 @@ module _ {mid held : HandleState} {taken : BothTexts} {outcome : Outcome} where
       is)
 
   -- a byte more than an input may have ended it
-  pub passed-over : (task : Task) (fed : List ℕ) → AreTaken (run_for task) mid taken (ended_lines_of fed)
+  pub passed-over : (task : Task) (fed : List ℕ) → IsSoFar (run_for task) mid taken (ended_lines_of fed)
       → length fed ≡ INPUT_LIMIT → IsPut mid held (record { line = mid.number + 1; fault = InputTooLong })
       outcome
       → EndsWithin (limit_for task) (StopsWhenFull (run_for task) fed) held taken outcome

@@ -56,21 +56,21 @@ module _ (task : Task) {left rest given : List ℕ} {ends then_ends : ℕ} {outc
   IsTold = (told : List ℕ) × Took messages_before told messages_after
 
   reported-told : (warnings : List At) (at : At)
-      → AreReported (collects messages_before messages_after) warnings at → IsTold
+      → AreReported (collects messages_before messages_after) at warnings → IsTold
   reported-told warnings at (inl all) = (_, all.0)
   reported-told warnings at (inr part) = (_, part.took)
 
   fault-told : (f : Fault) (at : At) → Stands (filter_for task) (gives left rest ends then_ends) given
       (collects output_before output_after) (collects messages_before messages_after) at f → IsTold
-  fault-told ReadFailed at s = reported-told _ at s.stopped.reported
-  fault-told InputTooLong at s = reported-told _ at s.stopped.reported
+  fault-told ReadFailed at s = reported-told _ at s.reported
+  fault-told InputTooLong at s = reported-told _ at s.reported
   fault-told OutOfMemory at (inl s) = reported-told [] at s.reported
-  fault-told OutOfMemory at (inr s) = reported-told _ at s.reported
-  fault-told WriteFailed at (inl s) = reported-told _ at s.reported
-  fault-told WriteFailed at (inr (inl s)) = (_, s.reported.took)
+  fault-told OutOfMemory at (inr s) = reported-told _ at s.3.reported
+  fault-told WriteFailed at (inl s) = reported-told _ at s.2.reported
+  fault-told WriteFailed at (inr (inl s)) = (_, s.2.reported.took)
   fault-told WriteFailed at (inr (inr (inl s))) = reported-told _ at s.reported
-  fault-told WriteFailed at (inr (inr (inr s))) = reported-told _ at s.reported
-  fault-told other at s = reported-told _ at s.reported
+  fault-told WriteFailed at (inr (inr (inr s))) = reported-told _ at s.1.reported
+  fault-told other at s = reported-told _ at s.2.reported
 
   told : (fault : Option At) → outcome.fault ≡ fault → IsTold
   told None is = (_, (runs.good is).5.messages_are)

@@ -198,22 +198,22 @@ pub record IsText (course : Course) (held : HandleState) (taken : BothTexts) : T
   pub reported : notices_text course.warnings ≡ taken.messages ++ waiting held.messages
 
 -- some lines were taken, and no fault ended the run: what they make was taken by the caller or is kept
-pub record AreTaken (run : TaskRun) (held : HandleState) (taken : BothTexts) (lines : List InputLine) : Type 0
-  where
-    pub lawful : IsLawful run.filter
-    pub good : (run.filter.so_far lines).fault ≡ None
-    pub text : IsText (run.filter.so_far lines) held taken
-    pub flag : held.warned ≡ are_some (run.filter.so_far lines).warnings
-    pub number : held.number ≡ length lines
-    pub limit : held.limit ≡ run.limit
-    pub left : 0 < run.limit → held.left + length (run.filter.so_far lines).output ≡ run.limit
-    pub unfailed : AreUnfailed held
+pub record IsSoFar (run : TaskRun) (held : HandleState) (taken : BothTexts) (lines : List InputLine)
+    : Type 0 where
+  pub lawful : IsLawful run.filter
+  pub good : (run.filter.so_far lines).fault ≡ None
+  pub text : IsText (run.filter.so_far lines) held taken
+  pub flag : held.warned ≡ are_some (run.filter.so_far lines).warnings
+  pub number : held.number ≡ length lines
+  pub limit : held.limit ≡ run.limit
+  pub left : 0 < run.limit → held.left + length (run.filter.so_far lines).output ≡ run.limit
+  pub unfailed : AreUnfailed held
 
 -- the lines whose LF was fed were taken, none is pending, and the bytes after them are kept, as far as a line may be long
 pub record IsGoing (run : TaskRun) (ready : List (List ℕ)) (shows : List InputLine → List Awaited → Type 0)
     (held : HandleState) (fed : List ℕ) (taken : BothTexts) : Type 0 where
   pub drained : ready ≡ []
-  pub after : AreTaken run held taken (ended_lines_of fed)
+  pub after : IsSoFar run held taken (ended_lines_of fed)
   pub shown : shows (ended_lines_of fed) []
   pub tail : List ℕ
   pub kept : held.tail.bytes.items ≡ take LINE_ROOM tail
@@ -268,8 +268,8 @@ pub record StopsAs (limit : ℕ) (is_one : FilterResult → Type 0) (held : Hand
   pub within : KeepsToLimit limit result.output
 
 -- a run was stopped in an input, at such a line
-abbrev pub IsStopped : (ℕ → Type 0) → TaskRun → List ℕ → HandleState → BothTexts → Stop → Type 0
-IsStopped is_line run input held taken stop = StopsAs run.limit
+abbrev pub RunIsStopped : (ℕ → Type 0) → TaskRun → List ℕ → HandleState → BothTexts → Stop → Type 0
+RunIsStopped is_line run input held taken stop = StopsAs run.limit
     (λ result. FailsIn run.filter input result ⊎ StopsEarly is_line run input held result) held taken stop
 
 -- the number of a line whose line end is among the bytes that came after others
@@ -282,12 +282,11 @@ IsLastLine fed line = line ≡ length (lines_of fed)
 
 -- of some bytes so many were taken, the last of them since little enough was ready, and the run goes on; or they ended
 -- it, whatever follows
-abbrev pub GoesOnOrStops : Result ℕ Stop → TaskRun → (List ℕ → Type 0) → HandleState → List ℕ → BothTexts →
-    List ℕ
-    → Type 0
+abbrev pub GoesOnOrStops : Result ℕ Stop → TaskRun → (List ℕ → Type 0) → HandleState → List ℕ → BothTexts
+    → List ℕ → Type 0
 GoesOnOrStops result run goes_on held fed taken bytes =
     IfOk result (λ n. goes_on (fed ++ take n bytes) × (0 < n → StopsSoon run fed taken bytes n))
-    × IfErr result (λ stop. (more : List ℕ) → IsStopped (IsLineEnded fed (fed ++ bytes)) run
+    × IfErr result (λ stop. (more : List ℕ) → RunIsStopped (IsLineEnded fed (fed ++ bytes)) run
     ((fed ++ bytes) ++ more) held taken stop)
 
 -- the whole input was taken, and no fault ended the run
@@ -300,7 +299,7 @@ pub record IsAll (run : TaskRun) (held : HandleState) (fed : List ℕ) (taken : 
 -- the last line was taken, and then the end; or one of them ended the run
 abbrev pub LastIsTaken : Result Unit Stop → TaskRun → Type 0 → HandleState → List ℕ → BothTexts → Type 0
 LastIsTaken result run has_ended held fed taken = OnOk result (has_ended × IsAll run held fed taken)
-    × IfErr result (IsStopped (IsLastLine fed) run fed held taken)
+    × IfErr result (RunIsStopped (IsLastLine fed) run fed held taken)
 
 -- ---- any engine, with what is held beside it
 
@@ -337,6 +336,5 @@ module _ {E : Type 0} (e : Ghosts E) where
   abbrev pub WasFed : E → E → HandleState → HandleState → List ℕ → Result ℕ Stop → Type 0
   WasFed before after old new bytes result = (run : TaskRun) (fed : List ℕ) (taken : BothTexts)
       → IsRunning run before old fed taken
-      → GoesOnOrStops result run (λ fed. IsGoing run (e.ready after) (e.shows after) new fed taken) new fed
-      taken
-      bytes
+      → GoesOnOrStops result run (λ fed. IsGoing run (e.ready after) (e.shows after) new fed taken)
+      new fed taken bytes

@@ -76,8 +76,8 @@ IsOf task engine = ⊥
 
 -- its run goes on between two calls
 abbrev pub EngineGoesOn : Task → AnyEngine → HandleState → List ℕ → BothTexts → Type 0
-EngineGoesOn task engine held fed taken = IsGoing (run_for task) (ready_of engine) (shows_of engine) held fed
-    taken
+EngineGoesOn task engine held fed taken =
+    IsGoing (run_for task) (ready_of engine) (shows_of engine) held fed taken
 
 -- and an input may have so many bytes more
 abbrev pub EngineCanBeFed : AnyEngine → HandleState → ℕ → Type 0
@@ -127,8 +127,8 @@ IsLineReached fed line = line ≤ length (lines_of fed)
 -- long
 abbrev pub IsOverWith : Task → List ℕ → HandleState → FilterResult → Type 0
 IsOverWith task fed held result = (result ≡ result_for task fed)
-    ⊎ (StopsEarly (IsLineReached fed) (run_for task) fed held result ⊎ StopsWhenFull (run_for task) fed
-    result)
+    ⊎ (StopsEarly (IsLineReached fed) (run_for task) fed held result
+    ⊎ StopsWhenFull (run_for task) fed result)
 
 -- where it is: it goes on, or it has ended
 abbrev pub StandsBy : Task → Reader → List ℕ → BothTexts → Option Outcome → Type 0
@@ -203,9 +203,8 @@ answer_now reader =
 
 -- so many more bytes were fed, a line's after another's, as long as little enough waited to be taken, and no more; or
 -- there were some, and no more may be fed, which ends the run
-pub record FeedsBytes (task : Task) (old new : Reader) (fed : List ℕ) (taken : BothTexts) (bytes : List ℕ)
-    (used : ℕ)
-    (answer : Answer) : Type 0 where
+pub record FeedsBytes (task : Task) (old new : Reader) (fed : List ℕ) (taken : BothTexts)
+    (bytes : List ℕ) (used : ℕ) (answer : Answer) : Type 0 where
   pub answers : answer ≡ answer_now new
   pub takes : TakesBytes (run_for task) fed taken bytes used (texts_of_held old.held) (texts_of_held new.held)
       (is_some new.outcome)
@@ -216,8 +215,8 @@ pub record FeedsBytes (task : Task) (old new : Reader) (fed : List ℕ) (taken :
   pub still : 0 < length (take (INPUT_LIMIT - length fed) bytes) → READY_LIMIT ≤ ready_in old.held
       → new.held ≡ old.held
 
-abbrev pub FeedsBy : Task → Reader → Reader → List ℕ → BothTexts → List ℕ → ℕ → Answer → Option Outcome → Type
-    0
+abbrev pub FeedsBy : Task → Reader → Reader → List ℕ → BothTexts → List ℕ → ℕ → Answer → Option Outcome
+    → Type 0
 FeedsBy task old new fed taken bytes used answer None = FeedsBytes task old new fed taken bytes used answer
 FeedsBy task old new fed taken bytes used answer (Some outcome) = (answer ≡ bare_answer MISUSED 0 0)
     × (used ≡ 0) × (new ≡ old)
@@ -227,8 +226,8 @@ Feeds task old new fed taken bytes used answer = FeedsBy task old new fed taken 
 
 -- the end of the input was reported
 abbrev pub ReaderEndsBy : Task → Reader → Reader → List ℕ → BothTexts → Answer → Option Outcome → Type 0
-ReaderEndsBy task old new fed taken answer None = ReaderHasEnded task new fed taken ×
-    (answer ≡ answer_now new)
+ReaderEndsBy task old new fed taken answer None =
+    ReaderHasEnded task new fed taken × (answer ≡ answer_now new)
 ReaderEndsBy task old new fed taken answer (Some outcome) = (answer ≡ bare_answer MISUSED 0 0) × (new ≡ old)
 
 abbrev pub Ends : Task → Reader → Reader → List ℕ → BothTexts → Answer → Type 0

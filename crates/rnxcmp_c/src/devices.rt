@@ -68,9 +68,6 @@ impl Source for Given<'_> {
     ghost gave_both = { λ a b c xs ys p q. Consumes-trans (Some a.left.now) (Some b.left.now) (Some c.left.now) xs ys p q };
 }
 
-/// How many bytes a sink takes where there is no limit: all that a number can say.
-pub(crate) const ALL: usize = usize::MAX;
-
 /// Collects the first bytes that are written, as many as a room has place for, and counts the others. It
 /// fails where memory runs out, and once it has as many as it may take.
 #[derive(Drop)]
@@ -96,18 +93,24 @@ pub struct Counted {
 }
 
 impl Counted {
-    ghost use Rattle.rnxcmp_c.specs.Collecting.{IsEmpty};
+    ghost use Rattle.rnxcmp_c.specs.Collecting.{IsEmpty, taken_of};
     ghost use Rattle.rnxcmp_c.specs.Counting.{Took};
 
-    /// A sink that took no byte yet, with this much room, which takes so many bytes at most.
-    pub(crate) fn new(alloc: Global, room: usize, most: usize) -> Self
-        ensures { IsEmpty room most result }
+    /// A sink that took no byte yet, with this much room, for a text that may have so many bytes; 0: no
+    /// limit. It takes one more, by which a text that is longer shows; and no more than a number can say.
+    pub(crate) fn new(alloc: Global, room: usize, limit: u64) -> Self
+        ensures { IsEmpty room (taken_of limit) result }
     {
+        let unlimited = limit == 0 || limit == u64::MAX;
         Counted {
             bytes: Vec::new(alloc),
             room,
             count: 0,
-            most,
+            most: if unlimited {
+                usize::MAX
+            } else {
+                limit as usize + 1
+            },
             failures: 0,
             flushes: 0,
             flushed: false,

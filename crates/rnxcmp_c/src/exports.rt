@@ -22,8 +22,8 @@ ghost use Rattle.rnxcmp_c.specs.meaning.Promises.{CallBringsBackWhatWasCompacted
 ghost use Rattle.rnxcmp_c.specs.meaning.Stretches.{CallKeepsUndamaged, CallWritesWholeUnits};
 
 use crate::answer::{Answer, BAD_DATE, bare, failed};
-use crate::devices::{ALL, Counted, Given};
-use crate::runs::{answer_of, taken_at_most};
+use crate::devices::{Counted, Given};
+use crate::runs::answer_of;
 use crx_base::Fault;
 use crx_base::limits::INPUT_LIMIT;
 use crx_filter::{Options, check, compact, expand};
@@ -62,8 +62,8 @@ pub extern "C" fn rnxcmp_c_compact(
         return failed(0, Fault::InputTooLong);
     }
     let mut reader = Given::new(input);
-    let mut written = Counted::new(alloc, output.len(), taken_at_most(max_output));
-    let mut reported = Counted::new(alloc, messages.len(), ALL);
+    let mut written = Counted::new(alloc, output.len(), max_output);
+    let mut reported = Counted::new(alloc, messages.len(), 0);
     let outcome = compact(alloc, &mut reader, &mut written, &mut reported, options);
     answer_of(outcome, written, reported, max_output, output, messages)
 }
@@ -108,8 +108,8 @@ pub extern "C" fn rnxcmp_c_expand(
         unreachable!()
     };
     let mut reader = Given::new(input);
-    let mut written = Counted::new(alloc, output.len(), taken_at_most(max_output));
-    let mut reported = Counted::new(alloc, messages.len(), ALL);
+    let mut written = Counted::new(alloc, output.len(), max_output);
+    let mut reported = Counted::new(alloc, messages.len(), 0);
     let outcome = expand(alloc, &mut reader, &mut written, &mut reported, options);
     answer_of(outcome, written, reported, max_output, output, messages)
 }
@@ -134,8 +134,8 @@ pub extern "C" fn rnxcmp_c_check(
         return failed(0, Fault::InputTooLong);
     }
     let mut reader = Given::new(input);
-    let mut written = Counted::new(alloc, output.len(), ALL);
-    let mut reported = Counted::new(alloc, messages.len(), ALL);
+    let mut written = Counted::new(alloc, output.len(), 0);
+    let mut reported = Counted::new(alloc, messages.len(), 0);
     let outcome = check(alloc, &mut reader, &mut written, &mut reported);
     answer_of(outcome, written, reported, 0, output, messages)
 }

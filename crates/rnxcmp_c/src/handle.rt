@@ -63,7 +63,7 @@ fn put_in(handle: &mut Handle, reader: Box<Reader>)
     ensures opened { handle.new.is_open ≡ true }
 {
     *handle = Handle {
-        place: ReaderBox::of(Loose::of(reader)),
+        place: ReaderBox::from_loose(Loose::from_box(reader)),
         is_open: true,
     };
 }

@@ -3,7 +3,7 @@
 ghost use Rattle.std.specs.Prelude.{◌≡◌, ◌≤◌, ◌<◌, ◌+◌, ◌-◌, ℕ, List, [], length, take, false, true, OnOk, OnErr, IfOk, IfErr};
 ghost use Rattle.crx_base.specs.declared.limits.TheConstants.{INPUT_LIMIT};
 ghost use Rattle.crx_base.specs.meaning.Lines.{InputLine, ends_with_return, lines_of, without_return};
-ghost use Rattle.rnxcmp_c.specs.Going.{CanBeFed, CanTake, EndStaysWithin, HasShown, IsRunning, IsTaken, KeepsItsRun, LastIsTaken, LineIsGiven, LineIsTaken, WasFed, piece_line};
+ghost use Rattle.rnxcmp_c.specs.Going.{CanBeFed, HasShown, IsRunning, IsTaken, KeepsItsRun, LastIsTaken, LineIsTaken, WasFed};
 ghost use Rattle.rnxcmp_c.specs.meaning.Answers.{BothTexts};
 ghost use Rattle.rnxcmp_c.specs.meaning.Handles.{TaskRun};
 ghost use Rattle.rnxcmp_c.specs.Holding.{IsCounted, IsMarkWithin, StopsCounted, ready_in};
@@ -34,35 +34,6 @@ fn content_of(bytes: &[u8]) -> (&[u8], bool)
         }
         None => (bytes, false),
     }
-}
-
-/// Gives a line to an engine, by what is kept of its bytes and whether an LF followed them; whether there was
-/// a warning. It is copied to where a blank and more bytes are behind it.
-fn offer_line<E: Engine>(
-    engine: &mut E,
-    output: &mut Pending,
-    messages: &mut Pending,
-    copy: &mut PaddedCopy,
-    bytes: &[u8],
-    number: u64,
-    is_ended: bool,
-) -> Result<bool, Halt>
-    requires ready { CanTake E.Engine engine.old }
-    requires next { number ≡ E.taken engine.old + 1 }
-    requires within { number ≤ INPUT_LIMIT }
-    ensures filter { E.filter engine.new ≡ E.filter engine.old }
-    ensures ready { OnOk result (CanTake E.Engine engine.new) }
-    ensures step { (lines : List InputLine) (whole : List ℕ) → E.shows engine.old lines []
-        → bytes.now ≡ take LINE_ROOM whole → LineIsGiven result (E.filter engine.old) (E.shows engine.new) lines
-        (piece_line whole is_ended) output.old output.new messages.old messages.new }
-{
-    let (content, has_return) = content_of(bytes);
-    if content.len() > LINE_LIMIT {
-        return take_overlong(engine, output, messages, number);
-    }
-    let is_plain = is_ended && !has_return;
-    let line = Line::of(copy.of(content), number, is_plain);
-    take_line(engine, output, messages, line)
 }
 
 /// Counts the output since a mark, whatever the step of a line came to: where it is more than there may be,
@@ -101,8 +72,9 @@ fn counted(
     }
 }
 
-/// Takes what is kept of a line as a line, and lets go of it, if the output stays within its limit, also
-/// where memory ran out while it was written.
+/// Gives what is kept of a line to an engine as a line, and lets go of it, if the output stays within its
+/// limit, also where memory ran out while it was written. The line is copied to where a blank and more bytes
+/// are behind it.
 fn take_within<E: Engine>(
     engine: &mut E,
     held: &mut HandleState,
@@ -117,15 +89,15 @@ fn take_within<E: Engine>(
 {
     let mark = held.mark();
     let number = held.number + 1;
-    let taken = offer_line(
-        engine,
-        &mut held.output,
-        &mut held.messages,
-        &mut held.copy,
-        &held.tail.bytes,
-        number,
-        is_ended,
-    );
+    let tail = &held.tail;
+    let (content, has_return) = content_of(&tail.bytes);
+    let taken = if content.len() > LINE_LIMIT {
+        take_overlong(engine, &mut held.output, &mut held.messages, number)
+    } else {
+        let is_plain = is_ended && !has_return;
+        let line = Line::of(held.copy.of(content), number, is_plain);
+        take_line(engine, &mut held.output, &mut held.messages, line)
+    };
     held.tail.bytes.clear();
     held.number = number;
     counted(held, mark, number, taken)
@@ -178,21 +150,8 @@ pub(crate) fn take_bytes<E: Engine>(
     Ok(bytes.len() - left.len())
 }
 
-/// Gives the end of the input to an engine, if the output stays within its limit.
-fn end_within<E: Engine>(engine: &mut E, held: &mut HandleState) -> Result<(), Stop>
-    requires shown { HasShown E.Engine engine.old }
-    requires within { E.taken engine.old ≤ INPUT_LIMIT }
-    ensures filter { E.filter engine.new ≡ E.filter engine.old }
-    ensures step { (lines : List InputLine) → E.shows engine.old lines [] → EndStaysWithin result (E.filter engine.old)
-        (E.has_ended engine.new lines) lines held.old held.new }
-{
-    let mark = held.mark();
-    let number = held.number;
-    let taken = take_end(engine, &mut held.output, &mut held.messages);
-    counted(held, mark, number, taken)
-}
-
-/// Takes the end of the input, and before it the last line, where no LF ended it.
+/// Gives the end of the input to an engine, and before it the last line, where no LF ended it, if the output
+/// stays within its limit.
 pub(crate) fn take_last<E: Engine>(engine: &mut E, held: &mut HandleState) -> Result<(), Stop>
     requires going { CanBeFed E.Engine engine.old held.old 0 }
     ensures filter { E.filter engine.new ≡ E.filter engine.old }
@@ -200,9 +159,11 @@ pub(crate) fn take_last<E: Engine>(engine: &mut E, held: &mut HandleState) -> Re
         → IsRunning E.Engine run engine.old held.old fed taken
         → LastIsTaken result run (E.has_ended engine.new (lines_of fed)) held.new fed taken }
 {
-    if held.tail.bytes.is_empty() {
-        return end_within(engine, held);
+    if !held.tail.bytes.is_empty() {
+        take_within(engine, held, false)?;
     }
-    take_within(engine, held, false)?;
-    end_within(engine, held)
+    let mark = held.mark();
+    let number = held.number;
+    let taken = take_end(engine, &mut held.output, &mut held.messages);
+    counted(held, mark, number, taken)
 }

@@ -19,7 +19,7 @@ impl<T, A: Allocator> Model for Loose<T, A> {
 
 impl<T: Drop, A: Allocator> Loose<T, A> {
     /// Takes a box apart.
-    pub(crate) fn of(value: Box<T, A>) -> Loose<T, A>
+    pub(crate) fn from_box(value: Box<T, A>) -> Loose<T, A>
         ensures { result.value ≡ value.value }
     {
         let (at, alloc) = Box::into_raw_with_allocator(value);

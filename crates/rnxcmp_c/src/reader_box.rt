@@ -32,7 +32,7 @@ impl ReaderBox {
     }
 
     /// Holds a box that was taken apart.
-    pub(crate) fn of(loose: Loose<Reader, Global>) -> ReaderBox
+    pub(crate) fn from_loose(loose: Loose<Reader, Global>) -> ReaderBox
         ensures { result.held ≡ loose.value ∷ [] }
     {
         let Loose { at, alloc: _ } = loose;

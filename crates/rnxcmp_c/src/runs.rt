@@ -1,24 +1,13 @@
 //! What a call over a whole input answers: by the run's outcome, and by what was collected of its texts as
 //! far as the caller's rooms go.
 
-ghost use Rattle.std.specs.Prelude.{◌≡◌};
 ghost use Rattle.rnxcmp_c.specs.meaning.Answers.{rooms};
-ghost use Rattle.rnxcmp_c.specs.Collecting.{AnswersRun, TakeEnough, taken_of};
+ghost use Rattle.rnxcmp_c.specs.Collecting.{AnswersRun, TakeEnough};
 
 use crate::answer::{Answer, NO_ROOM, OUTPUT_LIMIT, bare, failed, line_and_code, place};
-use crate::devices::{ALL, Counted};
+use crate::devices::Counted;
 use crx_base::Fault;
 use crx_runs::Outcome;
-
-/// How many bytes of an output are taken at most: one more than it may have, by which it shows.
-pub(crate) fn taken_at_most(most: u64) -> usize
-    ensures { result ≡ taken_of most }
-{
-    if most == 0 || most == u64::MAX {
-        return ALL;
-    }
-    most as usize + 1
-}
 
 /// Answers what a run came to, and puts what was collected of both texts into the caller's rooms. Where the
 /// output is longer than it may be, or memory ran out in the run or in collecting, the rooms stay as they

@@ -1,5 +1,5 @@
 -- An arc, whoever wrote it: its code gives its newest value, and leaves its tail.
-use Rattle.crx_compact.proofs.Words.{◌≡◌, refl, ℕ, ℤ, List, [], ◌∷◌, Option, Some, None, Ok, ap, sym, ◌∙◌, length, min}
+use Rattle.crx_compact.proofs.Words.{◌≡◌, refl, ℕ, ℤ, List, [], ◌∷◌, Option, Some, None, Ok, ap, ◌∙◌, length, min}
 use Rattle.crx_compact.proofs.Words.{inl, inr, difference, value_of_code, arc_of_code, differences_of}
 use Rattle.crx_compact.proofs.Words.{values_of}
 use Rattle.crx_compact.proofs.Words.{IsWithin, IsMissingOrWithin, ArcTail, in_range, arith, common_steps}
@@ -28,8 +28,7 @@ step n x y ys =
     let d = difference (min (length (y ∷ ys)) n) (x ∷ y ∷ ys) in
     let c = difference (min (length ys) n) (y ∷ ys) in
     let tails = (values-by_tail n d c (numbers_of n ys)).tail in
-    ap (λ vs. arc_after_number d (tail_at n vs)) (sym (values-back n (y ∷ ys)))
-    ∙ sym tails ∙ ap (tail_at n) (values-back n (x ∷ y ∷ ys))
+    grind (arith, common_steps, d, tails, values-back n (y ∷ ys), values-back n (x ∷ y ∷ ys))
 
 by_older : (width n : ℕ) (x : ℤ) (older : List ℤ) (before : Option Arc) → IsWithin width x
     → MayFollow before (Some (record { order = n; newest = x; older = older }))

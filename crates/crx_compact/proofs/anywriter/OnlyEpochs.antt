@@ -1,8 +1,7 @@
 -- The lines that are read as an epoch are ones that some writer may write for it.
 use Rattle.crx_compact.proofs.Words.{◌≡◌, refl, ℕ, zero, suc, List, [], ◌∷◌, ◌++◌, Bool, true, false, Option}
-use Rattle.crx_compact.proofs.Words.{Some, None, map, length, arith, ap, sym, ◌∙◌, ◌*◌, ◌+◌, ◌-◌, ◌≤◌, inl}
-use Rattle.crx_compact.proofs.Words.{inr}
-use Rattle.crx_compact.proofs.Words.{AllByRecursion, option_map, flat_map, if◌then◌else◌, cases_lt, length-append, same_Some, each_place, named}
+use Rattle.crx_compact.proofs.Words.{Some, None, map, length, arith, ap, sym, ◌∙◌, ◌*◌, ◌+◌, ◌-◌, ◌≤◌}
+use Rattle.crx_compact.proofs.Words.{AllByRecursion, option_map, flat_map, if◌then◌else◌, length-append, same_Some, each_place, named}
 use Rattle.crx_compact.proofs.Words.{Done, rules, by_position}
 use Rattle.crx_compact.proofs.Words.{Count, Row, ReadRow, Satellite, IsWholeEpoch, types_of_satellite}
 use Rattle.crx_compact.proofs.Words.{past_of_tail, tail_for_line, tail_left, begins_epoch, epoch_text}
@@ -22,6 +21,7 @@ use Rattle.crx_compact.proofs.{EpochTexts.blank-after, Words.{columns-are, unwra
 use Rattle.crx_compact.specs.AnyWriter.{row_before}
 use Rattle.crx_compact.specs.AnyWriter.{ReadsSomebodysEpoch}
 use Rattle.crx_compact.proofs.anywriter.{OnlyRows.{row-back, arc-back, columns-all}}
+use Rattle.std.proofs.lemmas.Grind.{common_steps}
 
 -- ---- the satellites' lines
 
@@ -76,12 +76,8 @@ joined names = flat_map (λ (n : List ℕ). n) names
 columns-append : (text : List ℕ) (k m n : ℕ)
     → columns text (k + 1) m ++ columns text (k + m + 1) n ≡ columns text (k + 1) (m + n)
 columns-append text k m n = sym (columns-are text (k + 1) (m + n) _
-    (grind (arith, length-append, length-columns)) (λ p less. elim (cases_lt p m) [
-      | inl few ↦ grind (arith, at-take, at-padded, at-drop, at-append, length-columns)
-      | inr more ↦
-          let here : p ≡ m + (p - m) = omega (arith, more) in
-          grind (arith, at-take, at-padded, at-drop, at-append_past, length-columns)
-    ]))
+    (grind (arith, length-append, length-columns)) (λ p less.
+    grind (arith, common_steps, at-take, at-padded, at-drop, at-append, length-columns, at-append_past)))
 
 -- identifiers one after another
 names-joined : (text : List ℕ) (k count : ℕ)

@@ -1,6 +1,6 @@
 -- What was written here is read back, since any writer may write it.
 use Rattle.crx_compact.proofs.Words.{◌≡◌, refl, ℤ, List, [], ◌∷◌, Bool, false, Option, Some, None, map}
-use Rattle.crx_compact.proofs.Words.{arith, ap, sym, ◌∙◌}
+use Rattle.crx_compact.proofs.Words.{arith, ap, sym}
 use Rattle.crx_compact.proofs.Words.{append_assoc, length-map, map-append, drop-append_seam, subst}
 use Rattle.crx_compact.proofs.Words.{IsWholeEpoch}
 use Rattle.crx_compact.proofs.Words.{Count, Row, Epoch, Marked, AreWhole, since_full, run_of, epoch_line, compact_epoch}
@@ -64,11 +64,7 @@ each-reads_back types m older raws h k =
     let same : epoch_now now ≡ m.epoch = epoch-same types m.in_full m.epoch older h.0 in
     let r = any-epoch types own.before raws now (compact_epoch (m ∷ older)) own.left (subst (IsWholeEpoch types) (sym same) h.0)
     own.lines in
-    record {
-      raw = r.raw;
-      reads = grind (arith, common_steps, same, length-map);
-      tail = r.leaves ∙ ap {B = Option Tail} Some (own-left types m.in_full m.epoch older h);
-    }
+    grind (arith, common_steps, same, r, own-left types m.in_full m.epoch older h)
 
 pub one-tail : OneTail
 one-tail types m older raws rest read count h k e =

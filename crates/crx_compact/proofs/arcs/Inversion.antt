@@ -1,7 +1,7 @@
 -- From the codes of an arc come its values: an induction on the order and on the arc, by one recurrence of
 -- the sums.
 use Rattle.crx_compact.proofs.Words.{◌≡◌, refl, ℕ, zero, suc, ◌+◌, ◌-◌, ◌<◌, ◌≤◌, min, ℤ, pos, List, [], ◌∷◌}
-use Rattle.crx_compact.proofs.Words.{◌++◌, length, take, Some, sym, ◌∙◌, ap, subst, arith, le_of_suc-le-suc}
+use Rattle.crx_compact.proofs.Words.{◌++◌, length, take, Some, sym, ◌∙◌, ap, arith, le_of_suc-le-suc}
 use Rattle.crx_compact.proofs.Words.{not-suc-le-zero, rules, ints, length-append, since_start, common_steps}
 use Rattle.std.specs.Prelude.{◌+ℤ◌, ◌-ℤ◌, ◌*ℤ◌, reverse}
 use Rattle.std.proofs.lemmas.List.{reverse-append, take-append-le, length-reverse}
@@ -43,9 +43,7 @@ length-steps x (y ∷ ys) = ap suc (length-steps y ys)
 pub difference-steps : (k : ℕ) (x y : ℤ) (ys : List ℤ)
     → k ≤ length ys → difference (suc k) (x ∷ y ∷ ys) ≡ difference k (steps (x ∷ y ∷ ys))
 difference-steps zero x y ys h =
-    let first = difference-suc 0 x (y ∷ ys) in
-    let old = difference-zero y ys in
-    cc (difference-zero x (y ∷ ys), difference-zero (x -ℤ y) (steps (y ∷ ys)))
+    grind (arith, difference-suc 0 x (y ∷ ys), difference-zero, difference-zero x (y ∷ ys))
 difference-steps (suc k) x y [] h = absurd (not-suc-le-zero h)
 difference-steps (suc k) x y (z ∷ zs) h =
     let first = difference-steps k x y (z ∷ zs) (omega (arith, h)) in
@@ -119,12 +117,12 @@ firsts-step n z x r =
 pub value-recurs : (n : ℕ) (x : ℤ) (b : List ℤ) (z : ℤ)
     → value_at (suc n) (x ∷ (b ++ z ∷ [])) ≡ value_at (suc n) (b ++ z ∷ []) +ℤ value_at n (x ∷ b)
 value-recurs zero x b z =
-    let long = length-append b (z ∷ []) in
-    let left = value_parts 0 (x ∷ (b ++ z ∷ [])) (suc (length b)) (suc (length b)) (z ∷ reverse (x ∷ b))
-    (omega arith) (omega arith) (reverse-append (x ∷ b) (z ∷ [])) in
-    let right = value_parts 0 (b ++ z ∷ []) (length b) (length b) (z ∷ reverse b)
-    (omega arith) (omega arith) (reverse-append b (z ∷ [])) in
-    omega (arith, ints)
+    grind (
+      arith,
+      common_steps,
+      value_parts 0 (x ∷ (b ++ z ∷ [])) (suc (length b)) (suc (length b)) (z ∷ reverse (x ∷ b)),
+      value_parts 0 (b ++ z ∷ []) (length b) (length b) (z ∷ reverse b),
+    )
 value-recurs (suc m) x b z =
     let long = length-append b (z ∷ []) in
     let same = sym (length-reverse b) in
@@ -144,9 +142,7 @@ value-recurs (suc m) x b z =
 pub value-step : (n : ℕ) (x y : ℤ) (ys : List ℤ)
     → value_at (suc n) (x ∷ y ∷ ys) ≡ value_at (suc n) (y ∷ ys) +ℤ value_at n (without_oldest (x ∷ y ∷ ys))
 value-step n x y ys =
-    let P : List ℤ → Type 0 =
-    λ c. value_at (suc n) (x ∷ c) ≡ value_at (suc n) c +ℤ value_at n (x ∷ without_oldest (y ∷ ys)) in
-    subst P (without_oldest-append y ys) (value-recurs n x (without_oldest (y ∷ ys)) (oldest y ys))
+    grind (arith, without_oldest-append, value-recurs n x (without_oldest (y ∷ ys)) (oldest y ys))
 
 -- ---- inversion
 
@@ -156,10 +152,15 @@ value-first n d = search rules
 -- the numbers of an arc's codes give its newest value
 pub value-numbers : (n : ℕ) (xs : List ℤ) (x : ℤ) → value_at n (numbers_of n (x ∷ xs)) ≡ x
 value-numbers (suc n) (y ∷ ys) x =
-    let step = value-step n (difference (min (length (y ∷ ys)) (suc n)) (x ∷ y ∷ ys))
-    (difference (min (length ys) (suc n)) (y ∷ ys)) (numbers_of (suc n) ys) in
-    let below = ap (value_at n) (numbers-steps n (x ∷ y ∷ ys)) in
-    omega (arith, ints, value-numbers (suc n) ys y, value-numbers n (steps (y ∷ ys)) (x -ℤ y))
+    grind (
+      arith,
+      common_steps,
+      value-step n (difference (min (length (y ∷ ys)) (suc n)) (x ∷ y ∷ ys))
+          (difference (min (length ys) (suc n)) (y ∷ ys)) (numbers_of (suc n) ys),
+      numbers-steps n (x ∷ y ∷ ys),
+      value-numbers (suc n) ys y,
+      value-numbers n (steps (y ∷ ys)) (x -ℤ y),
+    )
 value-numbers x xs y = grind (arith, common_steps, difference-zero, value-first)
 
 -- the codes of an arc have its start, and these numbers

@@ -226,9 +226,11 @@ pub record GoesOn (order count last : ℕ) (value : ℤ) (ds : List ℤ) : Type 
 pub goes-on : (order count last : ℕ) (value : ℤ) (ds : List ℤ)
     → last ≡ min order count → 0 < count → 0 < length ds → GoesOn order count last value ds
 goes-on order (suc count) last value (d ∷ ds) e h l =
-    let after = take-after order value (take (suc count) (d ∷ ds)) in
-    let lower = lower-taken order (suc count) last (d ∷ ds) e in
-    record { code = cc; tail = cc (some-kept order value (take last (d ∷ ds))) }
+    grind (
+      arith,
+      take-after order value (take (suc count) (d ∷ ds)),
+      lower-taken order (suc count) last (d ∷ ds) e,
+    )
 goes-on order count last value ds e h l = absurd (omega arith)
 
 -- the arc after a next value in range is kept as well

@@ -81,8 +81,4 @@ values-differences n c b older =
 
 pub values-by_tail : (n : ℕ) (c b : ℤ) (older : List ℤ) → ValuesByTail n c b older
 values-by_tail n c b older =
-    let ds = values-differences n c b older in
-    record {
-      value = cc (difference-zero (value_at n (c ∷ b ∷ older)) (values_of n (b ∷ older)), ds);
-      tail = cc (ds);
-    }
+    grind (arith, values-differences, difference-zero (value_at n (c ∷ b ∷ older)) (values_of n (b ∷ older)))

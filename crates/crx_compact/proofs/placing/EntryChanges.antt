@@ -1,6 +1,6 @@
 -- One entry of the map gets another value.
 use Rattle.std.proofs.Common.{◌≡◌, ℕ, suc, ◌<◌, ◌≤◌, List, ◌∷◌, length, set, slice_get}
-use Rattle.std.proofs.Common.{Some, sym, ◌∙◌, arith, length-set, subst, Bool, true, false}
+use Rattle.std.proofs.Common.{Some, sym, ◌∙◌, arith, length-set, Bool, true, false}
 use Rattle.std.proofs.{Common.{IsTrue, ◌↔◌, cond, map, rules}, lemmas.Slice.Eq.bytes_eq-Decides}
 use Rattle.std.proofs.lemmas.Bool.{cond-true, false≢true}
 use Rattle.std.proofs.{lemmas.List.get_or-set_same, lemmas.Grind.common_steps}
@@ -54,10 +54,7 @@ module _ {S : Type 0} (m : IndexMap (List ℕ) SatelliteTail S) (i : ℕ) (name 
   rooms-changed more =
       let updates = updates-with_value_at m i after bytes_eq-equiv unique name before there in
       let own = hash_map_get_place bytes_eq-equiv m i name before unique there in
-      rooms-kept _ _ (λ other satellite known.
-      let same = (bytes_eq-Decides name other).0 in
-      let now = cond (bytes_eq name other) after satellite in
-      (now, grind (arith, common_steps), grind (arith, common_steps, same, same_Some)))
+      grind (arith, common_steps, rooms-kept, bytes_eq-Decides name, same_Some)
 
   pub has-room : (count : ℕ) → count ≤ after.room
       → HasRoom name count (rooms_of (set_value_at m.entries i after))

@@ -44,8 +44,7 @@ found-added name satellite es new is none = rw is (record {
   at = record { satellite = satellite; there = at-seam es [] _ };
   known = take-append_seam es ((name, satellite) ∷ []);
   rooms = rooms-kept es _ (λ other found known.
-      let kept = look_up-more (bytes_eq other) es ((name, satellite) ∷ []) found known in
-      (found, kept, omega arith));
+      grind (arith, common_steps, look_up-more (bytes_eq other) es ((name, satellite) ∷ []) found known));
 })
 
 pub none-there : {X : Type 0} (r : Option X) → is_some r ≡ false → r ≡ None

@@ -2,7 +2,7 @@
 use Rattle.crx_compact.proofs.placing.EntryChanges.{set-there}
 use Rattle.indexmap.proofs.IndexTableLemmas.Indexes.{swap_self}
 use Rattle.std.proofs.{Common.{◌≤◌, inl, inr, slice_get, Some, subst}, lemmas.Bool.cases_eq}
-use Rattle.std.proofs.Common.{◌≡◌, ℕ, ◌<◌, List, [], length, take, set, sym, swap}
+use Rattle.std.proofs.Common.{◌≡◌, ℕ, ◌<◌, List, length, take, set, sym, swap}
 use Rattle.std.proofs.{Common.{arith, length-set}, lemmas.List.{drop-set-lt, take-set-le, take_more_set}}
 use Rattle.std.proofs.{Math.Seq.take-set-lt, lemmas.Grind.common_steps}
 use Rattle.std.specs.{Str.bytes_eq, List.IsDistinct, Map.keys_of}

@@ -96,8 +96,7 @@ module _ {S : Type 0} (m : IndexMap (List ℕ) SatelliteTail S) {order places : 
 last-is : {X : Type 0} (xs ys : List X) (x y : X) (i : ℕ) → xs ≡ ys ++ y ∷ [] → i ≡ length xs - 1
     → (slice_get xs i ≡ Some y) × (slice_set xs i x ≡ ys ++ x ∷ [])
 last-is xs ys x y i e is =
-    let same : i ≡ length ys = omega (arith, is, ap length e, length-append ys (y ∷ [])) in
-    rw (e, same) (at-seam ys [] y, set-append_seam ys y [] x)
+    grind (arith, common_steps, length-append ys (y ∷ []), at-seam ys, set-append_seam ys y)
 
 pub last-within : (name : List ℕ) (before come : PlacedRows) (place : ℕ) → HasCome name before come
     → place ≡ length come.rows - 1 → place < length come.rows
@@ -137,8 +136,7 @@ pub each_place-below : {X : Type 0} (n : ℕ) (f g : ℕ → X) → ((k : ℕ) �
 each_place-below zero f g h = refl
 each_place-below (suc n) f g h = cc (
   h 0 (omega arith),
-  each_place-below n (λ i. f (suc i)) (λ i. g (suc i)) (λ k within. h (suc k) (omega
-      (arith, within))),
+  each_place-below n (λ i. f (suc i)) (λ i. g (suc i)) (λ k within. grind (arith, common_steps, k)),
 )
 
 cell-there : (n k : ℕ) (cells : List (Option ArcTail)) → k < n

@@ -26,10 +26,7 @@ row-announced old new place line read same h = search (rules, satellite_of, sate
 
 -- each row has as many cells as a system may have types
 pub rows-allowed : (history : OpenHistory) → IsAnnounced history → All HasAllowedCount history.satellites.rows
-rows-allowed history h = λ i d less.
-    let rows = history.satellites.rows in
-    let k = h.satellites i (satellite_of d) (omega (arith, less, length-map rows satellite_of)) in
-    (rw (get_or-map satellite_of rows i d) at k).counted
+rows-allowed history h = grind (arith, common_steps, get_or-map satellite_of)
 
 -- they are as few as an epoch may have
 pub rows-few : (history : OpenHistory) → IsAnnounced history

@@ -107,8 +107,7 @@ read_rows-held : (before : Tail) (line : List ℕ) (satellites : List Satellite)
     (then_place p lines (λ rows rest. Done (epoch_of_rows (read_begun before line satellites) cell rows) 0))))
     ≡ after_lines 2 (rows_placed before (patched before.text line) (arc_of_code cell.code before.clock) [] p)
 read_rows-held before line satellites cell tail lines (Done rows n) h clock e =
-    let facts = rows-facts (past_of_tail before) satellites lines rows n e in
-    search (rules, map-map, take_all, facts.2, facts.3, rows-shown)
+    grind (arith, common_steps, rows-facts, map-map, take_all, rows-shown)
 read_rows-held before line satellites cell tail lines p h clock e = grind arith
 
 clock-steps : (before : Tail) (line : List ℕ) (satellites : List Satellite)

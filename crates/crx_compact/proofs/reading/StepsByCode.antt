@@ -1,13 +1,14 @@
 -- What a line makes of an open epoch, by what was read of it into a history.
-use Rattle.crx_compact.proofs.Words.{◌≡◌, ◌≤◌, ◌<◌, ℕ, ◌+◌, Some, None, Err, ◌∙◌, Tail, refl, ap}
+use Rattle.crx_compact.proofs.Words.{◌≡◌, ◌≤◌, ◌<◌, ℕ, ◌+◌, Some, None, Err, Tail, refl, ap}
 use Rattle.crx_compact.proofs.Words.{◌==◌, false, true, List, length, arith, Fault, Epoch, Reading, RowTail}
-use Rattle.crx_compact.proofs.Words.{rules, Content, row_held, HasMade, RawStep, with_rows, IsRowRead}
+use Rattle.crx_compact.proofs.Words.{Content, row_held, HasMade, RawStep, with_rows, IsRowRead}
 use Rattle.crx_compact.proofs.Words.{satellite_of, slice_get, next_step, whole_epoch, OpenHistory}
 use Rattle.crx_compact.proofs.Words.{shown_epoch}
 use Rattle.crx_compact.proofs.Words.{lines_to, take_all, HasPrintedLines, step_with_rows, tail_of_history}
 use Rattle.crx_compact.proofs.{RowByRow.is-there}
 use Rattle.std.proofs.lemmas.Option.{slice_get_past}
 use Rattle.crx_compact.specs.{OpenEpochs.{Idle, Whole, Faulty, makes_epoch}}
+use Rattle.std.proofs.lemmas.Grind.{common_steps}
 
 -- ---- satellite lines
 
@@ -20,18 +21,14 @@ row-stepped old new count line h same = grind arith
 pub row-faulty : (tail : Tail) (count : ℕ) (line : List ℕ) (fault : Fault) → count < length tail.rows
     → ((row : RowTail) → slice_get tail.rows count ≡ Some row → row_held (Some row) (satellite_of row) line
     ≡ Err fault) → next_step (with_rows tail count) (Content line) ≡ Faulty fault
-row-faulty tail count line fault h e =
-    let awaited = is-there tail.rows count h in
-    search rules
+row-faulty tail count line fault h e = grind (arith, common_steps, is-there tail.rows count h)
 
 -- ---- more rows, or a whole epoch
 
 module _ (step : RawStep) (tail : Tail) (count : ℕ) (e : step ≡ step_with_rows tail count) where
   pub made-more : (count == length tail.rows) ≡ false → count ≤ length tail.rows
       → HasMade step (Reading (with_rows tail count)) None
-  made-more other within =
-      let h : count < length tail.rows = grind (arith, other, within) in
-      (with_rows tail count, e ∙ (cc ((is-there tail.rows count h).there)), refl)
+  made-more other within = grind (arith, common_steps, is-there tail.rows count)
 
   module _ (h : length tail.rows ≤ count) where
     whole : step ≡ Whole (whole_epoch tail)

@@ -1,10 +1,10 @@
 -- What follows of an epoch and its rows from their being ones that can be written.
-use Rattle.crx_compact.proofs.Words.{◌≡◌, refl, true, List, Some, at, nat_eq, length, arith, rules}
-use Rattle.crx_compact.proofs.Words.{◌+◌, ◌-◌, ◌*◌, ◌<◌, ℕ, not, ◌∷◌, map, ◌∙◌, Row, sym, [], Epoch}
+use Rattle.crx_compact.proofs.Words.{◌≡◌, refl, true, List, Some, at, nat_eq, length, arith}
+use Rattle.crx_compact.proofs.Words.{◌+◌, ◌-◌, ◌*◌, ◌<◌, ℕ, ◌∷◌, map, ◌∙◌, Row, sym, [], Epoch}
 use Rattle.crx_compact.proofs.Words.{epoch_count, columns-are, name-length, common_steps, Count}
 use Rattle.crx_compact.proofs.Words.{columns, is_kept, list_all, flat_map}
 use Rattle.crx_compact.proofs.Words.{and_parts, Satellite, epoch_text, IsSoundRow, ap, HasItsTypes, at-append}
-use Rattle.crx_compact.proofs.Words.{each_place, AllByRecursion, has_satellite, are_different, at-append_past}
+use Rattle.crx_compact.proofs.Words.{each_place, AllByRecursion, are_different, at-append_past}
 use Rattle.crx_compact.proofs.Words.{Ok, satellites_named, each_place-same}
 use Rattle.crx_compact.proofs.Words.{not-true}
 use Rattle.crx_compact.proofs.Characters.{list_all-append}
@@ -45,8 +45,7 @@ names-text : (types : List Count) (rows : List Row) → AllByRecursion (IsTypedR
     × (length (flat_map (λ (r : Row). r.name) rows) ≡ 3 * length rows)
 names-text types [] h = (refl, refl)
 names-text types (r ∷ rs) h =
-    let rest = names-text types rs h.1 in
-    (list_all-append _ r.name _ (sound-name_kept r h.0.0) rest.0, search (rules, length-append, flat_map))
+    grind (arith, common_steps, list_all-append, sound-name_kept, length-append, names-text types rs h.1)
 
 module _ (types : List Count) (e : Epoch) (h : IsWholeEpoch types e) where
   pub head-kept : list_all is_kept e.head ≡ true
@@ -90,6 +89,4 @@ pub satellites-good : (types : List Count) (earlier : List (List ℕ)) (rows : L
     ≡ true → satellites_named types earlier (map (λ (r : Row). r.name) rows) ≡ Ok (satellites_of_rows rows)
 satellites-good types earlier [] h new k = refl
 satellites-good types earlier (r ∷ rs) h new k =
-    let parts = and_parts (not (has_satellite r.name rs)) (are_different rs) k in
-    let later = new-after (λ (q : Row). q.name) r.name earlier rs new.1 (not-true _ parts.0) in
-    cc (satellites-good types (r.name ∷ earlier) rs h.1 later parts.1)
+    grind (arith, common_steps, new-after, not-true, satellites-good types (r.name ∷ earlier) rs h.1)

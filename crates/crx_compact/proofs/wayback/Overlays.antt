@@ -16,13 +16,7 @@ character-mark a b h = grind arith
 
 pub patched-again : (old new : List ℕ) → IsUnmarked new → patched old (text_difference old new) ≡
     without_end_blanks new
-patched-again old new h = search (
-  rules,
-  same_characters,
-  at-by_position,
-  at-without_end_blanks,
-  character-mark,
-)
+patched-again old new h = search (same_characters, at-by_position, at-without_end_blanks, character-mark)
 
 pub at_past : (text : List ℕ) (p : ℕ) → length text ≤ p → at text p ≡ 32
 at_past text p h = get_or_past text p 32 h

@@ -1,5 +1,5 @@
 -- The text of an epoch's line is read as its columns and satellites; and texts of codes.
-use Rattle.crx_compact.proofs.Words.{◌≡◌, refl, true, false, List, ◌∷◌, [], ℕ, drop, Ok, ◌+◌, ◌*◌, ◌∙◌, arith, and_parts, rules, length, Row}
+use Rattle.crx_compact.proofs.Words.{◌≡◌, refl, true, false, List, ◌∷◌, [], ℕ, drop, Ok, ◌+◌, ◌*◌, arith, and_parts, rules, length, Row}
 use Rattle.crx_compact.proofs.Words.{Epoch, Count, IsWholeEpoch, begins_epoch, columns, epoch_text, satellites_of_text, few_kept}
 use Rattle.crx_compact.proofs.Words.{at-append_past}
 use Rattle.crx_compact.proofs.Words.{list_all, without_end_blanks, at-without_end_blanks, common_steps}
@@ -23,8 +23,7 @@ text-good types e h =
     let rest : drop (41 + 3 * length e.rows) text ≡ [] =
     drop_of_length-le text (omega (arith, few_kept (epoch_text e), length-text types e h)) in
     let names = names-read types text 41 e.rows rows
-    (λ p. at-without_end_blanks (epoch_text e) (41 + p)
-    ∙ at-append_past e.head _ 41 p h.sound.head_sound.width) in
+    (λ p. grind (arith, common_steps, at-without_end_blanks, at-append_past)) in
     rw (text-columns types e h, head-counted types e h, rest, names)
     (satellites-good types [] e.rows rows (none-earlier (λ (r : Row). r.name) e.rows) h.sound.apart)
 

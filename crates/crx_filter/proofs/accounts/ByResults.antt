@@ -40,8 +40,7 @@ gives-back holds choices text ran file compacting dated passed same = subst hold
 pub expansion-keeps : (holds : FilterResult → Type 0) (choices : Choices) (text : List ℕ)
     → holds (expanded text choices) → ExpansionKeeps holds choices.skip text
 expansion-keeps holds choices text ran = record {
-  units = λ units compacting dated h same. subst holds (ap (λ t. expanded t choices) same
-      ∙ (texts-of_units units compacting choices h).expansion dated) ran;
+  units = grind (arith, common_steps, texts-of_units);
   any_writer = reads-any holds choices text ran;
   no_other = (expanded text choices, ran, only-text text choices);
   standard = (expanded text choices, ran, λ good plain. (expanded-standard text choices good).standard plain);

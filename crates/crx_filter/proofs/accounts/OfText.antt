@@ -2,7 +2,7 @@
 use Rattle.crx_filter.proofs.Words
 use Words.{arith, [], ℕ, ◌≡◌, Bool, List, ◌∷◌, take, length-map, None, ReadLine, Count}
 use Words.{RawEpoch, Done, ReadEpoch, epoch_at, Item, compact_place}
-use Words.{raws_kept, Observation, whole_compact, common_steps, Content, FileUnit, Accepted}
+use Words.{raws_kept, Observation, whole_compact, common_steps, FileUnit, Accepted}
 use Rattle.crx_compact.proofs.soundness.Soundness.{epoch-facts}
 use Rattle.crx_filter.proofs.accounts.{Clean.{clock-printable, rows-clean}, Reached.{taken, all-accounted}}
 use Rattle.crx_filter.proofs.wayback.First.{two-back, two-whole}
@@ -31,12 +31,4 @@ owns-unit items lines unit count e = (compact-stands items lines unit count e).0
 pub text-accounted : (skip : Bool) (lines : List ReadLine) → (whole_compact skip lines).fault ≡ None
     → (first : ReadLine) × (second : ReadLine) × (rest : List ReadLine)
     × (lines ≡ first ∷ second ∷ rest) × AreLinesOfItems AreCleanLines (whole_compact skip lines).items rest
-text-accounted skip lines h =
-    let two = two-back skip lines h in
-    let whole = two-whole skip lines two in (
-      Content two.version,
-      Content two.program,
-      two.rest,
-      two.is,
-      rw whole (all-accounted AreCleanLines compact_place owns-unit skip 3 two.rest (rw whole at h)),
-    )
+text-accounted skip lines h = grind (arith, common_steps, two-back, two-whole, all-accounted, owns-unit)

@@ -2,7 +2,7 @@
 -- place owns its lines.
 use Rattle.crx_filter.proofs.Words
 use Words.{arith, common_steps, [], ℕ, ◌≡◌, ◌≤◌, Bool, List, ◌++◌, take, drop, length, None, refl, ◌∙◌}
-use Words.{append_assoc, append-nil, ReadLine, Place, Done, FileUnit, Item, Accepted, ◌+◌}
+use Words.{append_assoc, ReadLine, Place, Done, FileUnit, Item, Accepted, ◌+◌}
 use Words.{reading_from, whole_reading}
 use Rattle.crx_filter.proofs.reading.KeptThroughout.{IsKept, within-kept, whole-kept}
 use Rattle.std.proofs.lemmas.List.{take-append-drop}
@@ -42,5 +42,4 @@ module _ {E : Type 0} (OfEpoch : E → List ReadLine → Type 0)
   pub all-accounted : (whole_reading place skip number lines).fault ≡ None
       → AreLinesOfItems OfEpoch (whole_reading place skip number lines).items lines
   all-accounted f =
-      let (front, is, own) = whole-kept place skip SoFar kept number lines ([], refl, refl) f in
-      grind (arith, common_steps, append-nil)
+      grind (arith, common_steps, whole-kept place skip SoFar kept number lines ([], refl, refl) f)

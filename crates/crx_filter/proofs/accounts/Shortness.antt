@@ -26,13 +26,12 @@ few : (choices : Choices) (n : ℕ) (before : List (Item Epoch)) (first : Epoch)
     → choices.every ≡ Some n → 0 < n → AreContinued choices (Accepted (Observation first) ∷ before) others
     → length others + (epochs_accepted before % n + 1) ≤ n
 few choices n before first [] every some h = omega (arith, mod_below (epochs_accepted before) n some)
-few choices n before first (e ∷ later) every some h = grind (
-  arith,
-  common_steps,
-  few choices n (Accepted (Observation first) ∷ before) e later every some h.1,
-  next-remainder,
-  not-at,
-)
+few choices n before first (e ∷ later) every some h =
+    grind (
+      arith,
+      few choices n (Accepted (Observation first) ∷ before) e later every some h.1,
+      next-remainder,
+    )
 
 pub short-blocks : (choices : Choices) (file : List ℕ) → HasShortBlocks choices file (compacted file choices)
 short-blocks choices file n every some = (

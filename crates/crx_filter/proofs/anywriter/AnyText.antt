@@ -10,7 +10,7 @@ use proofs.Words.{RawEpoch, ReadEpoch}
 use proofs.Words.{header_has_ended, records_left, records_count_types, types_in_force, types_fault}
 use proofs.Words.{Reading, AtLines, reading_from, ended_reading, compact_place, compact_epoch_place}
 use proofs.Words.{is_event_line, records_in, raws_kept}
-use proofs.Words.{IsWholeEpoch, expanded_unit, expanded, printed_items, warnings_in, lines_text, result_of}
+use proofs.Words.{IsWholeEpoch, expanded_unit, warnings_in, result_of}
 use proofs.Words.{written_well}
 use Rattle.crx_filter.proofs.{Words.{IsInPlace, AreInPlace}, following.Following.body-place}
 use Rattle.crx_filter.proofs.reading.{ForwardCompact.{compact-forward, compact_beginning}, Ending.closes-well}
@@ -31,8 +31,7 @@ use Rattle.crx_filter.specs.meaning.Stretches.{AreLinesOn}
 use Rattle.crx_filter.specs.meaning.CompactText.{AreLinesOfUnit, AreLinesOf, AreUnitsInPlace}
 use Rattle.crx_filter.specs.CompactText.{ExpandsAnyText, IsOfOneFile, WritesFirstUnits}
 use Rattle.crx_filter.proofs.reading.{CompactPrefixes.reading-at, Prefixes.expanded-first}
-use proofs.Words.{compact_reading, expanded_lines}
-use Rattle.crx_filter.proofs.Words.{Begins, FilterResult}
+use proofs.Words.{compact_reading}
 use Rattle.crx_filter.proofs.wayback.ExpandedStandard.{printed-read}
 use Rattle.crx_filter.proofs.wayback.Units.{none-warned, units-again}
 use Rattle.crx_compact.proofs.anywriter.Epochs.{any-epoch, no-event}
@@ -96,8 +95,7 @@ module _ (items : List (Item ReadEpoch)) (units : List (FileUnit Epoch)) (before
       let count : 2 + length now.rows ≡ length (line ∷ clock ∷ rows) = omega (arith, rows-many lines.0 now.rows rows lines.2.satellites) in
       record {
         read = Observation (record { raw = reads.raw; epoch = epoch_now now });
-        place = body-place compact_beginning items (map Content (line ∷ clock ∷ rows)) (k.header ∙ h.0) (k.left ∙ h.1)
-            ∙ rw (other, here, count) refl;
+        place = grind (arith, common_steps, here, other, count, body-place);
         same = refl;
         left = λ b e. reads.leaves ∙ ap {B = Option Tail} (λ w. Some (epoch_left w)) (same_Some now b e);
       }
@@ -148,8 +146,7 @@ read-on skip items number block (unit ∷ units) lines start last like left h k 
       more = Accepted u.read ∷ r.more;
       reads = unit-more compact_place compact-forward skip items (r.more ++ items) number k.1 k.2 u.read r.reads u.place;
       known = cc (u.same, r.known);
-      like = subst (λ v. IsLike (Accepted u.read ∷ (r.more ++ items)) (v ∷ (units ++ block))) u.same
-          (like-unit (r.more ++ items) (units ++ block) u.read r.like (rw u.same h.0));
+      like = grind (arith, common_steps, r, u, like-unit (r.more ++ items) (units ++ block) u.read r.like);
       left = u.left;
     })
 
@@ -223,6 +220,4 @@ first-units units text choices placed h =
     let two = two-read h.version h.program (map Content h.lines) h.first h.second in
     let read : compact_reading skip lines ≡ record { items = r.items; stop = AtLines (3 + length h.lines) [] } =
     reading-at skip lines (h.version ∷ h.program ∷ []) 2 two ∙ r.reads in
-    subst (λ ls. Begins (FilterResult.output (expanded text choices)) (lines_text ls))
-    (ap (λ (q : Reading ReadEpoch). expanded_lines q.items) read ∙ printed-read r.items ∙ ap printed_items r.known)
-    ((expanded-first choices lines).whole text h.more h.cut)
+    grind (arith, common_steps, lines, r, read, printed-read r.items, expanded-first choices lines)

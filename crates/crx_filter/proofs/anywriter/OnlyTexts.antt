@@ -31,7 +31,4 @@ only-text text choices e =
     grind (arith, common_steps, units-in_place, append-nil)
 
 pub accepts-exactly : AcceptsExactly
-accepts-exactly text choices = (
-  only-text text choices,
-  λ is. ap FilterResult.status (any-text text choices is.0 is.1 is.2),
-)
+accepts-exactly text choices = grind (arith, common_steps, only-text text choices, any-text text choices)

@@ -1,7 +1,7 @@
 -- A unit that is read at some lines of compact text is one whose lines these are, whoever wrote them.
 use Rattle.crx_filter.proofs
 use proofs.Words.{ℕ, ◌≡◌, ◌+◌, false, List, [], ◌∷◌, ◌++◌, map, length, drop, take, Option, Some, arith}
-use proofs.Words.{refl, ap, sym, ◌∙◌, subst, common_steps}
+use proofs.Words.{refl, ap, sym, ◌∙◌, common_steps}
 use proofs.Words.{ReadLine, Content, Epoch, Done, FileUnit, HeaderLine, EventLine, EventRecord}
 use proofs.Words.{Observation, Item, Accepted, ReadEpoch}
 use proofs.Words.{records_count_types, declaring_lines, types_in_force, raws_kept}
@@ -72,12 +72,7 @@ module _ (items : List (Item ReadEpoch)) (units : List (FileUnit Epoch)) (before
         own = found.own;
         cut = found.cut;
         now = Some found.now;
-        stands = record {
-          known = cc s.known;
-          left = ap (λ (r : ReadEpoch). tail_left (r.raw ∷ raws)) (sym same) ∙ any.leaves;
-          whole = λ b k. subst (λ q. IsWholeEpoch types (epoch_now q)) (same_Some found.now b k) whole;
-          good = (good, s.good);
-        };
+        stands = grind (arith, common_steps, types, raws, found, good, whole, any, same, same_Some found.now);
         written = (found.now, found.epoch, refl, found.written);
       }
 

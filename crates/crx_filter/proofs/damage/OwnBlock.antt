@@ -6,7 +6,7 @@ use proofs.Words.{refl, ap, sym, ◌∙◌, subst, append_assoc, append-nil, All
 use proofs.Words.{map-append}
 use proofs.Words.{drop-append_seam, and_parts, not-true, by_bool, InputLine, pieces_of, lines_of}
 use proofs.Words.{lines_text}
-use proofs.Words.{Content, as_read, Epoch, IsWholeEpoch, printed_epoch, Observation, epoch_line, Choices}
+use proofs.Words.{Content, as_read, Epoch, printed_epoch, Observation, epoch_line, Choices}
 use proofs.Words.{is_date, expanded, Item, Accepted, records_left, types_in_force, marked_epochs}
 use proofs.Words.{compact_lines}
 use proofs.Words.{printed_items, AreInPlace, BeginsAnew, is_in_full, is_event_line, with_epochs}
@@ -87,13 +87,7 @@ inside-read (line ∷ lines) e =
     grind (arith, common_steps, and_parts, not-true, by_bool, inside-read lines (and_parts (may_replace line) _ e).1)
 
 may-come : (lines : List InputLine) → list_all may_replace lines ≡ true → list_all may_come_instead lines ≡ true
-may-come = all-weaker may_replace may_come_instead (λ line e. grind (
-  arith,
-  common_steps,
-  and_parts,
-  not-true,
-  by_bool,
-))
+may-come = grind (arith, common_steps, all-weaker, not-true)
 
 -- ---- a damaged text
 
@@ -207,8 +201,7 @@ module _ (input : List ℕ) (choices : Choices) (damaged : List ℕ) (d : IsOwnD
       rw (d.parts, printed-append d.after (with_epochs d.before epochs), drop-append_seam) (sym (units-printed d.after)) in
       record {
         epochs = k.epochs;
-        whole = subst (λ types. AllByRecursion (IsWholeEpoch types) k.epochs) (sym (units-like d.before
-            before-good.in_place).types) k.whole;
+        whole = grind (arith, common_steps, k, before-good, units-like d.before before-good.in_place);
         warnings = k.warnings;
         few = k.few;
         output = cc (

@@ -1,7 +1,7 @@
 -- A check goes line by line, in the words of its filter: it hands out nothing before the end of the input,
 -- and then its report.
 use Rattle.crx_filter.proofs.Words
-use Words.{common_steps, arith, ℕ, ◌≡◌, true, false, List, [], ◌∷◌, length, map, refl, ap, sym, ◌∙◌}
+use Words.{common_steps, arith, ℕ, ◌≡◌, true, false, List, [], ◌∷◌, length, map, refl}
 use Words.{map-append, length-map, ReadLine, as_read, Choices, Count, Epoch, lines_text, noticed_by}
 use Words.{failed_by, is_again, Made, Phase, OpenEpoch, step_of_made, state_next, state_end, LineStep, Totals}
 use Words.{checking, check_by_line, check_reading, check_filter, no_choices, findings_of, false-true}
@@ -64,9 +64,7 @@ check-goes choices taken = record {
   memory_first = λ lines line needed. allowed-first check-carried_out check-takes 1 (length (map as_read
       lines))
       (map as_read lines) (as_read line) (omega arith);
-  memory_again = λ lines line next notice needed is takes. false-true
-      (sym (step-quiet (map as_read lines) (as_read line)).once
-      ∙ ap (λ (s : LineStep OpenEpoch Totals). is_again s.answer) (sym is));
+  memory_again = grind (arith, common_steps, false-true, step-quiet);
   too_long_first = λ types kept. refl;
   too_long_next = λ so_far. refl;
 }

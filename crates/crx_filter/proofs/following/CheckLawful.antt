@@ -1,9 +1,9 @@
 -- A check as a filter: a fault of the lines so far is that of all lines.
-use Rattle.crx_filter.proofs.Words.{◌≡◌, false, [], ◌++◌, map, Some, refl, map-append, as_read, IsLawful}
-use Rattle.crx_filter.proofs.Words.{whole_reading_of, findings_of, check_filter, common_steps, arith, ℕ, List}
+use Rattle.crx_filter.proofs.Words.{◌≡◌, false, [], map, Some, refl, map-append, as_read, IsLawful}
+use Rattle.crx_filter.proofs.Words.{findings_of, check_filter, common_steps, arith, ℕ, List}
 use Rattle.crx_filter.proofs.Words.{Option, None, At, Device, append-nil, lines_of, checked, whole_of}
 use Rattle.crx_filter.proofs.reading.{FineReadings.{rinex-found, rinex-found-at-end}, StaysEnded.rinex-stays}
-use Rattle.crx_filter.specs.meaning.{Directions.report_unless, Standard.report_status}
+use Rattle.crx_filter.specs.meaning.{Standard.report_status}
 use Rattle.crx_runs.specs.{Runs.result_by, meaning.{Runs.RunsAs, Spans.Input}}
 
 pub check-lawful : IsLawful check_filter
@@ -15,10 +15,7 @@ check-lawful = record {
     rinex-stays false (map as_read lines) (map as_read more) at e,
   );
   grows = λ lines more. record { rest = []; same = refl };
-  goes_on = λ lines more. record {
-    rest = report_unless (whole_reading_of (lines ++ more)).fault (findings_of (lines ++ more));
-    same = refl;
-  };
+  goes_on = grind (arith, common_steps);
   found = λ lines at e. rinex-found false (map as_read lines) at e;
   found_at_end = λ lines at e. rinex-found-at-end false (map as_read lines) at e;
 }

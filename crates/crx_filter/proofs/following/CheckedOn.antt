@@ -1,11 +1,11 @@
 -- A check is given one line more.
 use Rattle.crx_filter.proofs.Words
-use Words.{common_steps, ℕ, ◌≡◌, ◌+◌, false, List, [], ◌∷◌, ◌++◌, map, length, None, refl, sym, subst, arith}
+use Words.{common_steps, ℕ, ◌≡◌, ◌+◌, false, List, [], ◌∷◌, ◌++◌, map, length, None, refl, arith}
 use Words.{length-append, append-nil, append_assoc, length-map, none-some, InputLine, ReadLine, as_read}
 use Words.{Epoch, last_line, Reading, rinex_reading, rinex_open, RunState, made_in, state_next, phase_of}
 use Words.{failed_by, is_again, fault_of_stop, printed_items, is_standard_line, first_not_standard, Totals}
 use Words.{checking, printed_open, printed_made, earliest, CheckState, check_state, OpenEpoch, check_reading}
-use Words.{At, Option, Some, ap, ◌∙◌}
+use Words.{At, Option, Some}
 use Rattle.crx_filter.proofs.following.{Check.check-carried_out, Following.fed-once, MoreLines.more-line}
 use Rattle.crx_filter.proofs.{reading.StaysEnded.rinex-stays, standard.CheckLines.{phase-reached, line-grows}}
 use Rattle.crx_filter.specs.CheckingLaws.{IsCheckedOn}
@@ -65,12 +65,7 @@ as-many-on : (more lines : List ReadLine) → length (printed_of lines) ≡ leng
     ≡ length (lines ++ more)
 as-many-on [] lines h none = cc (append-nil lines, h, append-nil lines)
 as-many-on (line ∷ more) lines h none =
-    let same = append_assoc lines (line ∷ []) more in
-    let good = subst (λ ls. fault_of_stop (rinex_reading false ls).stop ≡ None) (sym same) none in
-    let first : length (printed_of (lines ++ line ∷ [])) ≡ length (lines ++ line ∷ []) = ap length ((one-on
-    lines line).printed (good-before (lines ++ line ∷ []) more good)) ∙ length-append (printed_of lines)
-    (given_back lines line ∷ []) ∙ ap (λ n. n + 1) h ∙ sym (length-append lines (line ∷ [])) in
-    rw same at (as-many-on more (lines ++ line ∷ []) first good)
+    grind (arith, common_steps, one-on, good-before, length-append, as-many-on more (lines ++ line ∷ []))
 
 pub as-many : (lines : List ReadLine)
     → fault_of_stop (rinex_reading false lines).stop ≡ None → length (printed_of lines) ≡ length lines

@@ -1,6 +1,6 @@
 -- What is collected of the epochs that were accepted, after a line that is given to a direction.
 use Rattle.crx_filter.proofs
-use proofs.Words.{common_steps, ℕ, ◌≡◌, true, false, List, [], ◌∷◌, ◌++◌, map, ◌∙◌, arith}
+use proofs.Words.{common_steps, ℕ, ◌≡◌, true, false, List, [], ◌∷◌, ◌++◌, map, arith}
 use proofs.Words.{length, map-append, InputLine, ReadLine, as_read, Choices, Count, RunState, Phase, Made}
 use proofs.Words.{Rejects, Direction, made_in, state_next, step_of_made, is_again, with_next, Content}
 use proofs.Words.{Overlong, LineTooLong, not-true, false-true}
@@ -65,5 +65,4 @@ module _ {U O K V : Type 0} (direction : Direction U O K) (epoch_of : U → V) w
         → brings_nothing (state_next direction seen (as_read line)).answer (as_read line) ≡ true
         → epochs_after (map as_read (with_next lines line)) ≡ epochs_after (map as_read lines)
     given-past long_first long_next passed =
-        given-epochs (grind (arith, common_steps, not-true, false-true))
-        ∙ past-adds long_first long_next (epochs_after (map as_read lines)) seen (as_read line) passed
+        grind (arith, common_steps, given-epochs, not-true, false-true, past-adds)

@@ -1,6 +1,6 @@
 -- Compaction line by line reads, keeps and writes as the compaction of all lines does.
-use Rattle.crx_filter.proofs.Words.{common_steps, arith, ◌≡◌, ◌+◌, List, Some, ap, sym, ◌∙◌, Epoch}
-use Rattle.crx_filter.proofs.Words.{Marked, OpenEpoch, Written, refl, Tail, lines_after_tail, Choices, Item}
+use Rattle.crx_filter.proofs.Words.{common_steps, arith, ◌≡◌, List, Epoch}
+use Rattle.crx_filter.proofs.Words.{Marked, OpenEpoch, Written, Choices, Item}
 use Rattle.crx_filter.proofs.Words.{types_in_force, epochs_accepted, is_at_every, is_in_full, marked_epochs}
 use Rattle.crx_filter.proofs.Words.{compact_unit, compaction, written_of}
 use Rattle.crx_compact.{proofs.wayback.Tailing.epoch-by_tail, specs.Laws.tail_before}
@@ -28,14 +28,7 @@ pub same-epochs : (choices : Choices)
 same-epochs choices items lines epoch count here =
     let by_tail = epoch-by_tail (marked choices items epoch) (marked_epochs choices.every items)
     (sound-epoch_place (types_in_force items) lines epoch count (counts-in_force items) here).0.sound.apart in
-    record {
-      taken = λ number phase types kept either. rw (either-same either) (
-        ap (λ (t : Tail). record { index = epochs_accepted items + 1; tail = Some t })
-            (cc (same-tail choices items epoch, by_tail.tail)),
-        ap (λ t. lines_after_tail t epoch) (sym (same-tail choices items epoch)) ∙ sym by_tail.lines,
-      );
-      alike = refl;
-    }
+    grind (arith, common_steps, by_tail, either-same, same-tail choices items epoch)
 
 abbrev pub compaction_meaning : Choices → Meaning Epoch Epoch OpenEpoch Written Epoch
 compaction_meaning choices = rinex_meaning compaction (written_of choices.every) (compact_unit choices)

@@ -1,6 +1,6 @@
 -- Both directions go line by line, in the words of their filters.
 use Rattle.crx_filter.proofs.Words
-use Words.{arith, [], ◌∷◌, map, length, refl, length-map, map-append, reverse-append, append-nil}
+use Words.{arith, [], map, length, refl, length-map, reverse-append, append-nil}
 use Words.{flat_map-append, as_read, compaction, compaction_state, expansion, expansion_state}
 use Words.{compact_reading, compaction_filter, expansion_filter}
 use Rattle.crx_filter.specs.meaning.Memory.{expansion_outgrows}
@@ -10,17 +10,12 @@ use Rattle.crx_filter.proofs.following.MemoryOfCompactText.{expansion-allowed, e
 use Rattle.crx_filter.proofs.{following.MemoryOfRinex.compaction-takes, reading.Ended.compaction-ended}
 use Rattle.crx_filter.{proofs.reading.Ended.expansion-ended, specs.CompactionParts.compaction_line_outgrows}
 use Rattle.crx_filter.specs.EngineLaws.{IsLawfulDirection}
+use Rattle.std.proofs.lemmas.Grind.{common_steps}
 
 pub compaction-goes : IsLawfulDirection compaction (λ choices. choices) (λ choices lines. []) compaction_state
     compaction_line_outgrows compaction_filter
 compaction-goes choices taken = record {
-  follows = λ lines line. grind (
-    arith,
-    compacted-on choices (map as_read lines) (as_read line),
-    map-append as_read lines (line ∷ []),
-    flat_map-append,
-    reverse-append,
-  );
+  follows = grind (arith, common_steps, compacted-on choices, flat_map-append);
   ends = λ lines. grind (arith, compaction-ended choices (map as_read lines), reverse-append, append-nil);
   number = λ lines. length-map lines as_read;
   memory_first = λ lines line needed takes. rw needed (allowed-first (compaction-carried_out choices)
@@ -39,17 +34,10 @@ pub expansion-goes : IsLawfulDirection expansion (λ choices. choices) (λ choic
     (λ choices lines line. expansion_outgrows (compact_reading choices.skip (map as_read lines)) (as_read line))
     expansion_filter
 expansion-goes choices taken = record {
-  follows = λ lines line. grind (
-    arith,
-    expanded-on choices (map as_read lines) (as_read line),
-    map-append as_read lines (line ∷ []),
-    flat_map-append,
-    reverse-append,
-  );
+  follows = grind (arith, common_steps, expanded-on choices, flat_map-append);
   ends = λ lines. grind (arith, expansion-ended choices (map as_read lines), reverse-append, append-nil);
   number = λ lines. length-map lines as_read;
-  memory_first = λ lines line needed takes.
-      rw needed (expansion-allowed choices (map as_read lines) (as_read line) takes);
+  memory_first = grind (arith, common_steps, expansion-allowed choices);
   memory_again = λ lines line next notice needed step takes.
       rw needed (expansion-allowed-again choices (map as_read lines) (as_read line) next notice step takes);
   too_long_first = λ types kept. refl;

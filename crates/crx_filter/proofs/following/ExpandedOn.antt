@@ -112,8 +112,7 @@ module _ (choices : Choices) where
   compact-on (Content first ∷ []) line NeedsMore e = subst (λ p. FollowsBy (Content first ∷ []) line p
       (first_lines (Content first ∷ line ∷ []))) (sym e) (by_result (crinex_version first)
       (second-line first line) (λ fault bad.
-      let at : first_lines (Content first ∷ []) ≡ Fails 0 fault = rw bad refl in
-      absurd (cc)))
+      grind (arith, common_steps, bad)))
   compact-on (Content first ∷ next ∷ lines) line NeedsMore e =
       absurd (two-lines first next lines (crinex_version first) refl e)
 

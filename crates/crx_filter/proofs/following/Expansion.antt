@@ -126,9 +126,7 @@ module _ (choices : Choices) where
       (epoch_at (types_in_force items) (raws_kept items) lines) → placed_as (held_after (tail_of_items items))
       (epoch_after (types_in_force items) (tail_of_items items) lines) ≡ place_of_step before step
       → compact_open items lines ≡ open_raw_after step [] → Agrees items lines (made_of_raw_step step)
-  agree-step items lines before step place placed opens =
-      let same = place-by_tail (types_in_force items) (raws_kept items) lines in
-      agree-by items lines before step _ same (place ∙ ap as_observation same) placed opens
+  agree-step items lines before step place placed opens = grind (arith, common_steps, place-by_tail, agree-by)
 
   agree-event : (items : List (Item ReadEpoch)) (content : List ℕ)
       → is_event_line content ≡ true → (o : Option ℕ)

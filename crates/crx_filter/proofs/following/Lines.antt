@@ -1,6 +1,6 @@
 -- One line more, wherever a reading has stopped.
 use Rattle.crx_filter.proofs
-use proofs.Words.{common_steps, ℕ, zero, suc, ◌≡◌, inl, inr, ◌+◌, ◌<◌, Bool, true, false, cond, List, [], ◌∷◌}
+use proofs.Words.{common_steps, ℕ, zero, suc, ◌≡◌, inl, ◌+◌, ◌<◌, Bool, true, false, cond, List, [], ◌∷◌}
 use proofs.Words.{◌++◌, length, Option, Some, None, Result, refl, ap, sym, subst, ◌∙◌, arith, append-nil}
 use proofs.Words.{append_assoc, ◌&&◌, ⊤, nat_lt, ReadLine, Content, Overlong, Fault}
 use proofs.Words.{At, none-some, Place, NeedsMore, one_line, first_line}
@@ -163,18 +163,10 @@ module _ {E U O K V : Type 0} {m : Meaning E U O K V} (h : IsCarriedOut m) where
       → header_has_ended items ≡ true → records_left items ≡ 0 → AreKept m items kept
       → (length lines ≡ 1 → kept ≡ m.kept_of items) → AgreeOn m items lines made
       → Agrees m items phase kept lines made
-  body-agrees items phase kept lines (Completes (EventLine l)) ended none keeps first agree = (
-    agree.0,
-    EventLine l,
-    body-place m.beginning items lines ended none ∙ agree.1,
-    grind (arith, common_steps, agree, records-phase, h.event),
-  )
-  body-agrees items phase kept lines (Completes (Observation held)) ended none keeps first agree = (
-    agree.0,
-    Observation agree.1,
-    body-place m.beginning items lines ended none ∙ agree.2,
-    grind (arith, common_steps, agree),
-  )
+  body-agrees items phase kept lines (Completes (EventLine l)) ended none keeps first agree =
+      grind (arith, common_steps, body-place m.beginning items lines ended none, records-phase)
+  body-agrees items phase kept lines (Completes (Observation held)) ended none keeps first agree =
+      grind (arith, common_steps, body-place m.beginning items lines ended none)
   body-agrees items phase kept lines (Moves next) ended none keeps first agree =
       grind (arith, common_steps, body-place, h.open_open)
   body-agrees items phase kept lines (Rejects fault) ended none keeps first (offset, here) =
@@ -208,22 +200,9 @@ module _ {E U O K V : Type 0} {m : Meaning E U O K V} (h : IsCarriedOut m) where
             (record-place m.beginning items left (line ∷ []) e some)
             (λ l. grind (arith, common_steps, records-phase, types_of-push, h.copied)),
       ))
-      (λ e none. (
-        grind (arith, common_steps, h.forward, closes-well, nat_lt, state_end, some_lines, h.emptied_open),
-        λ line. body-agrees items BetweenUnits (m.kept_of items) (line ∷ []) _ e none (inl refl) (λ one. refl)
-            (h.begins items line),
-      ))
-      (λ so_far e none opens. (
-        grind (arith, common_steps, h.forward, closes-well, nat_lt, state_end, some_lines, h.emptied_open),
-        λ line. body-agrees items (InEpoch so_far) (m.direction.kept_open (m.kept_of items)) (rest ++ line ∷
-            [])
-            _ e none (inr refl) (λ one. absurd (omega (
-              arith,
-              one,
-              some_lines items so_far rest opens,
-              length-append rest (line ∷ []),
-            ))) (h.continues items rest line so_far opens),
-      ))
+      (λ e none. grind (arith, common_steps, closes-well, some_lines, body-agrees, inl))
+      (λ so_far e none opens.
+      grind (arith, common_steps, closes-well, some_lines, body-agrees, so_far, opens, length-append))
 
   -- where a line is looked for, the one that reading goes on at is looked at as where an epoch may begin
   looking-stands : (items : List (Item E)) (line : ReadLine) → header_has_ended items ≡ true
@@ -286,10 +265,7 @@ module _ {E U O K V : Type 0} {m : Meaning E U O K V} (h : IsCarriedOut m) where
       -- it ends the run; it is skipped, and reading goes on at this line, or no line is at hand to go on at
       last-ends : is_skipped_in state fault ≡ false → FollowsAs (count + 1) items after
           (fed_once (step (Rejects fault))) (Rejects fault)
-      last-ends off =
-          let is : after ≡ record { items = items; stop = AtFault at } =
-          at-last ∙ rw (s.skips fault ∙ off, counted, after_fault) refl in
-          rw is (grind (arith, common_steps, failed-ends, append-nil, written_lines, s.emptied))
+      last-ends off = grind (arith, common_steps, at-last, fault, failed-ends)
 
       last-on : is_skipped_in state fault ≡ true → (is_in_epoch phase && can_go_on line) ≡ true
           → after ≡ reads (Warned at ∷ items) (count + 1) (line ∷ [])
@@ -303,15 +279,7 @@ module _ {E U O K V : Type 0} {m : Meaning E U O K V} (h : IsCarriedOut m) where
     followed-unit : (n : ℕ) (unit : FileUnit E) (held : FileUnit U) → IsSameUnit m items phase kept unit held
         → FollowsAs (count + 1) items (record { items = Accepted unit ∷ items; stop = AtLines n [] })
         (fed_once (step (Completes held))) (Completes held)
-    followed-unit n unit held same = grind (
-      arith,
-      common_steps,
-      phase_after_items,
-      kept-with_records,
-      noticed-lines,
-      failed-lines,
-      h.none_open,
-    )
+    followed-unit n unit held same = grind (arith, kept-with_records, noticed-lines, failed-lines)
 
     -- where it is given once
     made-once : (made : Made U O) → Agrees m items phase kept (rest ++ line ∷ []) made
@@ -359,8 +327,7 @@ module _ {E U O K V : Type 0} {m : Meaning E U O K V} (h : IsCarriedOut m) where
         (followed-twice (count + 1) items at _ looking _ _ (made-once then (count + 1) count [] line LookingOn
         (m.kept_of then) stands.0 (omega arith) _ stands.1 (quiet-elsewhere m.direction looking line _
         refl))))
-        (λ off. false-true (sym (ap (λ (t : Step _ _). is_again t.answer)
-        (failed-ends m.direction here line fault off)) ∙ on))
+        (λ off. grind (arith, common_steps, false-true, failed-ends m.direction here line fault off))
     made-again (Completes held) agree on = false-true (sym (again-lines (m.direction.written here held)) ∙ on)
     made-again made agree on = false-true on
 
@@ -390,5 +357,4 @@ module _ {E U O K V : Type 0} {m : Meaning E U O K V} (h : IsCarriedOut m) where
       let all = looking-stands items line stopped.1 stopped.2 on in
       rw (looked-here (reads items) items number line [] on) (here-line items number count [] line LookingOn
       (m.kept_of items) all.0 (omega (arith, stopped.0)) all.1))
-      (λ off. rw (looked-on (reads items) items number line [] off)
-      (grind (arith, common_steps, fed-once, last-once, append-nil, written_lines, off)))
+      (λ off. grind (arith, common_steps, looked-on (reads items) items number line, fed-once, last-once))

@@ -2,7 +2,7 @@
 use Rattle.crx_filter.proofs.Words
 use Words.{common_steps, ℕ, ◌≡◌, ◌+◌, Bool, true, false, not, List, [], ◌∷◌, ◌++◌, length, Option, Some, None}
 use Words.{refl, ap, sym, ◌∙◌, arith, ◌&&◌, is_some, ReadLine, Content, Overlong, At}
-use Words.{begins_epoch, is_event_line, is_types_line, NeedsMore, first_line, Item, Reading}
+use Words.{is_event_line, is_types_line, NeedsMore, first_line, Item, Reading}
 use Words.{Warned, is_at_start, header_has_ended, records_left, records_count_types, types_in_force}
 use Words.{memory_allowed, place_takes, Stop, AtLines, event_record, header_line}
 use Words.{header_line_fault, types_fault, is_again, Rejects, Made, Notice, Phase, LookingOn}
@@ -86,8 +86,7 @@ module _ {E U O K V : Type 0} {m : Meaning E U O K V} (h : IsCarriedOut m) {take
       (Content line ∷ []) e some) ∙ record-takes takes items line taken)
       (λ e none. begins-takes items line e none)
       (λ so_far e none opens taken.
-      ap (place_takes takes items (length rest)) (body-place m.beginning items (rest ++ Content line ∷ [])
-      e none) ∙ t.next items rest line so_far opens (and_parts (not (begins_epoch line)) _ taken).1)
+      grind (arith, common_steps, body-place, so_far, opens))
 
   -- memory may run out at a line at once
   pub allowed-first : (number count : ℕ) (lines : List ReadLine) (line : ReadLine)

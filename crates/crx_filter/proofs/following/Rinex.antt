@@ -2,9 +2,9 @@
 -- that reads RINEX goes this way.
 use Rattle.crx_filter.proofs.Words
 use Words.{common_steps, arith, ℕ, zero, suc, ◌≡◌, ◌⊎◌, List, [], ◌∷◌, ◌++◌, length, Some, None, Result, Ok}
-use Words.{Err, inl, inr, refl, sym, ◌∙◌, none-some, ReadLine, Content, Fault, Epoch, Count, Done}
+use Words.{Err, refl, ReadLine, Content, Fault, Epoch, Count, Done}
 use Words.{NeedsMore, after_lines, then_place, FileUnit, Observation, OpenEpoch, Beginning, EventBegins}
-use Words.{EpochBegins, beginning_of, opened, rows_wanted, epoch_of, rows_at, epoch_place, EpochStep, Going}
+use Words.{EpochBegins, beginning_of, opened, rows_wanted, rows_at, epoch_place, EpochStep, Going}
 use Words.{Whole, Faulty, when_wanted, epoch_step, Choices, Item, types_in_force, Made, Direction}
 use Words.{made_of_epoch_step, made_of_beginning, rinex_begins, rinex_open}
 use Rattle.crx_rinex.proofs.OpenEpochs.{wanted-open, next-by_open, open_none}
@@ -90,7 +90,4 @@ module _ {K : Type 0} {direction : Direction Epoch OpenEpoch K} {kept_of : List 
 
 pub no-lines : (types : List Count) (lines : List ReadLine)
     → epoch_place types lines ≡ NeedsMore → open_with types lines ≡ None → lines ≡ []
-no-lines types lines wanted none = elim ((wanted-open types lines).0 wanted) as (λ _. lines ≡ []) [
-  | inl e ↦ e
-  | inr some ↦ absurd (none-some some.0 (sym none ∙ some.1))
-]
+no-lines types lines wanted none = grind (arith, common_steps, wanted-open types lines)

@@ -111,15 +111,10 @@ module _ (a b : List (Item ReadEpoch)) (h : AreAlike a b) where
   next-same : (lines : List ReadLine) → GoesOn a b lines → Next lines (compact_place a lines)
   next-same lines goes_on = of-unit (Next lines) tt (λ offset fault. tt) compact_beginning a lines
       (λ line rest is open_header good. absurd (cc))
-      (λ line rest is on some good. record {
-        alike = alike-unit a b (EventRecord line) some h;
-        goes_on = rw is (record-on line rest some (rw is at goes_on));
-      })
+      (λ line rest is on some good.
+      grind (arith, common_steps, alike-unit a b (EventRecord line) some h, record-on line rest some))
       (λ on none. of-compact (Next lines) tt (λ offset fault. tt) (types_in_force a) (raws_kept a) lines
-      (λ line rest is event counted. record {
-        alike = alike-unit a b (EventLine line) tt h;
-        goes_on = rw is (event-on line rest none event (rw is at goes_on));
-      })
+      (λ line rest is event counted. grind (arith, common_steps, alike-unit, event-on))
       (λ read count e. record {
         alike = alike-unit a b (Observation read) tt h;
         goes_on = inl (epoch-on lines read count none e goes_on);

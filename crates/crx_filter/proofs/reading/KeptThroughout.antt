@@ -56,11 +56,7 @@ module _ {E : Type 0} (place : List (Item E) → List ReadLine → Place (FileUn
       (within-kept k units (Warned at ∷ items)))) (λ off. rw (off, after_fault) (
         lines,
         h,
-        (
-          offset,
-          e,
-          off,
-        ),
+        grind (arith, common_steps),
       ))))
       (λ e. rw (within-wanted place skip units items number lines e) (lines, h, refl))
 

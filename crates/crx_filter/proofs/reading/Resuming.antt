@@ -2,7 +2,7 @@
 use Rattle.crx_filter.{specs.Laws.IsResumed, proofs.Words.{common_steps, ℕ, zero, suc, ◌≡◌, ◌+◌, max, ◌<◌}}
 use Rattle.crx_filter.proofs.Words.{◌≤◌, Bool, true, false, List, [], ◌∷◌, ◌++◌, length, drop, refl, arith}
 use Rattle.crx_filter.proofs.Words.{◌∙◌}
-use Rattle.crx_filter.proofs.Words.{drop-append-le, length-drop, ReadLine, Fault, At, Place}
+use Rattle.crx_filter.proofs.Words.{drop-append-le, length-drop, ReadLine, Fault, Place}
 use Rattle.crx_filter.proofs.Words.{Done, Fails, NeedsMore, FileUnit, Item, Accepted, Warned, Reading}
 use Rattle.crx_filter.proofs.Words.{AtLines, is_skipped, can_go_on, looked_for, after_fault}
 use Rattle.crx_filter.proofs.Words.{reading_within, reading_from, continued_reading, IsReadForward, by_bool}
@@ -89,19 +89,15 @@ pub enough-units : {E : Type 0} (place : List (Item E) → List ReadLine → Pla
 enough-units place h skip zero two items number lines short_one short_two = absurd (omega arith)
 enough-units place h skip (suc one) zero items number lines short_one short_two = absurd (omega arith)
 enough-units place h skip (suc one) (suc two) items number lines short_one short_two =
-    by_place (place items lines) (λ unit count e.
-    let within = here-within place h items lines unit count e in
-    let left = length-drop count lines in
-    let same = enough-units place h skip one two (Accepted unit ∷ items) (number + count) (drop count lines)
-    (omega (arith, within.0, within.1, left)) (omega (arith, within.0, within.1, left)) in
-    rw (e, reading_within) same) (λ offset fault e. by_bool (is_skipped skip items fault) (λ on.
-    let at : At = record { line = number + offset; fault = fault } in
-    rw (e, reading_within, on, after_fault) (looked-same (Warned at ∷ items)
-    (reading_within place skip one (Warned at ∷ items)) (reading_within place skip two (Warned at ∷ items))
-    (length lines) (number + max offset 1) (drop (max offset 1) lines)
-    (λ m ls few. enough-units place h skip one two (Warned at ∷ items) m ls (omega arith) (omega arith))
-    (omega (arith, wrong-within place h items lines offset fault e, length-drop (max offset 1) lines))))
-    (λ off. rw (e, reading_within, off, after_fault) refl)) (λ e. rw (e, reading_within) refl)
+    grind (
+      arith,
+      common_steps,
+      here-within place h items lines,
+      length-drop,
+      enough-units place h skip one two,
+      looked-same,
+      wrong-within place h items lines,
+    )
 
 -- ---- a reading, by what is at its lines
 
@@ -117,10 +113,7 @@ module _ {E : Type 0} (place : List (Item E) → List ReadLine → Place (FileUn
       ≡ reading_from place skip (Accepted unit ∷ items) (number + count) (drop count lines)
   from-here unit count e =
       let within = here-within place h items lines unit count e in
-      one-more ∙ within-here place skip (length lines) items number lines unit count e
-      ∙ enough-units place h skip (length lines) (length (drop count lines) + 1) (Accepted unit ∷ items)
-      (number + count) (drop count lines)
-      (omega (arith, within.0, within.1, length-drop count lines)) (omega arith)
+      grind (arith, common_steps, within, one-more, within-here, enough-units, length-drop)
 
   pub from-wrong : (offset : ℕ) (fault : Fault) → place items lines ≡ Fails offset fault
       → reading_from place skip items number lines

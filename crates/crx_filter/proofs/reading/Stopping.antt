@@ -1,12 +1,11 @@
 -- Where a reading stops: more lines are wanted there, or a line is looked for after the last.
-use Rattle.crx_filter.proofs.Words.{ℕ, zero, suc, ◌≡◌, ◌+◌, max, ◌<◌, Bool, true, List, [], ◌∷◌, length, drop}
-use Rattle.crx_filter.proofs.Words.{refl, arith, length-drop, ReadLine, At, Place, FileUnit, Item, Accepted}
-use Rattle.crx_filter.proofs.Words.{Warned, header_has_ended, records_left, Reading, is_skipped, looked_for}
-use Rattle.crx_filter.proofs.Words.{after_fault, reading_within, reading_from, IsReadForward, by_bool}
+use Rattle.crx_filter.proofs.Words.{ℕ, zero, suc, ◌≡◌, ◌+◌, ◌<◌, Bool, true, List, [], ◌∷◌, length}
+use Rattle.crx_filter.proofs.Words.{arith, length-drop, ReadLine, Place, FileUnit, Item}
+use Rattle.crx_filter.proofs.Words.{header_has_ended, records_left, Reading, looked_for}
+use Rattle.crx_filter.proofs.Words.{reading_within, reading_from, IsReadForward}
 use Rattle.crx_filter.proofs.Words.{common_steps}
 use Rattle.crx_filter.proofs.{following.Lines.IsStopped, reading.Resuming.{by_place, here-within}}
 use Rattle.crx_filter.proofs.reading.Resuming.{wrong-within, within-here, within-wrong, within-wanted}
-use Rattle.crx_filter.proofs.reading.WhatWasRead.{allowed}
 
 looked-stopped : {E : Type 0} (place : List (Item E) → List ReadLine → Place (FileUnit E))
     (items : List (Item E)) (read : ℕ → List ReadLine → Reading E)
@@ -23,23 +22,19 @@ within-stopped : {E : Type 0} (place : List (Item E) → List ReadLine → Place
     → length lines < units → number + length lines ≡ next → IsStopped place (reading_within
     place skip units items number lines).items (reading_within place skip units items number lines).stop next
 within-stopped place h skip zero items number next lines short counted = absurd (omega arith)
-within-stopped place h skip (suc units) items number next lines short counted = by_place (place items lines)
-    (λ unit count e.
-    let within = here-within place h items lines unit count e in
-    let left = length-drop count lines in
-    rw (within-here place skip units items number lines unit count e) (within-stopped place h skip units
-    (Accepted unit ∷ items) (number + count) next (drop count lines) (omega (arith, within.0, within.1, left))
-    (omega (arith, within.1, left, counted)))) (λ offset fault e. rw (within-wrong
-    place skip units items number lines offset fault e) (by_bool (is_skipped skip items fault) (λ on.
-    let at : At = record { line = number + offset; fault = fault } in
-    let n = max offset 1 in
-    let few = wrong-within place h items lines offset fault e in
-    let left = length-drop (max offset 1) lines in
-    rw (on, after_fault) (looked-stopped place (Warned at ∷ items) (reading_within place skip units
-    (Warned at ∷ items)) (length lines) (number + n) next (drop n lines) (allowed skip items fault on).0 refl
-    (λ m ls fewer more. within-stopped place h skip units (Warned at ∷ items) m next ls (omega arith) more)
-    (omega (arith, few, left)) (omega (arith, few, left, counted)))) (λ off. rw (off, after_fault) tt)))
-    (λ e. rw (within-wanted place skip units items number lines e) (e, counted))
+within-stopped place h skip (suc units) items number next lines short counted =
+    grind (
+      arith,
+      common_steps,
+      here-within place h items lines,
+      length-drop,
+      within-here place skip units items number lines,
+      within-stopped place h skip units,
+      within-wrong place skip units items number lines,
+      wrong-within place h items lines,
+      looked-stopped place,
+      within-wanted place skip units items number lines,
+    )
 
 pub reading-stopped : {E : Type 0} (place : List (Item E) → List ReadLine → Place (FileUnit E))
     → IsReadForward place → (skip : Bool) (items : List (Item E)) (number next : ℕ) (lines : List ReadLine)

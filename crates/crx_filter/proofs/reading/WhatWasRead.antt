@@ -30,10 +30,7 @@ compact-items-read skip lines = grind (arith, common_steps, items-read)
 -- and so it is of whole readings
 pub whole-read : {E : Type 0} (place : List (Item E) → List ReadLine → Place (FileUnit E)) (skip : Bool)
     (number : ℕ) (lines : List ReadLine) → ItemsAreRead place (whole_reading place skip number lines).items
-whole-read place skip number lines =
-    let r = reading_from place skip [] number lines in
-    let read = items-read place skip number lines in
-    of-ended (ItemsAreRead place) skip r.items r.stop read (λ at on. (allowed skip r.items at.fault on, read))
+whole-read place skip number lines = grind (arith, common_steps, items-read, of-ended)
 
 pub compact-whole_read : (skip : Bool) (lines : List ReadLine)
     → ItemsAreRead compact_place (whole_compact skip lines).items

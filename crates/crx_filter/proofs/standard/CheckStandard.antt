@@ -1,6 +1,6 @@
 -- A file is named as standard exactly where it is; and that is where it comes back.
 use Rattle.crx_filter.proofs.Words.{ℕ, ◌≡◌, ◌+◌, Bool, true, List, [], ◌∷◌, length, Option, None, refl}
-use Rattle.crx_filter.proofs.Words.{arith, list_all, none-some, and_parts, InputLine, Choices}
+use Rattle.crx_filter.proofs.Words.{arith, list_all, and_parts, InputLine, Choices}
 use Rattle.crx_filter.proofs.Words.{first_not_standard, common_steps}
 use Rattle.crx_filter.proofs.{reading.Each.contents, standard.CheckEnded.whole-many}
 use Rattle.crx_filter.proofs.wayback.ReturnsLost.{standard-where_same}
@@ -18,8 +18,7 @@ none-named number [] [] many e = (refl, refl)
 none-named number [] (text ∷ texts) many e = absurd (cc)
 none-named number (line ∷ lines) [] many e = absurd (cc)
 none-named number (line ∷ lines) (text ∷ texts) many e =
-    let rest = none-named (number + 1) lines texts (omega (arith, many)) in
-    grind (arith, common_steps, rest, and_parts, bytes_eq-is line.content text, none-some)
+    grind (arith, common_steps, none-named (number + 1) lines texts, bytes_eq-is line.content text)
 
 -- and the converse
 all-standard : (number : ℕ) (lines : List InputLine)

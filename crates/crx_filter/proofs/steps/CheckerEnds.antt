@@ -1,12 +1,12 @@
 -- A checker takes the end of the input.
-use Rattle.crx_filter.proofs.Words.{common_steps, arith, ℕ, ◌≡◌, true, [], List, Option, None, refl, ap, ◌∙◌}
+use Rattle.crx_filter.proofs.Words.{common_steps, arith, ℕ, ◌≡◌, true, [], List, Option, None}
 use Rattle.crx_filter.proofs.Words.{false, map, length, as_read, Choices, no_choices, check_reading}
-use Rattle.crx_filter.proofs.Words.{first_not_standard, printed_so_far, epoch_open, InputLine, failed_by}
+use Rattle.crx_filter.proofs.Words.{first_not_standard, printed_so_far, InputLine, failed_by}
 use Rattle.crx_filter.proofs.Words.{reader_phase, whole_reading_of, findings_of, checking, check_state}
 use Rattle.crx_filter.proofs.Words.{checker_state_with, Held, RinexReader}
 use Rattle.crx_filter.proofs.{following.Following.state_in, standard.CheckEnded.check-ended}
 use Rattle.crx_filter.proofs.steps.{CheckerSteps.{has-reached, reads-on, state-there}}
-use Rattle.crx_filter.specs.{CheckByLine.found_by, CheckingParts.is_reading}
+use Rattle.crx_filter.specs.{CheckingParts.is_reading}
 use Rattle.crx_filter.specs.{LineByLine.{end_step, fault_at_end_in}, Stages.{is_ended, bare_phase}}
 use Rattle.crx_filter.specs.Totals.{totals_held, found_held}
 
@@ -27,8 +27,4 @@ pub found-at-end : (choices : Choices) (reader : RinexReader) (totals : Held) (n
     → fault_at_end_in (bare_phase reader.stage) ≡ None → found_held totals reader.types named ≡ findings_of
     lines
 found-at-end choices reader totals named lines taken is named_is running good =
-    let same = state-there choices reader totals lines taken is named named_is in
-    let reads = reads-on (epoch_open reader) reader.stage (has-reached choices reader totals lines taken is)
-    running in
-    ap found_by same ∙ (check-ended lines).found
-    (end-fault reader (length lines) totals named lines reads same ∙ rw good refl)
+    grind (arith, common_steps, state-there, reads-on, has-reached, check-ended, end-fault)

@@ -3,25 +3,28 @@ use Rattle.crx_filter.proofs
 use proofs.Words.{common_steps, arith, ℕ, ◌≡◌, ◌+◌, true, false, List, [], Option, None, refl, ap, sym, subst}
 use proofs.Words.{◌∙◌, InputLine, is_long, ReadLine, Content, as_read, Fault, OpenEpoch, ObservationEpoch}
 use proofs.Words.{Count, last_line, compaction, with_next, Phase, Made, made_in, step_of_made}
-use proofs.Words.{epoch_by_rows, reader_phase, made_at, TakesRinexLine, is_standard_line, Totals, checking}
+use proofs.Words.{epoch_by_rows, reader_phase, made_at, TakesRinexLine, TakesRow, is_standard_line, Totals}
+use proofs.Words.{checking}
 use proofs.Words.{printed_made, earliest, CheckState, no_choices, check_state, checker_state_with, Held}
 use proofs.Words.{RinexReader, RinexStep, false-true, first_not_standard, printed_so_far, Stage}
-use proofs.Words.{phase_of_stage, ◌≤◌, is_open_stage, is_row, drop, Row as ObservationRow, Ok}
+use proofs.{RinexSteps.in-epoch, Words.is_some}
+use proofs.Words.{phase_of_stage, ◌≤◌, is_open_stage, drop, Row as ObservationRow, Ok}
 use proofs.Words.{Err, IsSameReader, Choices, length-drop, check_by_line, check_reading, map, length}
 use proofs.Words.{false≢true, Written, state_next, Begun, Bool, Rejects, bytes_eq, has_satellite}
-use proofs.{Words.{inl, inr, ◌||◌, ◌++◌, ◌∷◌}, following.CheckGoes.{made-quiet}}
+use proofs.{Words.{inl, inr, not, ◌||◌, ◌++◌, ◌∷◌}, following.CheckGoes.{made-quiet}}
 use proofs.following.{CheckedOn.{checked-on, same-state}, Following.state_in}
 use proofs.standard.{CheckEnded.kept-always, CheckLines.{IsReached, Grows, line-grows, phase-reached}}
-use proofs.steps.{CompactionSteps.parts_with, EngineAnswers.as-read-short}
+use proofs.steps.{CompactionSteps.parts_with}
 use Rattle.crx_filter.{proofs.steps.Given.given-either, specs.CheckByLine.totals_made}
-use Rattle.crx_filter.specs.{CheckingParts.{AreNamed, is_reading}, CompactionByLine.is_before_header}
+use Rattle.crx_filter.specs.{CheckingParts.{AreCounted, AreNamed, IsFresh, NotesLine, is_reading}}
+use Rattle.crx_filter.specs.{CompactionByLine.is_before_header, declared.checking.Noted.Noted}
 use Rattle.crx_filter.specs.{DirectionParts.{DirectionParts, DirectionTakes, Reads}}
 use Rattle.crx_filter.specs.{DirectionParts.{ComesAfter, brings_nothing, state_by}, LineByLine.Quiet as LineQuiet}
-use Rattle.crx_filter.specs.{Rooms.{HaveTypes, LackTypes}, RinexReaders.RefusesRinexLine, Stages.is_ended, Totals.IsBehindARow}
-use Rattle.crx_filter.specs.{Totals.{IsCounting, totals_held, HasPrinted}, meaning.Directions.fault_so_far}
+use Rattle.crx_filter.specs.{Rooms.{HaveTypes, LackTypes}, RinexReaders.RefusesRinexLine, Stages.is_ended}
+use Rattle.crx_filter.specs.{Totals.{totals_held, HasPrinted}, meaning.Directions.fault_so_far}
 use Rattle.crx_filter.specs.meaning.Standard.{Findings, report_lines}
 use Rattle.crx_header.specs.{Identifiers.has_identifier, meaning.Satellites.is_identifier}
-use Rattle.std.proofs.lemmas.{List.drop_all, Slice.Eq.bytes_eq-Decides}
+use Rattle.std.proofs.{Math.Bool.not-not, lemmas.{List.drop_all, Slice.Eq.bytes_eq-Decides}}
 
 -- nothing is kept of the epochs
 abbrev pub nothing_kept : Written
@@ -30,14 +33,6 @@ nothing_kept = record { index = 0; tail = None }
 -- what a reader's line makes then
 abbrev pub made_there : RinexReader → List ℕ → Made ObservationEpoch OpenEpoch
 made_there before content = made_at before content nothing_kept
-
--- the line was taken, and the totals are those before it and what it makes
-abbrev pub IsTaken : RinexReader → List ℕ → RinexStep → RinexReader → Type 0
-IsTaken before content step after = TakesRinexLine (made_there before content) before content step after
-
-abbrev AreTotals : RinexReader → List ℕ → Held → Held → Type 0
-AreTotals before content totals then = totals_held then
-    ≡ totals_made (totals_held totals) (is_before_header (reader_phase before)) (made_there before content)
 
 -- a check keeps nothing of the epochs: what a line makes does not hang on it
 made-same : (phase : Phase OpenEpoch) (types : List Count) (kept : Totals) (line : ReadLine) → made_in
@@ -58,10 +53,19 @@ StepsTo choices number totals line before after made =
           (totals_made totals (is_before_header (reader_phase before)) made);
     }
 
-steps-to : (choices : Choices) (number : ℕ) (totals : Totals) (line : ReadLine) (content : List ℕ)
-    (before after : RinexReader) (made : Made ObservationEpoch OpenEpoch) (step : RinexStep)
-    → TakesRinexLine made before content step after → StepsTo choices number totals line before after made
-steps-to choices number totals line content before after made step h =
+-- the reader has taken a line that makes this
+abbrev pub IsTaken : RinexReader → RinexReader → Made ObservationEpoch OpenEpoch → Type 0
+IsTaken before after made = (choices : Choices) (number : ℕ) (totals : Totals) (line : ReadLine)
+    → StepsTo choices number totals line before after made
+
+pub line-taken : (content : List ℕ) (before after : RinexReader) (made : Made ObservationEpoch OpenEpoch)
+    (step : RinexStep) → TakesRinexLine made before content step after → IsTaken before after made
+line-taken content before after made step takes choices number totals line =
+    grind (arith, common_steps, state_in, reader_phase, kept-always, epoch_by_rows)
+
+pub row-taken : (before after : RinexReader) (made : Made ObservationEpoch OpenEpoch) (is_last : Bool)
+    → TakesRow made is_last before after → IsTaken before after made
+row-taken before after made is_last takes choices number totals line =
     grind (arith, common_steps, state_in, reader_phase, kept-always, epoch_by_rows)
 
 -- ---- lines can come on
@@ -133,47 +137,50 @@ abbrev is_standard_there : RinexReader → InputLine → Bool
 is_standard_there before line =
     is_standard_line line (last_line (printed_made (made_there before line.content)))
 
--- a check has taken a line that its reader took, and noted it
-module _ (before after : RinexReader) (totals then : Held) (named named_then : Option ℕ) (line : InputLine)
-    (step : RinexStep) (short : is_long line ≡ false) (takes : IsTaken before line.content step after)
-    (totals_then : AreTotals before line.content totals then) where
-  took-line : (lines : List InputLine)
-      → checker_state_with before (length lines) totals named ≡ check_state lines
-      → named_then ≡ earliest named (is_standard_there before line) (length lines + 1)
-      → (fault_so_far (with_next lines line) ≡ None)
-      × (checker_state_with after (length lines + 1) then named_then ≡ check_state (with_next lines line))
-  took-line lines same named_is = grind (
-    arith,
-    common_steps,
-    as-read-short,
-    made-same,
-    steps-to,
-    made-quiet,
-    (checked-on lines line).fault,
-    (checked-on lines line).next,
-  )
+-- a unit is at most one epoch or event more
+counts-one : (is_first : Bool) (made : Made ObservationEpoch OpenEpoch) (totals then : Held)
+    → totals_held then ≡ totals_made (totals_held totals) is_first made
+    → then.epochs + then.events ≤ totals.epochs + totals.events + 1
+counts-one is_first made totals then is = grind (arith, common_steps)
 
-  pub noted-takes : {served : Choices → Type 0} {room : Type 0} {number : ℕ} {ready : List (List ℕ)}
-      → (HasPrinted (made_there before line.content)
-      → named_then ≡ earliest named (is_standard_there before line) number) → ready ≡ []
-      → then.epochs + then.events ≤ totals.epochs + totals.events + 1
+-- a check has taken a line that its reader took, and noted it
+module _ (before after : RinexReader) (old new : Noted) (line : InputLine) (number : ℕ)
+    (short : is_long line ≡ false) (taken : IsTaken before after (made_there before line.content))
+    (noted : NotesLine (made_there before line.content) (is_before_header (reader_phase before)) line number
+    old new) where
+  took-line : (lines : List InputLine)
+      → checker_state_with before (length lines) old.totals old.not_standard ≡ check_state lines
+      → new.not_standard ≡ earliest old.not_standard (is_standard_there before line) (length lines + 1)
+      → (fault_so_far (with_next lines line) ≡ None)
+      × (checker_state_with after (length lines + 1) new.totals new.not_standard
+      ≡ check_state (with_next lines line))
+  took-line lines same named_is =
+      grind (
+        arith,
+        taken no_choices (length lines) (totals_held old.totals) (Content line.content),
+        made-quiet,
+        (checked-on lines line).fault,
+        (checked-on lines line).next,
+      )
+
+  pub noted-takes : {served : Choices → Type 0} {room : Type 0} {ready : List (List ℕ)} → ready ≡ []
       → DirectionTakes check_by_line (λ choices. no_choices) (λ choices. check_reading) served
-      (parts_with before (totals_held totals)) number line room (Ok false) ready
-      (parts_with after (totals_held then)) (λ choices. true) (totals.epochs + totals.events)
-      (then.epochs + then.events)
-      (λ choices lines. named ≡ first_not_standard 1 lines (printed_so_far lines))
-      (λ choices lines. named_then ≡ first_not_standard 1 lines (printed_so_far lines))
-  noted-takes standard none counts = record {
-    reads = grind (arith, common_steps, made-same, steps-to);
+      (parts_with before (totals_held old.totals)) number line room (Ok false) ready
+      (parts_with after (totals_held new.totals)) (λ choices. true) (old.totals.epochs + old.totals.events)
+      (new.totals.epochs + new.totals.events)
+      (λ choices lines. old.not_standard ≡ first_not_standard 1 lines (printed_so_far lines))
+      (λ choices lines. new.not_standard ≡ first_not_standard 1 lines (printed_so_far lines))
+  noted-takes none = record {
+    reads = grind (arith, common_steps, made-same, taken, noted.totals);
     serving = λ choices served. refl;
-    counts = counts;
+    counts = grind (arith, common_steps, counts-one);
     notes = λ choices lines given known counted.
-        let is = given-after choices lines line (parts_with before (totals_held totals)) given in
-        let printed = has-printed (reader_phase before) before.types (totals_held totals)
-        (Content line.content) (has-reached choices before totals lines given.taken_as is) in
+        let is = given-after choices lines line (parts_with before (totals_held old.totals)) given in
+        let printed = has-printed (reader_phase before) before.types (totals_held old.totals)
+        (Content line.content) (has-reached choices before old.totals lines given.taken_as is) in
         ap (λ (c : CheckState). c.not_standard) (took-line lines
-        (state-there choices before totals lines given.taken_as is named known)
-        (standard printed ∙ ap (earliest named (is_standard_there before line)) counted)).1;
+        (state-there choices before old.totals lines given.taken_as is old.not_standard known)
+        (noted.standard printed ∙ ap (earliest old.not_standard (is_standard_there before line)) counted)).1;
     stays = λ choices lines known. tt;
   }
 
@@ -203,6 +210,13 @@ abbrev pub IsPut : List Bool → List ℕ → List Bool → Type 0
 IsPut names name then = (other : List ℕ) → is_identifier other ≡ true
     → has_identifier then other ≡ (bytes_eq name other || has_identifier names other)
 
+-- whether a row's satellite is among some rows, by their table
+pub named-answer : (names : List Bool) (rows : List ObservationRow) (row : ObservationRow)
+    → AreNamed names rows → is_identifier row.name ≡ true → (is_new : Bool) → is_new ≡ not (has_identifier names row.name)
+    → has_satellite row.name rows ≡ not is_new
+named-answer names rows row named sound is_new is =
+    sym (named row.name sound) ∙ sym (ap not is ∙ not-not (has_identifier names row.name))
+
 module _ (names then : List Bool) (rows : List ObservationRow) (row : ObservationRow) (named : AreNamed names
     rows)
     (put : IsPut names row.name then) (sound : is_identifier row.name ≡ true) where
@@ -221,23 +235,18 @@ module _ (names then : List Bool) (rows : List ObservationRow) (row : Observatio
           ((bytes_eq-Decides row.name name).0 same) there)
       decided name is false other = named name is
 
-module _ (made : Made ObservationEpoch OpenEpoch) (before after : RinexReader) (line : List ℕ) where
-  -- a line that is no row has nothing to be counted but where it begins an epoch
-  pub step-counting : (observed : ℕ) (step : RinexStep) → is_row step ≡ false
-      → TakesRinexLine made before line step after → IsCounting step observed after
-  step-counting observed step no_row takes = grind (arith, common_steps, false≢true)
+-- where an epoch is open after a line that is no row, the line has begun it, and none of its rows has come
+module _ (made : Made ObservationEpoch OpenEpoch) (before after : RinexReader) (line : List ℕ)
+    (step : RinexStep)
+    (takes : TakesRinexLine made before line step after) where
+  step-begun : is_open_stage after.stage ≡ true → (step ≡ Begun) × (after.rows.rows ≡ [])
+  step-begun is_open = grind (arith, common_steps, false≢true)
 
-  -- and where an epoch is open after it, it has begun one, and none of the rows has come
-  step-begun : (step : RinexStep) → is_row step ≡ false
-      → TakesRinexLine made before line step after → is_open_stage after.stage ≡ true
-      → (step ≡ Begun) × (after.rows.rows ≡ [])
-  step-begun step no_row takes is_open = grind (arith, common_steps, false≢true)
+  pub step-held : step ≡ Begun → is_some after.head ≡ true
+  step-held begun = grind (arith, common_steps, in-epoch)
 
-  pub step-named : (names : List Bool) (step : RinexStep) → is_row step ≡ false
-      → TakesRinexLine made before line step after
-      → (step ≡ Begun → (name : List ℕ) → has_identifier names name ≡ false)
-      → is_open_stage after.stage ≡ true → AreNamed names after.rows.rows
-  step-named names step no_row takes empty is_open = grind (arith, common_steps, step-begun, none-named)
+  pub step-counted : (noted : Noted) → (step ≡ Begun → IsFresh noted) → AreCounted after noted
+  step-counted noted fresh = grind (arith, common_steps, step-begun, none-named)
 
 -- all six lines of a report were handed out where none is pending, and only there
 pub all-out : (handed_out : ℕ) (found : Findings) → drop handed_out (report_lines found) ≡ [] → 6 ≤ handed_out
@@ -249,8 +258,3 @@ pub still-drained : (handed_out : ℕ) (found other : Findings)
     → drop handed_out (report_lines found) ≡ [] → drop handed_out (report_lines other) ≡ []
 still-drained handed_out found other none =
     drop_all handed_out (report_lines other) (all-out handed_out found none)
-
--- a row is to be counted
-pub row-counting : (observed : ℕ) (reader : RinexReader) (step : RinexStep) → is_row step ≡ true
-    → IsBehindARow observed reader → IsCounting step observed reader
-row-counting observed reader step row behind = grind (arith, common_steps, false≢true)

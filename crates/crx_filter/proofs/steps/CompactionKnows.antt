@@ -2,9 +2,9 @@
 use Rattle.crx_filter.proofs
 use proofs.Words.{ℕ, ◌≡◌, true, false, List, [], ◌∷◌, map}
 use proofs.Words.{length, Result, Ok, Err, refl, ap, sym, subst, ◌∙◌}
-use proofs.Words.{◌+◌, true≢false, InputLine, Content, as_read, Count, Epoch, Row}
+use proofs.Words.{◌+◌, true≢false, false≢true, InputLine, Content, as_read, Count, Epoch, Row}
 use proofs.Words.{Observation, Satellite, All-head}
-use proofs.Words.{OpenEpoch, row_of, Choices, types_in_force}
+use proofs.Words.{OpenEpoch, row_of, Choices}
 use proofs.Words.{rinex_reading, Reading, RunState, Made, Completes}
 use proofs.Words.{made_in, step_of_made, is_again, compaction, compaction_state, rinex_open}
 use proofs.Words.{Written, with_next}
@@ -14,9 +14,8 @@ use proofs.Words.{compact_written, written_kept, is_at_every}
 use proofs.{Words.{LINE_LIMIT, ◌≤◌}, Pending.again-lines}
 use proofs.following.{Collecting.{add_made, given-epochs, given-past}, CompactedOn.as_it_is}
 use proofs.following.CompactedOn.{compaction-collects, epochs_collected}
-use proofs.steps.CompactionSteps.{AddsHeld, is_first_line}
-use proofs.Words.{Begun, Nothing, Header, HeaderLine, EventLine, EventRecord, RinexStep, TakesRinexLine}
-use proofs.Words.{is_row}
+use proofs.steps.CompactionSteps.{AddsHeld, is_copied, is_first_line}
+use proofs.Words.{Header, HeaderLine, EventLine, EventRecord, RinexStep, TakesRinexLine}
 use Rattle.crx_filter.specs.declared.rinex_reader.RinexStep.TheVariants.{Event, Record}
 use proofs.steps.{EngineAnswers.{as-read-within, as-read-short}, Together.served-closed}
 use proofs.steps.{Enough.{epochs-kept, known-room}, Given.{counts-there, types-there}}
@@ -29,7 +28,7 @@ use Rattle.crx_header.specs.meaning.CompactHeader.{lines_before_header}
 use Rattle.crx_filter.specs.DirectionParts.{ComesAfter, DirectionTakes, HasEnough, KnowsStill, state_by}
 use Rattle.crx_filter.specs.{EpochRooms.{HaveEpochsRoom, rinex_epochs}, Rooms.HasRoomForRow}
 use Rattle.crx_filter.specs.{Rooms.HasRoomInCompaction, meaning.Memory.{are_known, are_types_awaited}}
-use Rattle.crx_filter.specs.meaning.Memory.{accepted_epochs, brought_by_row, satellite_of_row}
+use Rattle.crx_filter.specs.meaning.Memory.{brought_by_row, satellite_of_row}
 use Rattle.crx_filter.specs.declared.compaction.Compaction.TheInside.{Inside as Compaction}
 use Rattle.std.proofs.lemmas.{Bool.{not-false, or_parts}, List.Elements.{All-map}}
 use Rattle.std.specs.Prelude.{IfOk}
@@ -75,9 +74,7 @@ has-enough c choices lines line given knew short needs =
     record {
       types = λ counts none. true≢false (sym (counts-there compaction compaction_state choices lines line
           (compaction_parts c) given rinex_open read refl (λ counted same. same) counts none) ∙ both.0);
-      row = λ opened. subst (λ (t : List Count). HasRoomForRow t line.content c.encoder.rooms) (sym there)
-          (row-there line.content (types_in_force read.items) (accepted_epochs read.items) c.encoder.rooms
-          knew (not-false _ both.1));
+      row = grind (arith, common_steps, read, there, both, row-there, not-false);
     }
 
 -- ---- after a line that was taken
@@ -151,34 +148,25 @@ module _ (served : Choices → Type 0) (room : Type 0) (before after : Compactio
         grind (arith, common_steps, served-closed, noted, again-lines)
 
     -- it is copied, and everything is forgotten
-    pub copied-takes : (step : RinexStep) (date : List ℕ) → (step ≡ Nothing → ⊥) → (step ≡ Begun → ⊥)
-        → is_row step ≡ false → TakesRinexLine made before.reader line.content step after.reader
+    pub copied-takes : (step : RinexStep) (date : List ℕ) → is_copied step ≡ true
+        → TakesRinexLine made before.reader line.content step after.reader
         → ((choices : Choices) → served choices → choices.date ≡ date)
         → after.encoder ≡ record (forgotten before.encoder (lines_before_header date (is_first_line step)))
         { rooms = after.encoder.rooms } → after.index ≡ before.index
         → Takes (Ok true) (after.encoder.pending ++ line.content ∷ [])
-    copied-takes (Header is_first) date nothing begun row takes dated emptied counted =
-        unit-takes (HeaderLine line.content) takes.0 tt (λ choices number is. (
-          ap (λ (e : EncoderState). e.pending ++ line.content ∷ []) emptied
-              ∙ ap (λ d. lines_before_header d is_first ++ line.content ∷ []) (sym (dated choices is))
-              ∙ ap (λ b. lines_before_header choices.date b ++ line.content ∷ []) takes.1,
-          rw (counted, emptied) refl,
-        )) (omega (arith, counted))
-    copied-takes Event date nothing begun row takes dated emptied counted =
-        unit-takes (EventLine line.content) takes tt (λ choices number is. (
-          ap (λ (e : EncoderState). e.pending ++ line.content ∷ []) emptied,
-          rw (counted, emptied) refl,
-        )) (omega (arith, counted))
-    copied-takes Record date nothing begun row takes dated emptied counted =
-        unit-takes (EventRecord line.content) takes tt (λ choices number is. (
-          ap (λ (e : EncoderState). e.pending ++ line.content ∷ []) emptied,
-          rw (counted, emptied) refl,
-        )) (omega (arith, counted))
-    copied-takes step date nothing begun row takes dated emptied counted =
-        grind (arith, common_steps, true≢false)
+    copied-takes (Header is_first) date copied takes dated emptied counted =
+        unit-takes (HeaderLine line.content) takes.0 tt (λ choices number is.
+        grind (arith, common_steps, choices)) (omega (arith, counted))
+    copied-takes Event date copied takes dated emptied counted =
+        unit-takes (EventLine line.content) takes tt (λ choices number is.
+        grind (arith, common_steps)) (omega (arith, counted))
+    copied-takes Record date copied takes dated emptied counted =
+        unit-takes (EventRecord line.content) takes tt (λ choices number is.
+        grind (arith, common_steps)) (omega (arith, counted))
+    copied-takes step date copied takes dated emptied counted = absurd (false≢true copied)
 
     -- it completes an epoch, whose rows the encoder had
-    pub ended-takes : (done : CompletedEpoch made line.content before.reader after.reader) (mid : EncoderState)
+    pub ended-takes : (done : CompletedEpoch made before.reader after.reader) (mid : EncoderState)
         → ((choices : Choices) → served choices → mid.in_full ≡ is_at_every choices.every before.index)
         → mid.before ≡ before.encoder.before → mid.rows ≡ after.reader.rows.rows → HaveRoom mid.rows mid.rooms
         → EndsEpoch done.head mid after.encoder → after.index ≡ before.index + 1

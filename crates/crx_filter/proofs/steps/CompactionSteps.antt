@@ -1,7 +1,8 @@
 -- What a compaction makes of a line: a fault, another stage, a line that is copied, or an epoch.
-use Rattle.crx_filter.proofs.Words.{common_steps, arith, ◌≡◌, ℕ, false, true≢false, List, Bool}
+use Rattle.crx_filter.proofs.Words.{common_steps, arith, ◌≡◌, ℕ, false, false≢true, true, List, Bool}
 use Rattle.crx_filter.proofs.Words.{ObservationEpoch, OpenEpoch, Observation, Made, Completes, epoch_open}
-use Rattle.crx_filter.proofs.Words.{is_row, is_open_stage, TakesRinexLine, RinexStep, Header, Begun}
+use Rattle.crx_filter.proofs.Words.{is_open_stage, TakesRinexLine, RinexStep, Header}
+use Rattle.crx_filter.specs.declared.rinex_reader.RinexStep.TheVariants.{Event, Record}
 use Rattle.crx_filter.proofs.Words.{RinexReader}
 use Rattle.crx_compact.specs.Placing.{HaveTypesRoom}
 use Rattle.crx_filter.specs.{DirectionParts.{DirectionParts}, meaning.Memory.satellites_had}
@@ -24,11 +25,15 @@ abbrev pub is_first_line : RinexStep → Bool
 is_first_line (Header is_first) = is_first
 is_first_line step = false
 
--- after a line that was taken and is none of an epoch no epoch is open
-pub copied-closed : (made : Made ObservationEpoch OpenEpoch) (before after : RinexReader) (line : List ℕ)
-    (step : RinexStep) → (step ≡ Begun → ⊥) → is_row step ≡ false
-    → TakesRinexLine made before line step after → is_open_stage after.stage ≡ false
-copied-closed made before after line step begun row takes = grind (arith, common_steps, true≢false)
+-- whether a line is one that is copied, and none of an epoch
+abbrev pub is_copied : RinexStep → Bool
+is_copied (Header is_first) = true
+is_copied Event = true
+is_copied Record = true
+is_copied step = false
 
-pub not-first : (step : RinexStep) → ((is_first : Bool) → step ≡ Header is_first → ⊥) → is_first_line step ≡ false
-not-first step none = grind (arith, common_steps)
+-- after it no epoch is open
+pub copied-closed : (made : Made ObservationEpoch OpenEpoch) (before after : RinexReader) (line : List ℕ)
+    (step : RinexStep) → is_copied step ≡ true → TakesRinexLine made before line step after
+    → is_open_stage after.stage ≡ false
+copied-closed made before after line step copied takes = grind (arith, common_steps, false≢true)

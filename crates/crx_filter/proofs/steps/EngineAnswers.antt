@@ -1,24 +1,25 @@
 -- From the steps of an engine of either direction to what every engine answers, and to the lines it has
 -- taken.
 use Rattle.crx_filter.proofs
-use proofs.Words.{common_steps, arith, ℕ, ◌≡◌, inl, inr, ◌+◌, true, false, List, [], ◌∷◌, map, length, Some}
+use proofs.Words.{common_steps, arith, ℕ, ◌≡◌, inl, inr, ◌+◌, true, false, List, [], ◌∷◌, map, length, Some, None}
 use proofs.Words.{Result, Ok, Err, refl, ap, sym, subst, ◌∙◌, append-nil, ◌≤◌, rules, and_parts, reverse}
-use proofs.Words.{InputLine, is_long, ReadLine, Content, Overlong, as_read, At, OutOfMemory, LINE_LIMIT}
+use proofs.Words.{InputLine, is_long, ReadLine, Content, Overlong, as_read, At, LINE_LIMIT}
 use proofs.Words.{Choices, step_made, Steps, is_again, fed_once, fed_twice, fed, LookingOn}
 use proofs.Words.{RunState, Direction, Made, Rejects, Notice, LineStep, made_in, is_in_epoch}
 use proofs.Words.{is_skipped_in, step_of_made, state_next, takes_memory, can_go_on, ◌++◌}
 use proofs.Words.{by_bool, Completes, false≢true, answer_of_step, noticed_by, false-true}
 use proofs.Words.{failed_by, Bool}
 use Rattle.std.specs.Prelude.{IfOk}
-use Rattle.crx_filter.specs.DirectionParts.{EngineParts, HasClosed, IsAfterLines, ComesAfter, TakesLine}
-use Rattle.crx_filter.specs.{EngineLaws.{GoesLineByLine}, EngineLines.HasTaken, EngineSteps.RanOut}
-use Rattle.crx_filter.specs.EngineState.{EndIsAnswered, EngineGoes, EngineKeepsNotes, EngineNotes, KnowsAfter}
-use Rattle.crx_filter.specs.EngineState.{LineIsAnswered, engine_seen, engine_state, engine_took}
-use Rattle.crx_filter.specs.{Laws.is_ready, LineByLine.state_end_with, declared.direction.Direction.Ghosts}
-use Rattle.crx_runs.specs.Engines.{Awaited, IsAwaited, awaited_notices, EngineAnswers, Concludes}
+use Rattle.crx_filter.specs.DirectionParts.{EngineParts, HasEnough, IsAfterLines, ComesAfter}
+use Rattle.crx_filter.specs.{EngineLaws.{GoesLineByLine, IsLawfulDirection}, EngineLines.HasTaken, EngineSteps.out_of_memory}
+use Rattle.crx_filter.specs.EngineState.{EngineGoes, KnowsAfter, TakesEnd, TakesLine}
+use Rattle.crx_filter.specs.EngineState.{engine_seen, engine_state, engine_took}
+use Rattle.std.proofs.Common.{append_assoc}
+use Rattle.crx_filter.specs.{Laws.{Fed, is_ready}, LineByLine.{Answer, Failed, state_end_with}, declared.direction.Direction.Ghosts}
+use Rattle.crx_runs.specs.Engines.{Awaited, IsAwaited, awaited_notices, EngineAnswers}
 use Rattle.crx_runs.specs.{declared.engine.Step.{Step, TheVariants.Warned}, meaning.Filters.Filter}
 use proofs.Pending.{again-lines, quiet-next, taken-either}
-use proofs.steps.EngineLemmas.{repeats, repeats-end}
+use proofs.steps.StepCounts.{steps-choices}
 use proofs.following.Following.{fed-once as feeds-once, fed-twice as feeds-twice, failed-ends, failed-skipped}
 
 -- ---- a line that comes again
@@ -56,10 +57,20 @@ comes-again direction before next line at handed_out e = again-by-made direction
 
 -- ---- one answer
 
+-- the warnings of a line that is fed twice, oldest first
+noticed-last : (answer : Answer) (next : At)
+    → reverse (noticed_by answer ++ next ∷ []) ≡ (next ∷ []) ++ noticed_by answer
+noticed-last (Notice at again) next = refl
+noticed-last answer next = refl
+
+failed-is : (result : Result Step At) (at : At) → answer_of_step result ≡ Failed at → result ≡ Err at
+failed-is result at is = grind (arith, common_steps)
+
 module _ {U O K : Type 0} {direction : Direction U O K} {closing_after : List InputLine → List (List ℕ)}
     {state_after_lines : List ReadLine → RunState O K} {needs : List InputLine → InputLine → Bool}
     {filter : Filter}
-    (goes : GoesLineByLine direction closing_after state_after_lines needs filter) where
+    (goes : GoesLineByLine direction closing_after state_after_lines needs filter)
+    (has_ended : List InputLine → Type 0) where
   -- ---- a line that is fed once, or comes a second time
 
   fed-once : (before : RunState O K) (line : ReadLine) (step : LineStep O K) → step ≡ state_next direction
@@ -88,21 +99,32 @@ module _ {U O K : Type 0} {direction : Direction U O K} {closing_after : List In
             next = now;
           } → reverse warned ≡ awaited_notices notices ++ noticed_by (answer_of_step result)
           → is_again (answer_of_step result) ≡ false → (is_ready (answer_of_step result) ≡ false → ready ≡ [])
-          → EngineAnswers filter shows ready lines notices line result
+          → EngineAnswers filter shows has_ended ready lines notices (Some line) result
       fed-answers notices warned result e noted once quiet =
           grind (arith, common_steps, append-nil)
 
       -- the first time
       first-time : (result : Result Step At) → step_made result ready now ≡ state_next direction first
-          (as_read line) → EngineAnswers filter shows ready lines [] line result
-      first-time result s =
-          grind (arith, common_steps, fed-answers, fed-once, fed-again, quiet-next)
+          (as_read line) → EngineAnswers filter shows has_ended ready lines [] (Some line) result
+      first-time (Ok (Warned next true)) s =
+          let made = step_made (Ok (Warned next true)) ready now in
+          let second = (state_next direction now (as_read line)).answer in
+          let none : ready ≡ [] = quiet-next direction first (as_read line) made s refl in
+          let before = (filter.so_far lines).warnings in
+          let added = (goes.follows lines line).warnings ∙ ap (λ (f : Fed O K). before ++ reverse f.warned)
+          (fed-again first (as_read line) made s refl) ∙ ap (λ (ws : List At). before ++ ws) (noticed-last second
+          next) ∙ sym (append_assoc before (next ∷ []) (noticed_by second)) in
+          (showing lines _ (rw none at s), refl, (noticed_by second, added))
+      first-time result s = fed-answers [] (noticed_by (answer_of_step result)) result
+          (fed-once first (as_read line) (step_made result ready now) s refl) refl refl
+          (quiet-next direction first (as_read line) (step_made result ready now) s)
 
       -- the second time, after a warning
       second-time : (notice : At) (before : RunState O K) (result : Result Step At) → record
           { answer = Notice notice true; handed_out = []; next = before } ≡ state_next direction first
           (as_read line) → step_made result ready now ≡ state_next direction before (as_read line) →
-          EngineAnswers filter shows ready lines (record { notice = notice; line = line } ∷ []) line result
+          EngineAnswers filter shows has_ended ready lines (record { notice = notice; line = line } ∷ [])
+          (Some line) result
       second-time notice before (Ok (Warned next true)) one s =
           let again = comes-again direction before now (as_read line) next ready s in
           let looking = comes-again direction first before (as_read line) notice [] one in
@@ -115,13 +137,6 @@ module _ {U O K : Type 0} {direction : Direction U O K} {closing_after : List In
           ∙ ap (λ (two : LineStep O K). fed_twice step two) (sym s)) refl refl
           (quiet-next direction before (as_read line) (step_made result ready now) s)
 
-    -- memory ran out, the first time or the second
-    ran-out : (shows : List InputLine → List Awaited → Type 0) (ready : List (List ℕ))
-        (notices : List Awaited) (number : ℕ) (at : At) (result : Result Step At) → result ≡ Err at → at.fault
-        ≡ OutOfMemory → at.line ≡ number + 1 → number ≡ length lines → filter.memory_after lines line ≡ Some
-        (awaited_notices notices) → EngineAnswers filter shows ready lines notices line result
-    ran-out shows ready notices number at result is fault place same allowed = grind (arith, common_steps)
-
   -- an engine's own step is an answer
   answers-step : (shows : List InputLine → List Awaited → Type 0) (before now : RunState O K)
       (lines : List InputLine) (notices : List Awaited) (line : InputLine) (ready : List (List ℕ))
@@ -129,10 +144,10 @@ module _ {U O K : Type 0} {direction : Direction U O K} {closing_after : List In
       → ((ls : List InputLine) (ns : List Awaited) → HasTaken direction state_after_lines now ls ns → shows ls
       ns) → HasTaken direction state_after_lines before lines notices → IsAwaited notices line
       → step_made result ready now ≡ state_next direction before (as_read line)
-      → EngineAnswers filter shows ready lines notices line result
+      → EngineAnswers filter shows has_ended ready lines notices (Some line) result
   answers-step shows before now lines notices line ready result showing taken awaited e =
       elim (taken-either direction state_after_lines before lines notices line taken awaited) as
-      (λ _. EngineAnswers filter shows ready lines notices line result) [
+      (λ _. EngineAnswers filter shows has_ended ready lines notices (Some line) result) [
         | inl h ↦ rw h.0 (first-time lines line shows now ready showing result (subst (λ (s : RunState O K).
             step_made result ready now ≡ state_next direction s (as_read line)) h.1 e))
         | inr h ↦ rw h.1 (second-time lines line shows now ready showing h.0 before result h.2 e)
@@ -141,27 +156,33 @@ module _ {U O K : Type 0} {direction : Direction U O K} {closing_after : List In
   -- memory that ran out where the line needs more is one
   answers-lost : (shows : List InputLine → List Awaited → Type 0) (before now : RunState O K)
       (lines : List InputLine) (notices : List Awaited) (line : InputLine) (ready : List (List ℕ))
-      (result : Result Step At) (room : Type 0) → HasTaken direction state_after_lines before lines notices
-      → IsAwaited notices line → needs lines line ≡ true → RanOut direction before (as_read line) room result now
-      → EngineAnswers filter shows ready lines notices line result
-  answers-lost shows before now lines notices line ready result room taken awaited needed r =
+      (result : Result Step At) → HasTaken direction state_after_lines before lines notices
+      → IsAwaited notices line → needs lines line ≡ true → takes_memory direction before (as_read line) ≡ true
+      → step_made result ready now ≡ out_of_memory direction before
+      → EngineAnswers filter shows has_ended ready lines notices (Some line) result
+  answers-lost shows before now lines notices line ready result taken awaited needed allowed made =
+      let is = failed-is result _ (ap (λ (s : LineStep O K). s.answer) made) in
       elim (taken-either direction state_after_lines before lines notices line taken awaited) as
-      (λ _. EngineAnswers filter shows ready lines notices line result) [
-        | inl h ↦ rw h.0 (ran-out lines line shows ready [] before.number r.at result r.is r.fault r.place
-            (ap (λ (s : RunState O K). s.number) h.1 ∙ goes.number lines) (goes.memory_first lines line needed
-            (subst (λ (s : RunState O K). takes_memory direction s (as_read line) ≡ true) h.1 r.allowed)))
-        | inr h ↦ rw h.1 (ran-out lines line shows ready (record { notice = h.0; line = line } ∷ [])
-            before.number r.at result r.is r.fault r.place ((comes-again direction (state_after_lines
-            (map as_read lines)) before (as_read line) h.0 [] h.2).number ∙ goes.number lines)
-            (goes.memory_again lines line before h.0 needed h.2 r.allowed))
+      (λ _. EngineAnswers filter shows has_ended ready lines notices (Some line) result) [
+        | inl h ↦
+            let allows = subst (λ (s : RunState O K). takes_memory direction s (as_read line) ≡ true) h.1 allowed in
+            let same = ap (λ (s : RunState O K). s.number) h.1 ∙ goes.number lines in
+            rw (h.0, is) (inl (refl, ap (λ n. n + 1) same, goes.memory_first lines line needed allows))
+        | inr h ↦
+            let again = comes-again direction (state_after_lines (map as_read lines)) before _ h.0 [] h.2 in
+            let same = again.number ∙ goes.number lines in
+            rw (h.1, is) (inl (refl, ap (λ n. n + 1) same, goes.memory_again lines line before h.0 needed h.2 allowed))
       ]
 
   -- ---- the end of the input
 
-  concludes : (before now : RunState O K) (lines : List InputLine) (ready : List (List ℕ))
-      (result : Result Step At) → HasTaken direction state_after_lines before lines [] → step_made result
-      ready now ≡ state_end_with direction (closing_after lines) before → Concludes filter ready lines result
-  concludes before now lines ready result taken e =
+  concludes : (shows : List InputLine → List Awaited → Type 0) (before now : RunState O K)
+      (lines : List InputLine) (ready : List (List ℕ)) (result : Result Step At)
+      → HasTaken direction state_after_lines before lines []
+      → step_made result ready now ≡ state_end_with direction (closing_after lines) before
+      → IfOk result (λ step. has_ended lines) → EngineAnswers filter shows has_ended ready lines [] None
+      result
+  concludes shows before now lines ready result taken e ended =
       grind (arith, common_steps, goes.ends, append-nil)
 
 -- ---- lines as they are seen
@@ -195,12 +216,22 @@ module _ {U O K : Type 0} {direction : Direction U O K} {closing_after : List In
   taken-lines now lines (a ∷ b ∷ others) taken = absurd taken
 
 -- an answer shows what is known, too
-answers-known : (knows : List InputLine → Type 0) (lines : List InputLine) (line : InputLine)
-    (filter : Filter) (shows : List InputLine → List Awaited → Type 0) (ready : List (List ℕ))
-    (notices : List Awaited) (result : Result Step At) → KnowsAfter knows lines line result
-    → EngineAnswers filter shows ready lines notices line result
-    → EngineAnswers filter (λ ls ns. shows ls ns × knows ls) ready lines notices line result
-answers-known knows lines line filter shows ready notices result known answers = grind (arith, common_steps)
+answers-known : (knows : List InputLine → Type 0) (lines : List InputLine) (line : InputLine) (filter :
+    Filter) (shows : List InputLine → List Awaited → Type 0) (has_ended : List InputLine → Type 0)
+    (ready : List (List ℕ)) (notices : List Awaited) (result : Result Step At) → KnowsAfter knows lines line
+    result
+    → EngineAnswers filter shows has_ended ready lines notices (Some line) result
+    → EngineAnswers filter (λ ls ns. shows ls ns × knows ls) has_ended ready lines notices (Some line) result
+answers-known knows lines line filter shows has_ended ready notices result known answers =
+    grind (arith, common_steps)
+
+-- an engine goes as its direction does
+pub goes-on : {D : Type 0} (d : Ghosts D) (e : EngineParts D) → d.chosen e.options ≡ e.options
+    → IsLawfulDirection d.by_line d.chosen d.closing_after d.state_after_lines d.needs_more d.filter
+    → HasEnough d.by_line d.chosen d.state_after_lines d.needs_more (d.parts e.direction) (d.notes
+    e.direction) (d.has_room e.direction) → EngineGoes d e
+goes-on d e chosen lawful enough =
+    record { chosen = chosen; lawful = lawful e.options chosen; enough = enough }
 
 module _ {D : Type 0} (d : Ghosts D) (before : EngineParts D) (goes : EngineGoes d before) where
   -- an engine that has taken some lines has come to them
@@ -214,61 +245,53 @@ module _ {D : Type 0} (d : Ghosts D) (before : EngineParts D) (goes : EngineGoes
       → ComesAfter d.by_line d.chosen d.state_after_lines before.options lines line (d.parts before.direction)
   given-line lines notices line took awaited = grind (arith, common_steps, taken-lines)
 
-  module _ (after : EngineParts D) {ready : List (List ℕ)} (line : InputLine) (read : ReadLine)
-      (result : Result Step At) (same : after.options ≡ before.options) (is : as_read line ≡ read)
-      (notes : EngineNotes d before line result after) where
-    -- an engine whose choices are as they were answers a line by what is seen of it
-    answers-seen : step_made result ready (engine_state d after) ≡ state_next d.by_line (engine_state d before) read
-        → (lines : List InputLine) (notices : List Awaited) → engine_seen d before lines notices
-        → IsAwaited notices line
-        → EngineAnswers (d.filter before.options) (engine_seen d after) ready lines notices line result
-    answers-seen made = λ lines notices seen awaited.
-        answers-step goes.lawful (engine_seen d after) (engine_state d before) (engine_state d after) lines
-        notices line ready result (λ ls ns then. subst (λ (c : Choices). HasTaken d.by_line
-        (d.state_after_lines c) (engine_state d after) ls ns) (sym same) then) seen awaited
-        (made ∙ ap (state_next d.by_line (engine_state d before)) (sym is))
+-- a line that an engine took is answered as its filter says: where memory runs out, the line needs more
+pub line-answered : {D : Type 0} (d : Ghosts D) (before after : EngineParts D) (has_ended : List InputLine →
+    Type 0) {ready : List (List ℕ)} (line : InputLine) (read : ReadLine) (result : Result Step At) → as_read
+    line ≡ read
+    → TakesLine d before line read result ready after → (lines : List InputLine) (notices : List Awaited)
+    → engine_took d before lines notices → IsAwaited notices line
+    → EngineAnswers (d.filter before.options) (engine_took d after) has_ended ready lines notices (Some line)
+    result
+line-answered d before after has_ended {ready = ready} line read result is takes lines notices took awaited =
+    answers-known (d.notes after.direction after.options) lines line (d.filter before.options)
+    (engine_seen d after) has_ended ready notices result
+    (subst (λ (c : Choices). KnowsAfter (d.notes after.direction c) lines line result) (sym same)
+    (takes.notes lines (taken-lines takes.goes.lawful (engine_state d before) lines notices took.0)
+    (given-line d before takes.goes lines notices line took awaited) took.1)) (answered takes.steps)
+  where
+    same : after.options ≡ before.options
+    same = steps-choices d.by_line (engine_state d before) (engine_state d after) read ready result
+        takes.steps
 
-    -- and by what it took: where memory runs out, the line needs more
-    engine-answers : (lines : List InputLine) (notices : List Awaited) → engine_took d before lines notices
-        → IsAwaited notices line → Steps d.by_line (engine_state d before) read
-        (d.has_room before.direction line.content) result ready (engine_state d after)
-        → EngineAnswers (d.filter before.options) (engine_took d after) ready lines notices line result
-    engine-answers lines notices took awaited steps =
-        answers-known (d.notes after.direction after.options) lines line (d.filter before.options)
-        (engine_seen d after) ready notices result
-        (subst (λ (c : Choices). KnowsAfter (d.notes after.direction c) lines line result) (sym same)
-        (notes lines (taken-lines goes.lawful (engine_state d before) lines notices took.0)
-        (given-line lines notices line took awaited) took.1)) (answered steps)
-      where
-        answered : Steps d.by_line (engine_state d before) read (d.has_room before.direction line.content) result
-            ready (engine_state d after)
-            → EngineAnswers (d.filter before.options) (engine_seen d after) ready lines notices line result
-        answered (inl made) = answers-seen made lines notices took.0 awaited
-        answered (inr out) =
-            let lost = subst (λ (l : ReadLine). RanOut d.by_line (engine_state d before) l
-            (d.has_room before.direction line.content) result (engine_state d after)) (sym is) out in
-            let needed : d.needs_more before.options lines line ≡ true =
-            grind (arith, common_steps, by_bool, false≢true, as-read-long, given-line, lost.lacked) in
-            answers-lost goes.lawful (engine_seen d after) (engine_state d before) (engine_state d after)
-            lines notices line ready result _ took.0 awaited needed lost
+    answered : Steps d.by_line (engine_state d before) read (d.has_room before.direction line.content) result
+        ready (engine_state d after) → EngineAnswers (d.filter before.options) (engine_seen d after) has_ended
+        ready lines notices (Some line) result
+    answered (inl made) = answers-step takes.goes.lawful has_ended (engine_seen d after) (engine_state d
+        before) (engine_state d after) lines notices line ready result (λ ls ns then. subst (λ (c : Choices).
+        HasTaken d.by_line (d.state_after_lines c) (engine_state d after) ls ns) (sym same) then) took.0
+        awaited (made ∙ ap (state_next d.by_line (engine_state d before)) (sym is))
+    answered (inr (allowed, lacked, made)) =
+        let may : takes_memory d.by_line (engine_state d before) (as_read line) ≡ true = rw (is) allowed in
+        let needed : d.needs_more before.options lines line ≡ true = grind (
+          arith,
+          common_steps,
+          by_bool,
+          false≢true,
+          as-read-long,
+          given-line d before takes.goes lines notices line,
+          lacked,
+          takes.goes.enough,
+        ) in
+        answers-lost takes.goes.lawful has_ended (engine_seen d after) (engine_state d before)
+        (engine_state d after) lines notices line ready result took.0 awaited needed may made
 
-  -- a line that was taken is answered so
-  pub line-answered : (after : EngineParts D) {ready : List (List ℕ)} (line : InputLine) (read : ReadLine)
-      (result : Result Step At) → as_read line ≡ read → EngineNotes d before line result after
-      → TakesLine d.by_line (engine_state d before) read (d.has_room before.direction line.content) result ready
-      (engine_state d after) → LineIsAnswered d before line read result ready after
-  line-answered after line read result is notes takes =
-      grind (arith, common_steps, engine-answers, answers-seen, repeats)
-
-  -- and so is the end of the input, where a good end hands out what is to be handed out
-  pub end-answered : (after : EngineParts D) {ready : List (List ℕ)} (result : Result Step At)
-      → HasClosed (d.closing before.direction) (state_end_with d.by_line (d.closing before.direction)
-      (engine_state d before)) result ready (engine_state d before) (engine_state d after)
-      → ((lines : List InputLine) → IsAfterLines d.chosen d.state_after_lines before.options lines
-      (d.parts before.direction) → d.notes before.direction before.options lines
-      → (step_made result ready (engine_state d after)
-      ≡ state_end_with d.by_line (d.closing_after before.options lines) (engine_state d before))
-      × IfOk result (λ step. d.report_is after.direction lines))
-      → EngineKeepsNotes d before result after → EndIsAnswered d before result ready after
-  end-answered after {ready = ready} result ends closing stays =
-      search (rules, concludes, after-lines, repeats-end)
+-- and so is the end of the input
+pub end-answered : {D : Type 0} (d : Ghosts D) (before after : EngineParts D)
+    (shows : List InputLine → List Awaited → Type 0) {ready : List (List ℕ)} (result : Result Step At)
+    → TakesEnd d before result ready after → (lines : List InputLine) → engine_took d before lines []
+    → EngineAnswers (d.filter before.options) shows (d.report_is after.direction) ready lines [] None result
+end-answered d before after shows {ready = ready} result takes lines took =
+    let closes = takes.closes lines (after-lines d before takes.goes lines took) took.1 in
+    concludes takes.goes.lawful (d.report_is after.direction) shows (engine_state d before)
+    (engine_state d after) lines ready result took.0 closes.0 closes.1

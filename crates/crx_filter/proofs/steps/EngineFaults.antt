@@ -2,17 +2,17 @@
 use Rattle.crx_filter.proofs.Words
 use Rattle.crx_filter.specs
 use Words.{common_steps, arith, ◌≡◌, ℕ, ◌+◌, Bool, true, false, ◌&&◌, List, [], Option, Some, None, Result}
-use Words.{Ok, Err, Content, Overlong, At, Fault, LineTooLong, Count, Choices, RunState, Direction}
+use Words.{Ok, Err, Content, Overlong, At, Fault, LineTooLong, OutOfMemory, Count, Choices, RunState, Direction}
 use Words.{Rejects, made_in, is_skipped_in, may_skip, is_skippable, failed_step, state_next}
 use Words.{begins_epoch, step_made, is_held, phase_of_stage, Stage, false≢true, InputLine}
 use Words.{ReadLine, Steps, as_read, length, LINE_LIMIT, ◌≤◌, refl}
-use specs.DirectionParts.{DirectionParts, state_by, Reads, AnswersToFault, HasStopped, TakesLine, handed_out_by}
-use specs.{DirectionParts.{EngineParts, KnowsStill}, EngineState.{EngineNotes, EngineReads}}
+use specs.DirectionParts.{DirectionParts, state_by, Reads, AnswersToFault, handed_out_by}
+use specs.{DirectionParts.{EngineParts, KnowsStill}, EngineState.{EngineGoes, TakesLine}}
 use specs.{EngineState.{engine_ready, engine_state}, declared.direction.Direction.Ghosts}
 use specs.{DirectionParts.hands_out, EngineSteps.answer_of_step, LineByLine.{end_step, answer_of_lines}}
 use specs.{LineByLine.fault_at_end_in, LineByLine.state_end_with, Stages.{bare_phase, is_settled}}
 use specs.declared.stage.Stage.TheVariants.{Closed, Ended}
-use Rattle.crx_filter.proofs.steps.{EngineAnswers.as-read-within, EngineLemmas.ran-out}
+use Rattle.crx_filter.proofs.{following.Following.failed-ends, steps.EngineAnswers.as-read-within}
 use Rattle.crx_runs.specs.declared.engine.Step.{Step, TheVariants.{Warned}}
 use Rattle.std.proofs.Common.{OnErr}
 use Rattle.crx_runs.specs.Engines.{answer_given, lines_handed_out}
@@ -28,20 +28,28 @@ module _ {U O K : Type 0} (direction : Direction U O K) where
       (before parts : DirectionParts O K) (line : List ℕ) (room : Type 0) (out : HandedOut)
       (stored : Result Step At) (ready : List (List ℕ)) → serves choices
       → Reads direction serves before line room (hands_out (Ok out)) (handed_out_by (Ok out) line ready) parts
-      → TakesLine direction (state_by choices last before) (Content line) room (answer_given (Some out) stored)
+      → Steps direction (state_by choices last before) (Content line) room (answer_given (Some out) stored)
       (lines_handed_out (Some out) line ready) (state_by choices (last + 1) parts)
   handed-line serves choices last before parts line room out stored ready chosen reads =
       grind (arith, common_steps, reads.takes choices last chosen)
 
+  never-skipped : (state : RunState O K) → is_skipped_in state OutOfMemory ≡ false
+  never-skipped state = grind (arith, common_steps)
+
+  -- by a fault nothing is handed out
+  pub none-handed : (state : RunState O K) (line : ReadLine) (fault : Fault)
+      → (failed_step direction state line fault).handed_out ≡ []
+  none-handed state line fault = grind (arith, common_steps)
+
   -- a line was refused: with its fault, or because memory ran out
   refused-line : (choices : Choices) (last : ℕ) (fault : Fault) (serves : Choices → Type 0)
       (before parts : DirectionParts O K) (line : List ℕ) (room : Type 0) (result : Result Step At)
-      (given ready : List (List ℕ)) (after : RunState O K)
-      → HasStopped (failed_step direction (state_by choices last before) (Content line) fault) result ready
-      (state_by choices last before) after → Reads direction serves before line room (Err fault) given parts
-      → TakesLine direction (state_by choices last before) (Content line) room result ready after
+      (given ready : List (List ℕ)) (after : RunState O K) → step_made result ready after
+      ≡ failed_step direction (state_by choices last before) (Content line) fault
+      → Reads direction serves before line room (Err fault) given parts
+      → Steps direction (state_by choices last before) (Content line) room result ready after
   refused-line choices last fault serves before parts line room result given ready after stopped reads =
-      grind (arith, ran-out, after-error)
+      grind (arith, common_steps, failed-ends, never-skipped)
 
   -- a line that is too long is a fault wherever lines are read
   made-too_long : ((types : List Count) (kept : K) → direction.begins types kept Overlong ≡ Rejects
@@ -50,24 +58,14 @@ module _ {U O K : Type 0} (direction : Direction U O K) where
       stage ≡ false → made_in direction (phase_of_stage begun stage) types kept Overlong ≡ Rejects LineTooLong
   made-too_long first next stage begun types kept held going = grind (arith, common_steps)
 
-  -- a fault that is answered to one
-  pub long-failed : (first : (types : List Count) (kept : K) → direction.begins types kept Overlong ≡ Rejects
+  pub long-next : (first : (types : List Count) (kept : K) → direction.begins types kept Overlong ≡ Rejects
       LineTooLong) (next : (so_far : O) → direction.continues so_far Overlong ≡ Rejects LineTooLong)
-      (choices : Choices) (last number : ℕ) (stage : Stage) (parts : DirectionParts O K)
-      (result : Result Step At) (ready : List (List ℕ)) (after : RunState O K) → AnswersToFault direction choices
-      number stage LineTooLong false parts result ready after → number ≡ last + 1 → stage ≡ parts.stage → is_held
-      stage parts.begun ≡ true → is_settled stage ≡ false
-      → (state_next direction (state_by choices last parts) Overlong
-      ≡ failed_step direction (state_by choices last parts) Overlong LineTooLong)
-      × HasStopped (failed_step direction (state_by choices last parts) Overlong LineTooLong) result ready
-      (state_by choices last parts) after
-  long-failed first next choices last number stage parts result ready after fails counted was held going =
-      grind (
-        arith,
-        common_steps,
-        fails parts Overlong last,
-        made-too_long first next parts.stage parts.begun parts.types parts.kept,
-      )
+      (choices : Choices) (last : ℕ) (stage : Stage) (parts : DirectionParts O K) → stage ≡ parts.stage
+      → is_held stage parts.begun ≡ true → is_settled stage ≡ false
+      → state_next direction (state_by choices last parts) Overlong
+      ≡ failed_step direction (state_by choices last parts) Overlong LineTooLong
+  long-next first next choices last stage parts was held going =
+      grind (arith, common_steps, made-too_long first next parts.stage parts.begun parts.types parts.kept)
 
   -- ---- the end of the input
 
@@ -105,21 +103,25 @@ module _ {U O K : Type 0} (direction : Direction U O K) where
 
 -- ---- a line that was refused
 
-module _ {D : Type 0} (d : Ghosts D) (before after : EngineParts D) (line : InputLine)
-    (past : KnowsStill d.by_line d.chosen d.state_after_lines (d.parts before.direction)
+module _ {D : Type 0} (d : Ghosts D) (before after : EngineParts D) (line : InputLine) (goes : EngineGoes d
+    before) (past : KnowsStill d.by_line d.chosen d.state_after_lines (d.parts before.direction)
     (d.notes before.direction))
-    (stays : (lines : List InputLine) → d.notes before.direction before.options lines
-    → d.notes after.direction before.options lines) where
-  -- what is known after it
-  pub notes-refused : (fault : Fault) (result : Result Step At) (read : ReadLine) (room : Type 0)
-      (ready : List (List ℕ)) → HasStopped (failed_step d.by_line (engine_state d before) read fault) result
-      ready (engine_state d before) (engine_state d after) → as_read line ≡ read
-      → Steps d.by_line (engine_state d before) read room result ready (engine_state d after)
-      → EngineNotes d before line result after
-  notes-refused fault result read room ready stopped is steps lines counted given known =
-      grind (arith, common_steps, false≢true)
+    (stays : (choices : Choices) (lines : List InputLine) → d.notes before.direction choices lines
+    → d.notes after.direction choices lines) where
+  -- what was taken, and what is known after it
+  pub refused-takes : (fault : Fault) (read : ReadLine) (result : Result Step At) (ready : List (List ℕ))
+      → step_made result ready (engine_state d after) ≡ failed_step d.by_line (engine_state d before) read
+      fault
+      → as_read line ≡ read → Steps d.by_line (engine_state d before) read (d.has_room before.direction
+      line.content) result ready (engine_state d after) → TakesLine d before line read result ready after
+  refused-takes fault read result ready stopped is steps = record {
+    goes = goes;
+    steps = steps;
+    notes = λ lines counted given known. grind (arith, common_steps, false≢true);
+    stays = λ choices lines known. after-error result (stays choices lines known);
+  }
 
-  -- and what was read, once its fault is answered
+  -- so once its fault is answered
   pub refused-read : {stage : Stage} {fault : Fault} {goes_on : Bool} {parts : DirectionParts d.Open d.Kept}
       {serves : Choices → Type 0} {given : List (List ℕ)} → length line.content ≤ LINE_LIMIT
       → AnswersToFault d.by_line before.options (before.number + 1) stage fault goes_on parts after.answer
@@ -127,13 +129,11 @@ module _ {D : Type 0} (d : Ghosts D) (before after : EngineParts D) (line : Inpu
       → is_held stage (d.parts before.direction).begun ≡ true → begins_epoch line.content ≡ goes_on
       → Reads d.by_line serves (d.parts before.direction) line.content
       (d.has_room before.direction line.content) (Err fault) given parts
-      → EngineReads d before line None after
-  refused-read {fault = fault} short fails was held goes reads =
+      → TakesLine d before line (Content line.content) after.answer (engine_ready d after) after
+  refused-read {fault = fault} short fails was held goes_on reads =
       let stopped = fails (d.parts before.direction) (Content line.content) before.number
-      (record { stage_was = was; held = held; types = reads.types; kept = reads.kept; goes = goes }) refl in
-      let takes = refused-line d.by_line before.options before.number fault _ (d.parts before.direction) _
-      line.content _ _ _ _ _ stopped reads in
-      record {
-        takes = takes;
-        notes = notes-refused fault _ _ _ _ stopped (as-read-within line line.content short refl) takes.steps;
-      }
+      (record { stage_was = was; held = held; types = reads.types; kept = reads.kept; goes = goes_on }) refl
+      in
+      refused-takes fault _ _ _ stopped (as-read-within line line.content short refl)
+      (refused-line d.by_line before.options before.number fault _ (d.parts before.direction) _
+      line.content _ _ _ _ _ stopped reads)

@@ -108,9 +108,7 @@ begins-within types past tail line epochs rooms same each known = by_tail (tail_
     by_tail : (t : Option Tail) → tail_for_line tail line ≡ t
         → IfOk (opened_raw types line (tail_for_line tail line)) (λ begun. HaveCellsRoom begun.rows rooms)
     by_tail None is = rw is tt
-    by_tail (Some before) is = rw is (by_satellites before
-        (satellites_of_line types (past_of_tail before) line) refl
-        (rw (same ∙ ap (option_map past_of_tail) is) at known))
+    by_tail (Some before) is = grind (arith, common_steps, by_satellites, types)
 
 -- ---- where a line is given
 

@@ -1,14 +1,13 @@
 -- A row that was read, and then taken: what is said of the reader between is said of the one before.
-use Rattle.crx_filter.proofs.Words.{common_steps, arith, ◌≡◌, true, List, ℕ, Written, compaction, made_in}
-use Rattle.crx_filter.proofs.Words.{made_at, reader_phase, is_row, IsSameReader, TakesRinexLine, RinexReader}
-use Rattle.crx_filter.proofs.Words.{RinexStep}
+use Rattle.crx_filter.proofs.Words.{common_steps, arith, ◌≡◌, Bool, List, ℕ, Written, compaction, made_in}
+use Rattle.crx_filter.proofs.Words.{made_at, reader_phase, IsSameReader, TakesRow, RinexReader}
 
 pub same-made : (before mid : RinexReader) (line : List ℕ) (kept : Written) → IsSameReader before mid
     → made_at mid line kept ≡ made_at before line kept
 same-made before mid line kept same = grind (arith, common_steps, made_in, compaction, reader_phase)
 
 -- what was taken by the reader between was taken by the one before
-pub taken-from : (before mid after : RinexReader) (line : List ℕ) (kept : Written) (step : RinexStep) → is_row
-    step ≡ true → IsSameReader before mid → TakesRinexLine (made_at mid line kept) mid line step after
-    → TakesRinexLine (made_at before line kept) before line step after
-taken-from before mid after line kept step row same takes = grind (arith, common_steps, same-made)
+pub taken-from : (before mid after : RinexReader) (line : List ℕ) (kept : Written) (is_last : Bool)
+    → IsSameReader before mid → TakesRow (made_at mid line kept) is_last mid after
+    → TakesRow (made_at before line kept) is_last before after
+taken-from before mid after line kept is_last same takes = grind (arith, common_steps, same-made)

@@ -1,17 +1,17 @@
 -- How the parts of a compaction belong together after a line, and what is said of a row that it takes.
 use Rattle.crx_filter.proofs.Words
 use Words.{common_steps, arith, ◌≡◌, ◌++◌, ◌∷◌, [], ℕ, Bool, true, false, not, List}
-use Words.{if◌then◌else◌, Fault, OutOfMemory, None, Ok, sym, ap, subst, ◌∙◌, true≢false, false≢true}
+use Words.{Fault, OutOfMemory, None, Ok, sym, ap, subst, ◌∙◌, true≢false, false≢true}
 use Words.{length, begins_epoch, has_satellite, ObservationEpoch, OpenEpoch}
-use Words.{row_of, Written, is_row, made_at, CompletedEpoch, IsSameReader, MovesReader, TakesRinexLine, Made}
-use Words.{is_open_stage, RinexReader, RinexStep, Stage, Row as ObservationRow}
+use Words.{row_of, Written, made_at, CompletedEpoch, IsSameReader, MovesReader, TakesRow, Made}
+use Words.{is_open_stage, RinexReader, Stage, Row as ObservationRow}
 use Rattle.crx_compact.specs.{Encoding.{EncoderState, forgotten}, Placing.{HasRoom, HaveRoom, KeepsRooms}}
 use Rattle.crx_filter.proofs.steps.RowSteps.{taken-from}
 use Rattle.std.proofs.lemmas.List.Elements.{All-nil, All-push}
 use Rattle.crx_base.specs.declared.limits.TheConstants.{SATELLITES_LIMIT}
 use Rattle.crx_filter.specs.CompactionParts.{BelongTogether, HasRefusedRow, HasWholeEpoch, HasWrittenRow}
 use Rattle.crx_filter.specs.{CompactionParts.is_full_where_due, RinexReaders.{BeginsEpoch, RefusesRinexLine}}
-use Rattle.crx_filter.specs.{Rooms.HasRoomForRow, RinexStages.rows_open, declared.rinex_reader.RinexStep.TheVariants.{Row, Epoch}}
+use Rattle.crx_filter.specs.{Rooms.HasRoomForRow, RinexStages.rows_open}
 use Rattle.std.{specs.Prelude.{◌<◌, ◌+◌}}
 
 -- ---- by the stage
@@ -75,26 +75,22 @@ row-known answer row read rows there said same where_ = grind (arith, common_ste
 module _ (before mid : RinexReader) (encoder new : EncoderState) (line : List ℕ)
     (together : BelongTogether before encoder) (same : IsSameReader before mid) where
   -- the row was written and taken
-  pub row-written : (after : RinexReader) (step : RinexStep) (is_last answer : Bool) (row : ObservationRow)
+  pub row-written : (after : RinexReader) (is_last answer : Bool) (row : ObservationRow)
       → HasRoom row.name (length row.values) new.rooms → KeepsRooms encoder.rooms new.rooms
       → is_open_stage before.stage ≡ true → row_of before.types line ≡ Ok mid.row → begins_epoch line ≡ false
       → row ≡ mid.row → answer ≡ not (has_satellite row.name encoder.rows) → answer ≡ true → new ≡ record
       encoder { rows = encoder.rows ++ row ∷ []; rooms = new.rooms } → ((l : List ℕ) (kept : Written) → row_of
       mid.types l ≡ Ok mid.row → begins_epoch l ≡ false → has_satellite mid.row.name mid.rows.rows ≡ false
-      → TakesRinexLine (made_at mid l kept) mid l step after) → is_row step ≡ true → after.rows.rows
-      ≡ mid.rows.rows ++ mid.row ∷ [] → step ≡ (if is_last then Epoch else Row) → HasWrittenRow before encoder
-      line is_last after new
-  row-written after step is_last answer row taken kept opened read other same_row said fresh written takes is
-      added which =
+      → TakesRow (made_at mid l kept) is_last mid after) → after.rows.rows ≡ mid.rows.rows ++ mid.row ∷ []
+      → HasWrittenRow before encoder line is_last after new
+  row-written after is_last answer row taken kept opened read other same_row said fresh written takes added =
       let there = rows-there before encoder together opened in
       let holds = together.held (together.opened ∙ opened) in
       record {
-        takes = λ kept. subst (λ s. TakesRinexLine (made_at before line kept) before line s after) which
-            (taken-from before mid after line kept step is same (takes line kept (ap (λ ts. row_of ts line)
-            same.types ∙ read) other (row-known answer row mid.row encoder.rows mid.rows.rows said same_row
-            (there ∙ sym same.rows) ∙ ap not fresh)));
-        written = written ∙ ap (λ (rs : List ObservationRow). record encoder { rows = rs; rooms = new.rooms })
-            (rw (there, same_row, ← same.rows) (sym added));
+        takes = λ kept. taken-from before mid after line kept is_last same (takes line kept
+            (ap (λ ts. row_of ts line) same.types ∙ read) other (row-known answer row mid.row encoder.rows
+            mid.rows.rows said same_row (there ∙ sym same.rows) ∙ ap not fresh));
+        written = grind (arith, common_steps, there);
         held = subst (λ (rs : List ObservationRow). HaveRoom rs new.rooms)
             (sym (ap (λ (e : EncoderState). e.rows) written))
             (All-push (λ (r : ObservationRow). HasRoom r.name (length r.values) new.rooms) encoder.rows row
@@ -125,8 +121,7 @@ module _ {before after : RinexReader} {encoder new : EncoderState} {line : List 
       → MovesReader (made_at before line kept) before after × (is_open_stage after.stage ≡ true)
   row-moves kept is = rw is at (row.takes kept)
 
-  pub row-ends : (kept : Written) → is_last ≡ true
-      → CompletedEpoch (made_at before line kept) line before after
+  pub row-ends : (kept : Written) → is_last ≡ true → CompletedEpoch (made_at before line kept) before after
   row-ends kept is = rw is at (row.takes kept)
 
   module _ (together : BelongTogether before encoder) (opened : is_open_stage before.stage ≡ true) where
@@ -139,25 +134,21 @@ module _ {before after : RinexReader} {encoder new : EncoderState} {line : List 
 
     -- what the epoch's end asks for
     pub row-asked : is_last ≡ true → HasWholeEpoch after new
-    row-asked is =
-        let done = row-ends (record { index = 0; tail = None }) is in
-        grind (arith, common_steps, still-open)
+    row-asked is = grind (arith, common_steps, row-ends (record { index = 0; tail = None }) is, still-open)
 
 -- ---- the line of an epoch
 
 -- it moves the reader on where the epoch wants rows, and else completes it
-pub begun-open : (made : Made ObservationEpoch OpenEpoch) (line : List ℕ) (before after : RinexReader)
-    → BeginsEpoch made line before after → is_open_stage after.stage ≡ true → MovesReader made before after
-begun-open made line before after begins is = grind (arith, common_steps)
+pub begun-open : (made : Made ObservationEpoch OpenEpoch) (before after : RinexReader)
+    → BeginsEpoch made before after → is_open_stage after.stage ≡ true → MovesReader made before after
+begun-open made before after begins is = grind (arith, common_steps)
 
-pub begun-whole : (made : Made ObservationEpoch OpenEpoch) (line : List ℕ) (before after : RinexReader)
-    → BeginsEpoch made line before after → is_open_stage after.stage ≡ false
-    → CompletedEpoch made line before after
-begun-whole made line before after begins is = grind (arith, common_steps)
+pub begun-whole : (made : Made ObservationEpoch OpenEpoch) (before after : RinexReader)
+    → BeginsEpoch made before after → is_open_stage after.stage ≡ false → CompletedEpoch made before after
+begun-whole made before after begins is = grind (arith, common_steps)
 
-module _ {made : Made ObservationEpoch OpenEpoch} {line : List ℕ} {before after : RinexReader}
-    (encoder : EncoderState) {new : EncoderState} {full : Bool}
-    (begins : BeginsEpoch made line before after) (begun : new ≡ record encoder
+module _ {made : Made ObservationEpoch OpenEpoch} {before after : RinexReader} (encoder : EncoderState)
+    {new : EncoderState} {full : Bool} (begins : BeginsEpoch made before after) (begun : new ≡ record encoder
     { is_open = true; in_full = full; rows = []; pending = [] }) where
   pub begun-rows : new.rows ≡ after.rows.rows
   begun-rows = ap (λ (e : EncoderState). e.rows) begun ∙ sym begins.0

@@ -4,7 +4,7 @@ use Rattle.crx_filter.proofs.Words
 use Words.{common_steps, ℕ, zero, suc, ◌≡◌, ◌+◌, ◌<◌, ◌≤◌, max, ◌⊎◌, inl, inr, true, false, List, [], ◌∷◌}
 use Words.{◌++◌}
 use Words.{length, drop, refl, arith, ⊤, list_all, and_parts}
-use Words.{ReadLine, Content, Overlong, At, begins_epoch, is_event_line, not-true}
+use Words.{ReadLine, Content, Overlong, At, begins_epoch, is_event_line}
 use Words.{NeedsMore, Observation, ReadEpoch, ended_reading, warnings_in}
 use Words.{Item, Accepted, Warned, types_in_force, Reading, Stop, AtLines, Looking, looked_for}
 use Words.{after_fault}
@@ -129,13 +129,8 @@ none-found : (read : ℕ → List ReadLine → Reading ReadEpoch) (items : List 
     → (last : ℕ) × (looked_for read items number lines ≡ record { items = items; stop = Looking last })
 none-found read items number [] h = (number, refl)
 none-found read items number (Overlong ∷ lines) h = absurd (cc h)
-none-found read items number (Content line ∷ lines) h = grind (
-  arith,
-  common_steps,
-  none-found read items (number + 1) lines (and_parts (is_inside (Content line)) _ h).1,
-  and_parts,
-  not-true,
-)
+none-found read items number (Content line ∷ lines) h =
+    grind (arith, none-found read items (number + 1) lines (and_parts (is_inside (Content line)) _ h).1)
 
 inside-from : (n : ℕ) (lines : List ReadLine) → 0 < n → list_all is_inside (drop 1 lines) ≡ true
     → list_all is_inside (drop n lines) ≡ true

@@ -2,7 +2,7 @@
 -- writer's.
 use Rattle.crx_filter.proofs
 use proofs.Words.{ℕ, ◌≡◌, true, false, List, [], ◌∷◌, ◌++◌, map, Option, None, refl, ap, sym, ◌∙◌}
-use proofs.Words.{subst, arith, AllByRecursion, flat_map, printed_epoch, list_all, and_parts, by_bool}
+use proofs.Words.{subst, arith, AllByRecursion, flat_map, printed_epoch, list_all}
 use proofs.Words.{InputLine, lines_of, lines_text, common_steps}
 use proofs.Words.{as_read, version_line, program_line, Epoch, FileUnit, IsWholeEpoch}
 use proofs.Words.{Choices, is_date, Item, is_at_start, records_left}
@@ -81,16 +81,13 @@ left-before : (choices : Choices) (kept block : List (Item Epoch)) → AreInPlac
     → BeginsAnew choices block kept → (kept ≡ [] → records_left block ≡ 0) → records_left block ≡ 0
 left-before choices [] block h anew closed = closed refl
 left-before choices (item ∷ []) block h anew closed = grind (arith, common_steps)
-left-before choices (newest ∷ item ∷ items) block h anew closed = left-before choices (item ∷ items) block
-    (rest-in_place (newest ∷ []) _ h) (begins-rest choices block newest (item ∷ items) anew) (λ e. absurd
-    (cc e))
+left-before choices (newest ∷ item ∷ items) block h anew closed =
+    grind (arith, common_steps, rest-in_place, begins-rest, left-before choices (item ∷ items) block)
 
 lines-allowed : (lines : List InputLine) → list_all may_come_instead lines ≡ true
     → list_all begins_no_event (map as_read lines) ≡ true
 lines-allowed [] e = refl
-lines-allowed (line ∷ lines) e =
-    let both = and_parts (may_come_instead line) (list_all may_come_instead lines) e in
-    grind (arith, by_bool, lines-allowed lines both.1)
+lines-allowed (line ∷ lines) e = grind (arith, common_steps, lines-allowed lines)
 
 -- its units up to the next stretch, or the end, are whole
 next-closed : (choices : Choices) (next : List (Item Epoch)) (later : List OwnStretch)
@@ -186,12 +183,11 @@ own-rest file choices expanding damaged dated skips d =
     let k = rest-kept (units_in d.before) (stretches_of_own file choices damaged dated d) (text_of_own file choices damaged dated d)
     expanding skips (own-damage file choices damaged dated d) in
     let same = ap (λ t. expanded t expanding) d.text in
-    record {
-      lines = k.lines;
-      saves = saves-own choices.every d.before d.stretches k.lines (good file choices damaged dated d) k.saves;
-      warnings = k.warnings;
-      output = cc (same, k.output, units-printed d.before);
-      messages = cc (same, k.messages);
-      status = cc (same, k.status);
-      fault = cc (same, k.fault);
-    }
+    grind (
+      arith,
+      common_steps,
+      k,
+      same,
+      saves-own choices.every d.before d.stretches k.lines (good file choices damaged dated d) k.saves,
+      units-printed d.before,
+    )

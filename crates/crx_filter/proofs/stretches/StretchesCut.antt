@@ -2,7 +2,7 @@
 -- units, and those that come in the stretches.
 use Rattle.crx_filter.proofs.Words
 use Words.{common_steps, arith, ℕ, ◌≡◌, ◌⊎◌, inl, inr, true, List, [], ◌∷◌, ◌++◌, map, refl, Option}
-use Words.{◌∙◌, append_assoc, append-nil, AllByRecursion, list_all, drop-append_seam, Piece}
+use Words.{append-nil, AllByRecursion, list_all, drop-append_seam, Piece}
 use Words.{pieces_of, lines_of, lines_text, Content, as_read, Epoch, Choices, Item}
 use Words.{header_has_ended, lines_after, OfCopiedLines, HaveNoReturns, AreInPlace, Stretch}
 use Rattle.crx_filter.proofs.damage.{ItemTexts.{rest-in_place, text-parts}, DamagedText.each-ended}
@@ -10,7 +10,7 @@ use Rattle.crx_filter.proofs.damage.{DamagedText.{lines-append, front-cut}, Text
 use Rattle.crx_filter.proofs.reading.Each.{header-append, all-parts}
 use Rattle.crx_filter.proofs.wayback.{Cut.{IsClean, CanStand}, Reading.lines_back, Units.units_in, WayBack.lines-clean}
 use Rattle.crx_filter.specs.{meaning.Stretches.stretches_lines, OwnStretches.{OwnStretch, up_to_own_end, up_to_own_next}}
-use Rattle.crx_filter.specs.OwnStretches.{with_own, own_text, IsOwnStretch, AreOwnStretches}
+use Rattle.crx_filter.specs.OwnStretches.{with_own, own_text, AreOwnStretches}
 
 -- ---- the units of a file, and those before some of them
 
@@ -81,10 +81,4 @@ stretches-cut choices before (s ∷ later) h good header =
     let here = good-up_to next later good in
     let block-header = header-append s.lost before header in
     let rest = stretches-cut choices next later h.1 good (header-append s.kept block block-header) in
-    rw (kept-lines choices s.kept block here.in_place block-header) (ended-cut s.instead (lines_on choices.every s.kept block)
-    (own_text choices next later) (kept-clean choices s.kept block here) (grind (
-      arith,
-      common_steps,
-      IsOwnStretch.ended h.0,
-    ))
-    ∙ rw (rest, append_assoc) refl)
+    grind (arith, common_steps, block, next, here, block-header, rest, kept-lines, ended-cut, kept-clean)

@@ -1,6 +1,6 @@
 -- The reading of a text that is damaged in stretches: after each stretch the units that are kept, exactly.
 use Rattle.crx_filter.proofs
-use proofs.Words.{arith, ◌≡◌, true, List, [], ◌∷◌, ◌++◌, map, refl, ◌∙◌, subst, append_assoc, append-nil}
+use proofs.Words.{arith, ◌≡◌, true, List, [], ◌∷◌, ◌++◌, map, refl, append_assoc, append-nil}
 use proofs.Words.{AllByRecursion, flat_map, flat_map-append, ReadLine, Content, Epoch, FileUnit, IsWholeEpoch}
 use proofs.Words.{printed_epoch, Observation, IsGood, ReadEpoch, Item, Accepted, Warned, header_has_ended}
 use proofs.Words.{records_left, types_in_force, reading_from, compact_place, printed_items, IsBetweenUnits}
@@ -91,15 +91,7 @@ one-stretch before s later so_far items sound come =
     (up_to_next before s) later next.in_place) h.written first.stops in record {
       first = first;
       kept = k;
-      come = subst (λ (is : List (Item ReadEpoch)). WereReadAs ((so_far ++ s.instead) ++ map Content s.lines) is (up_to_next before s))
-          (simp append_assoc) (record {
-            stops = k.stops;
-            between = record {
-              header = (k.like).header ∙ next.header;
-              none = (k.like).left ∙ next-closed (up_to_next before s) later next;
-            };
-            types = (k.like).types;
-          });
+      come = grind (arith, common_steps, next, header, k, next-closed (up_to_next before s) later next);
     }
 
 -- ---- what is written for it
@@ -162,8 +154,7 @@ stretches-read before (s ∷ later) so_far items sound come =
     simp append_assoc in
     record {
       more = rest.more ++ own;
-      come = rw (append_assoc rest.more own items) (subst (λ ls. WereReadAs ls (rest.more ++ (own ++ items))
-          (with_stretches before (s ∷ later))) lines rest.come);
+      come = grind (arith, common_steps, own, rest, lines);
       saves = λ good.
           let again : AreGoodEpochs (rest.more ++ (own ++ items)) = rw append_assoc at good in (
             epochs_of one.first.news,

@@ -1,9 +1,9 @@
 -- What an expansion that skips faults writes and reports of a text that is damaged in stretches.
 use Rattle.crx_filter.proofs
-use proofs.Words.{ℕ, ◌≡◌, ◌+◌, true, List, [], ◌++◌, map, reverse, None, refl, subst, arith}
+use proofs.Words.{ℕ, ◌≡◌, ◌+◌, true, List, [], ◌++◌, map, reverse, None, refl, arith}
 use proofs.Words.{append-nil, lines_of, lines_text, ReadLine, Content, as_read, Epoch, FileUnit, ReadEpoch}
 use proofs.Words.{Choices, Item, Reading, reading_from, ended_reading, compact_place, expanded, common_steps}
-use proofs.Words.{whole_compact, printed_items, warnings_in, notices_text, expanded_lines, ItemsAreRead, FilterResult, Stretch}
+use proofs.Words.{whole_compact, printed_items, warnings_in, notices_text, expanded_lines, FilterResult, Stretch}
 use proofs.Words.{with_stretches}
 use Rattle.crx_filter.specs.meaning.{Stretches.{HasStretches, KeepsTheRest, stretches_lines}, UnitsAndText.as_items}
 use Rattle.crx_runs.specs.meaning.Results.{status_after}
@@ -55,8 +55,7 @@ module _ (before : List (FileUnit Epoch)) (stretches : List Stretch) (damaged : 
       let text : expanded_lines (with_warnings end.warnings items) ≡ printed_items (as_items before) ++ expanded_lines more =
       cc (lines-warned end.warnings items, lines-append more front.items, printed-read front.items, front.known) in
       record {
-        good = epochs-good items (subst (ItemsAreRead compact_place) (open-items items r there.stops)
-            (items-read compact_place true 3 lines));
+        good = grind (arith, common_steps, items, r, epochs-good, open-items, items-read);
         end = end;
         is = rw (whole, text, append-nil) refl;
       }

@@ -19,8 +19,7 @@ compact-stands items lines unit count e =
     subst P e (of-unit P tt (λ offset fault. tt) compact_beginning items lines
     (λ line rest is off good. rw is (refl, off, good))
     (λ line rest is on some good. rw is (refl, on, some, good))
-    (λ on none. of-compact P tt (λ offset fault. tt) (types_in_force items) (raws_kept items) lines
-    (λ line rest is event counted. rw is (refl, on, none, event, counted)) (λ read n e. (on, none, e))))
+    (λ on none. grind (arith, common_steps, P, of-compact P tt)))
 
 -- ---- all that were accepted
 

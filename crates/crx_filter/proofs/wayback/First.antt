@@ -1,9 +1,9 @@
 -- The two lines that compact text begins with are read, and can be cut off again.
-use Rattle.crx_filter.proofs.Words.{common_steps, ℕ, zero, suc, ◌≡◌, ◌≢◌, true, false, List, [], ◌∷◌, ◌++◌}
+use Rattle.crx_filter.proofs.Words.{common_steps, ℕ, zero, suc, ◌≡◌, ◌≢◌, true, false, List, [], ◌∷◌}
 use Rattle.crx_filter.proofs.Words.{Bool, drop, replicate, length, refl, arith, length-append, Ok}
 use Rattle.crx_filter.proofs.Words.{list_all}
 use Rattle.crx_filter.proofs.Words.{drop-append_seam, All-nil, ne_eqb, and_parts, HasNoFeed, ends_with_return}
-use Rattle.crx_filter.proofs.Words.{is_printable, CRINEX_PROGRAM_LABEL, is_date}
+use Rattle.crx_filter.proofs.Words.{is_printable, is_date}
 use Rattle.crx_filter.proofs.Words.{version_line, program_line, crinex_version, crinex_program}
 use Rattle.crx_filter.proofs.Words.{ap, ◌∙◌, None, Done, by_bool, bytes_eq, columns, ◌&&◌, ReadLine, Content}
 use Rattle.crx_filter.proofs.Words.{Overlong}
@@ -14,7 +14,6 @@ use Rattle.crx_header.specs.meaning.Label.{has_label}
 use Rattle.crx_header.specs.declared.crinex.TheConstants.{CRINEX_VERSION, CRINEX_VERSION_LABEL}
 use Rattle.crx_compact.proofs.Characters.{list_all-append, all-take}
 use Rattle.{crx_base.specs.declared.limits.TheConstants.DATE_LIMIT, crx_filter.proofs.wayback.Cut.IsClean}
-use Rattle.crx_header.specs.declared.crinex.TheConstants.{CRINEX_PROGRAM}
 use Rattle.{crx_header.specs.meaning.CompactHeader.left_justified, crx_lines.proofs.PieceLemmas.NoFeed}
 use Rattle.std.{proofs.{Common.rules, lemmas.List.length-take-le}, specs.Prelude.nat_le}
 
@@ -67,8 +66,7 @@ program-clean date h =
       one_line = printable-no_feed (program_line date) all;
       no_return = printable-no_return (program_line date) all;
       short =
-          let first = length-append CRINEX_PROGRAM (left_justified 20 date ++ CRINEX_PROGRAM_LABEL) in
-          omega (arith, date-width date, length-append (left_justified 20 date) CRINEX_PROGRAM_LABEL);
+          grind (arith, common_steps, length-append, date-width);
     }
 
 pub version-clean : IsClean version_line

@@ -43,5 +43,4 @@ whole-next every before epoch h = whole-since every (Accepted (Observation epoch
 pub epoch-stands : (every : Option ℕ) (before : List (Item Epoch)) (epoch : Epoch) → AreInPlace (Accepted
     (Observation epoch) ∷ before) → LinesCanStand (marked_now every before epoch) (marked_epochs every before)
 epoch-stands every before epoch h =
-    let m = marked_now every before epoch in
-    lines-stand (types_in_force before) _ _ (marked_epochs every before) (whole-next every before epoch h)
+    grind (arith, common_steps, lines-stand (types_in_force before), whole-next every before epoch h)

@@ -34,9 +34,7 @@ pub of-own : {E : Type 0} (OfEpoch : E → List ReadLine → Type 0) (P : List �
     → AllByRecursion P (copied items)
 of-own OfEpoch P [] lines h all = tt
 of-own OfEpoch P (item ∷ before) lines (front, own, is, mine, others) all =
-    let both = all-parts (OfContent P) front own (rw is at all) in
-    let rest = of-own OfEpoch P before front others both.0 in
-    grind (arith, common_steps)
+    grind (arith, common_steps, all-parts (OfContent P) front own, of-own OfEpoch P before front others)
 
 -- and the lines that are copied have no more bytes 13
 pub own-counted : {E : Type 0} (OfEpoch : E → List ReadLine → Type 0) (items : List (Item E))
@@ -44,9 +42,7 @@ pub own-counted : {E : Type 0} (OfEpoch : E → List ReadLine → Type 0) (items
     → AreLinesOfItems OfEpoch items lines → returns_in (copied items) ≤ returns_read lines
 own-counted OfEpoch [] lines h = omega arith
 own-counted OfEpoch (item ∷ before) lines (front, own, is, mine, others) =
-    let rest = own-counted OfEpoch before front others in
-    let both = read-append front own in
-    grind (arith, common_steps)
+    grind (arith, common_steps, read-append, own-counted OfEpoch before front others)
 
 -- ---- of RINEX
 
@@ -59,5 +55,4 @@ pub whole-copied : (P : List ℕ → Type 0) (skip : Bool) (lines : List ReadLin
     → (whole_rinex skip lines).fault ≡ None
     → AllByRecursion (OfContent P) lines → OfCopiedLines P (whole_rinex skip lines).items
 whole-copied P skip lines f all =
-    let items = (whole_rinex skip lines).items in
-    of-copied P items (of-own AreRinexLines P items lines (file-accounted skip lines f) all)
+    grind (arith, common_steps, of-copied P, of-own AreRinexLines P, file-accounted skip lines f)

@@ -72,15 +72,8 @@ read-units file h = search (all-accepted, make-file, whole-settled, whole-copied
 
 units-of_standard : (file : List ℕ) → IsStandard file
     → (units : List (FileUnit Epoch)) × MakeAFile units × (file ≡ rinex_text units)
-units-of_standard file h = (
-  units_in (WholeReading.items (whole_of file)),
-  read-units file h,
-  cc (
-    plain-text file h.plain,
-    h.given_back,
-    all-accepted file,
-  ),
-)
+units-of_standard file h =
+    grind (arith, common_steps, read-units file h, plain-text file h.plain, all-accepted file)
 
 pub standard-by_units : (file : List ℕ) → IsStandardByUnits file
 standard-by_units file =

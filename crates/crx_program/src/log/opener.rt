@@ -3,16 +3,14 @@
 ghost use Rattle.std.specs.Prelude.{◌≡◌, [], None, Some, IfOk, is_some, true};
 ghost use Rattle.std.specs.Io.Buffered.{writer_buffer, writer_inner};
 ghost use Rattle.crx_program.specs.meaning.Calls.{options_to_read, with_call};
+ghost use Rattle.crx_program.specs.meaning.Jobs.{options_of_target};
 ghost use Rattle.crx_program.specs.meaning.Streams.{IsFreshlyOpened};
 
-use super::{FileBuffer, Log, Logged, OUTPUT_BUFFER, Opening, SourceFile, TargetFile};
-use crate::late_writer::LateWriter;
+use super::{FileBuffer, Log, Logged, SourceFile, TargetFile};
 use crx_lines::{Std, Uninterrupted, open_file};
 use crx_runs::UntilFailure;
-use std::alloc::Global;
 use std::fs::OpenOptions;
 use std::io;
-use std::io::{BufWriter, Write};
 use std::rt::Files;
 
 /// The files of a machine, and a log of the calls that opened one. Who has this and not the machine opens no
@@ -34,14 +32,6 @@ impl<'a, H: Files> Opener<'a, H> {
         }
     }
 
-    /// Opens the file of a name, as the options say.
-    fn open(&mut self, how: &OpenOptions, name: &str) -> io::Result<H::File>
-        ensures calls { self.new.log.calls ≡ with_call self.old.log.calls name.now how.now }
-    {
-        self.log.add_call(name.as_bytes(), how);
-        how.open(self.files, name)
-    }
-
     /// Opens the file of a name for reading. This call and [`Opener::open_to_write`] alone make a device that
     /// has a name: the one that they were given, and hand on to the machine.
     pub fn open_to_read(&mut self, name: &str) -> io::Result<SourceFile<H::File>>
@@ -54,40 +44,37 @@ impl<'a, H: Files> Opener<'a, H> {
         how.read(true);
         self.log.add_call(name.as_bytes(), &how);
         let inner = open_file(self.files, name)?;
-        Ok(Logged {
-            inner,
-            log: Log::new(),
-            opening: Opening::by(name, None),
-        })
+        let mut device = Logged::new(inner);
+        device.opening.name.add(name.as_bytes());
+        Ok(device)
     }
 
-    /// Opens the file of a name for writing, as the options say. What is written goes through this buffer.
+    /// Opens the file of a name for writing: one that exists is emptied where `force` says so, and else the
+    /// call fails where there is one. What is written goes through this buffer.
     pub fn open_to_write(
         &mut self,
-        how: OpenOptions,
+        force: bool,
         name: &str,
         buffer: FileBuffer<H::File>,
     ) -> io::Result<TargetFile<H::File>>
         requires empty { writer_buffer buffer ≡ [] }
-        ensures calls { self.new.log.calls ≡ with_call self.old.log.calls name.now how }
-        ensures opened { IfOk result (IsFreshlyOpened name.now (Some how)) }
+        ensures calls { self.new.log.calls ≡ with_call self.old.log.calls name.now (options_of_target force) }
+        ensures opened { IfOk result (IsFreshlyOpened name.now (Some (options_of_target force))) }
         ensures empty { IfOk result (λ device. writer_buffer device.inner.inner ≡ []) }
         ensures file { IfOk result (λ device. is_some (writer_inner device.inner.inner).writer ≡ true) }
     {
-        let file = self.open(&how, name)?;
+        let mut how = OpenOptions::new();
+        how.write(true);
+        how.create(force);
+        how.truncate(force);
+        how.create_new(!force);
+        self.log.add_call(name.as_bytes(), &how);
+        let file = how.open(self.files, name)?;
         let mut filled = buffer;
-        *filled.get_mut() = LateWriter::of(UntilFailure::new(Uninterrupted::new(file)));
-        Ok(Logged {
-            inner: Std::new(filled),
-            log: Log::new(),
-            opening: Opening::by(name, Some(how)),
-        })
+        filled.get_mut().writer = Some(UntilFailure::new(Uninterrupted::new(file)));
+        let mut device = Logged::new(Std::new(filled));
+        device.opening.name.add(name.as_bytes());
+        device.opening.how = Some(how);
+        Ok(device)
     }
-}
-
-/// A buffer for a file that isn't made yet.
-pub fn file_buffer<F: Write + Drop>(alloc: Global) -> io::Result<FileBuffer<F>>
-    ensures empty { IfOk result (λ buffer. writer_buffer buffer ≡ []) }
-{
-    BufWriter::with_capacity(alloc, OUTPUT_BUFFER, LateWriter::none())
 }

@@ -1,9 +1,10 @@
 -- Lines that are written one after another, each with LF.
-use Rattle.std.proofs.Common.{◌≡◌, ℕ, ◌+◌, List, [], ◌∷◌, ◌++◌, length, take, drop, Some, sym, ap, ◌∙◌}
+use Rattle.std.proofs.Common.{◌≡◌, ℕ, ◌+◌, List, [], ◌∷◌, ◌++◌, take, drop, Some, sym, ap, ◌∙◌}
 use Rattle.std.proofs.{Common.{arith, append_assoc, length-append}, Math.Seq.take-append-add}
 use Rattle.std.{proofs.lemmas.List.take-append-le, specs.Prelude.slice_get}
 use Rattle.crx_base.specs.meaning.Lines.{lines_text}
 use Rattle.crx_runs.{proofs.DeviceSpans.Joins, specs.meaning.Spans.{Device, TookAll, TookPart}}
+use Rattle.std.proofs.lemmas.Grind.{common_steps}
 
 -- the first of some lines, and the rest
 pub first-and-rest : (lines : List (List ℕ)) (line : List ℕ)
@@ -22,11 +23,4 @@ pub part-after : {first second both : Device} → Joins first second both → (w
 part-after {both = both} j written text rest all whole a b =
     let n = b.0.0 in
     let front = ap (take _) whole ∙ take-append-add written _ n ∙ ap (λ (t : List ℕ). written ++ t)
-    (take-append-le n text rest (omega (arith, b.0.1))) in (
-      (
-        length written + n,
-        omega (arith, ap length whole, length-append written (text ++ rest), length-append text rest),
-        grind arith,
-      ),
-      grind arith,
-    )
+    (take-append-le n text rest (omega (arith, b.0.1))) in grind (arith, common_steps, n, length-append)

@@ -3,7 +3,6 @@ use Rattle.std.proofs.Common.{ℕ, List, [], ◌∷◌, ap, sym, refl, drop, len
 use Rattle.std.proofs.lemmas.Int.{to_z-of_z}
 use Rattle.std.proofs.lemmas.List.{get_or_default, set-set, set-get_or}
 use mir.Val.{SFits, bool_byte}
-use Rattle.crx_base.specs.Padded.{line_in}
 use Rattle.crx_text.proofs.FirstCells.{next_cell, next_within}
 use Rattle.crx_text.specs.meaning.Codes.{after_cell, first_cell}
 use Rattle.crx_text.specs.declared.code.Code.TheVariants.{Step}
@@ -11,6 +10,7 @@ use Rattle.crx_compact.proofs.Words.{ArcTail, IfSome, None, OBSERVATION_WIDTH, O
 use Rattle.crx_compact.proofs.Words.{code_of, is_some, slice_index_or, slice_set, value_of_code, ℤ}
 use Rattle.crx_compact.specs.Cells.{IsCellRead}
 use Rattle.crx_compact.proofs.cells.read_cell_fast.Goals as goal
+use Rattle.std.proofs.lemmas.Grind.{common_steps}
 
 -- what a cell takes with its blank, where one is in the line
 taken : (line : List ℕ) (at n len more : ℕ) → at ≤ length line → n ≡ length (first_cell (drop at line))
@@ -30,12 +30,7 @@ nothing [] none = refl
 nothing (x ∷ xs) none = absurd (omega (arith, none))
 
 pub returns-then-characters-eq0 : goal.returns-then-characters-eq0
-returns-then-characters-eq0 c =
-    let counted = c.cell_length-characters.ensures.value (omega arith) in
-    let none = nothing (first_cell (drop c.args.at (line_in c.args.line)))
-    (sym c.if-characters-eq0.true ∙ counted) in
-    let next = taken _ _ _ _ _ c.requires.before counted c.len.ensures.value c.from.ensures in
-    search (rules, set-set, set-get_or, none, next.0, next.1)
+returns-then-characters-eq0 c = grind (arith, common_steps, set-set, set-get_or)
 
 -- a difference, and the same as it is held, whose value is there
 stepped : (before : List (Option ArcTail)) (place : ℕ) (text : List ℕ) (number held : ℤ) (answer : Option ℤ)

@@ -1,11 +1,11 @@
-use Rattle.crx_compact.proofs.Words.{rules, Err, ap, ◌≡◌, ◌<◌, arith, drop, length, subst, take}
+use Rattle.crx_compact.proofs.Words.{rules, Err, ◌≡◌, arith, drop, subst, take}
 use Rattle.crx_compact.proofs.Words.{err_from_is_err_and, length-take-le, value_at_place, cells_of}
 use Rattle.crx_compact.proofs.CellsRead.{first-read, first-refused, read-none, read-next, next-refused}
 use Rattle.crx_compact.proofs.{Words.cells_read, CellsRead.read-all}
-use Rattle.crx_compact.proofs.cells.read_cells.Goals.{in-Some, in-None+in_ok-length-in-None}
 use Rattle.crx_base.specs.Padded.{line_in}
 use Rattle.std.proofs.lemmas.List.{take_rest}
 use Rattle.crx_compact.proofs.cells.read_cells.Goals as goal
+use Rattle.std.proofs.lemmas.Grind.{common_steps}
 
 pub loop-index-init : goal.loop-index-init
 loop-index-init c = read-none (take c.args.count c.args.arcs.now) (line_in c.args.line)
@@ -22,20 +22,7 @@ returns-in_err-length-in-None-clause-err c =
     at c.in_err-length-in-None.ensures.err))))
 
 pub loop-index-preserved : goal.loop-index-preserved
-loop-index-preserved c =
-    let within : c.loop-index.index < length (take c.args.count c.args.arcs.now) =
-    omega (arith, length-take-le c.args.count c.args.arcs.now c.requires.fitting, c.loop-index-test.true) in
-    elim c.match-read_cell_fast.branch [
-      | in-Some w ↦
-          rw w.at-is (read-next _ _ _ _ _ c.loop-index.invariant within
-          (first-read c.args.count _ _ _ c.loop-index-test.true w.in-Some.ensures.some)
-          (ap (take c.args.count) w.arcs-is))
-      | in-None+in_ok-length-in-None w ↦
-          rw w.at-is (read-next _ _ _ _ _ c.loop-index.invariant within
-          (first-read c.args.count _ _ _ c.loop-index-test.true
-          (rw (w.in-None.ensures.none, take_rest w.line.result.now c.loop-index.at, w.line.ensures.value)
-          at w.in_ok-length-in-None.ensures.ok)) (ap (take c.args.count) w.arcs-is))
-    ]
+loop-index-preserved c = grind (arith, common_steps, length-take-le, read-next, first-read)
 
 pub returns-clause-ok : goal.returns-clause-ok
 returns-clause-ok c = search (rules, length-take-le, c.requires.fitting, read-all, c.loop-index.invariant)

@@ -14,6 +14,7 @@ use Rattle.crx_compact.proofs.{Results.from_some, placing.Placed.placed-asked}
 use Rattle.crx_compact.proofs.history.read_names.Goals.{After-unwrap, Joined-place, in-Some-place}
 use Rattle.crx_compact.proofs.history.read_names.Goals.{in-None+in_ok-prepare_names-in-None}
 use Rattle.crx_compact.proofs.history.read_names.Goals as goal
+use Rattle.std.proofs.lemmas.Grind.{common_steps}
 
 -- whether a satellite has come already
 come-already : (before rows : List RowTail) (found : List Satellite) (name : List ℕ) (is_new b : Bool)
@@ -24,10 +25,7 @@ come-already before rows found name is_new b made answer is = search (rules, amo
 
 bad : (c : goal.In_default)
     → satellites_named c.args.types.now [] (names_in c.args.text.now c.args.count) ≡ Err BadSatellite
-bad c =
-    named-bad c.args.types.now (names_in c.args.text.now c.args.count) c.loop-index.index
-    c.loop-index.invariant.0 c.loop-index.invariant.1 c.identifier-name.result (search (rules, next-name))
-    (sym c.in_default.ensures.value)
+bad c = grind (arith, common_steps, named-bad, next-name)
 
 pub returns-in_default : goal.returns-in_default
 returns-in_default c =
@@ -70,9 +68,7 @@ placed c = elim c.match-place.branch [
   | in-None+in_ok-prepare_names-in-None w ↦ rw (w.is_new-is, w.satellites-is) (
     search (rules, placed-asked, from_some, w.prepare_names.ensures.asked.asked),
     inl w.in_ok-prepare_names-in-None.ensures.good,
-    λ name count has. subst (HasRoom name count) (sym w.place-in-None.ensures.rooms)
-        (w.prepare_names.ensures.asked.asked.rooms name count (subst (HasRoom name count) (sym
-        c.place.ensures.rooms) has)),
+    λ name count has. grind (arith, common_steps),
   )
 ]
 
@@ -84,12 +80,7 @@ returns-then-not-is_new c =
     found.0 found.1 c.identifier-name.result (search (rules, next-name))
     (sym c.in-Some.ensures.value) (come-already c.args.satellites.now.rest c.loop-index.satellites.rows
     found.0 c.identifier-name.result c.match-place.is_new false found.2 come.0.answer c.if-not-is_new.true) in
-    record {
-      ok = search rules;
-      err = refused-by RepeatedSatellite _ _ _ (λ out. cc) twice
-          (λ name count has. unasked _ _ twice found.7 name count (unasked _ _ twice come.1 name count has));
-      rooms = λ name count has. come.2 name count (found.5 name count has);
-    }
+    grind (arith, common_steps, found, come, twice, refused-by RepeatedSatellite, unasked)
 
 -- what is stored of the satellite that has come
 stored : (c : After-unwrap) → HasCome c.identifier-name.result c.loop-index.satellites
@@ -101,12 +92,7 @@ stored c come = come-stored _ _ _ _ _ come (ap (λ n. n - 1) c.placed-last.ensur
     (rw (c.unwrap.ensures) at c.entry_mut.ensures.there)
 
 pub entry_mut-requires : goal.entry_mut-requires
-entry_mut-requires c =
-    let placed = (placed (goal.at.entry_mut-requires c).Joined-place).0 in
-    record {
-      within = last-within _ _ _ _ (placed.come c.if-not-is_new.false) (ap (λ n. n - 1)
-          c.placed-last.ensures.value);
-    }
+entry_mut-requires c = grind (arith, common_steps, last-within)
 
 pub resize-requires : goal.resize-requires
 resize-requires c =
@@ -146,8 +132,7 @@ loop-index-preserved c =
     let kept : KeepsRooms c.loop-index.satellites.rooms after.rooms = λ other count has.
     subst (HasRoom other count) same (placed.2 other count has) in (
       found.0 ++ satellite ∷ [],
-      named-more c.args.types.now (names_in c.args.text.now c.args.count) place found.0 found.1
-          name (search (rules, next-name)) (sym c.in-Some.ensures.value) fresh,
+      grind (arith, common_steps, found, place, name, fresh, named-more, next-name),
       come.rows,
       come.awaited,
       All-push IsAwaitedSatellite found.0 satellite found.4 (awaited-one name c.args.text.now (42 + 3 * place)

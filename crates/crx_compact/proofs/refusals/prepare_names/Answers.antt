@@ -1,7 +1,7 @@
-use Rattle.crx_compact.proofs.Words.{arith, rules, ◌≡◌, ◌<◌, ◌+◌, ◌*◌, ◌++◌, ◌∷◌, [], not, true, false, Bool}
+use Rattle.crx_compact.proofs.Words.{arith, rules, ◌≡◌, ◌+◌, ◌*◌, ◌++◌, ◌∷◌, [], not, true, false, Bool}
 use Rattle.crx_compact.proofs.Words.{ℕ, List, map, refl, sym, ap, subst, ◌∙◌}
 use Rattle.crx_compact.proofs.Words.{BadSatellite, RepeatedSatellite, Satellite, bytes_eq, columns, is_among}
-use Rattle.crx_compact.proofs.Words.{names_in, slice_set}
+use Rattle.crx_compact.proofs.Words.{names_in}
 use Rattle.crx_compact.proofs.Words.{false≢true, same_Some, inr, length-set, map-append, types_of_satellite}
 use Rattle.crx_compact.proofs.Words.{HasRoom}
 use Rattle.crx_compact.proofs.{Marked.{marked-more, unmarked}, NamesCome.refused-by, Results.by_ok}
@@ -11,13 +11,12 @@ use Rattle.crx_compact.proofs.Naming.{names-room, names-room-more, next-name}
 use Rattle.std.specs.{List.list_any}
 use Rattle.crx_header.proofs.Apart.{among-map}
 use Rattle.crx_text.proofs.EachPlace.{drop_all-each_place, each_place-more}
-use Rattle.crx_compact.specs.Refusals.{AreMarked, mark_place}
-use Rattle.std.proofs.lemmas.Option.{none-some}
 use Rattle.crx_compact.proofs.refusals.prepare_names.Goals.{in-Some-types_of_satellite+else-is_err}
 use Rattle.crx_compact.proofs.refusals.prepare_names.Goals.{in_default-types_of_satellite}
 use Rattle.crx_compact.proofs.refusals.prepare_names.Goals.{then-marks-mark+else-loop-before-test}
 use Rattle.crx_compact.proofs.refusals.prepare_names.Goals.{else-marks-mark}
 use Rattle.crx_compact.proofs.refusals.prepare_names.Goals as goal
+use Rattle.std.proofs.lemmas.Grind.{common_steps}
 
 -- ---- the first fault
 
@@ -51,10 +50,7 @@ returns-then-eq-clause-err c =
     (stands text index name found.0 true found.2 among)) (λ name count has. has)
 
 pub loop-before-preserved : goal.loop-before-preserved
-loop-before-preserved c =
-    any-more (λ (n : List ℕ). bytes_eq n c.identifier-name.result) c.loop-before.before
-    (λ k. columns c.args.text.now (42 + 3 * k) 3) c.loop-before.invariant
-    (search (rules, c.identifier.ensures.value, c.eq.ensures, c.if-eq.false))
+loop-before-preserved c = grind (arith, common_steps, any-more)
 
 pub loop-index-preserved : goal.loop-index-preserved
 loop-index-preserved c =
@@ -74,15 +70,7 @@ loop-index-preserved c =
           (search (rules, next-name)) (sym c.in-Some.ensures.value)
           (stands text index name found.0 false found.2 fresh),
       search (rules, each_place-more, columns, c.identifier-name.ensures.value, map-append),
-      rw (c.place_of_mark-mark.ensures.value)
-          (subst (λ (names : List (List ℕ)).
-          AreMarked names (slice_set c.loop-index.marks (mark_place name) true))
-          (ap (λ (n : List ℕ). names_in text index ++ n ∷ []) c.identifier-name.ensures.value
-          ∙ sym (each_place-more index (λ k. columns text (42 + 3 * k) 3)))
-          (marked-more (names_in text index) name c.loop-index.marks
-          (subst (λ n. mark_place name < n) (sym found.4)
-          (subst (λ n. n < 2048) c.place_of_mark-mark.ensures.value c.place_of_mark-mark.ensures.within))
-          found.3)),
+      grind (arith, common_steps, found, name, text, index, each_place-more, marked-more),
       length-set c.loop-index.marks c.place_of_mark-mark.result true ∙ found.4,
     )
 
@@ -92,10 +80,8 @@ returns-clause-good c = search (rules, c.loop-index.invariant, named-all, drop_a
 -- ---- room
 
 pub returns-then-is_err-clause-asked : goal.returns-then-is_err-clause-asked
-returns-then-is_err-clause-asked c = record {
-  asked = asked-more c.loop-place.invariant.asked c.prepare.ensures.asked.asked;
-  room = tt;
-}
+returns-then-is_err-clause-asked c =
+    grind (arith, common_steps, asked-more c.loop-place.invariant.asked c.prepare.ensures.asked.asked)
 
 pub returns-then-is_err-clause-err : goal.returns-then-is_err-clause-err
 returns-then-is_err-clause-err c = record {
@@ -143,7 +129,6 @@ loop-place-preserved c =
           rw w.satellites-is (record {
             asked = so_far.asked;
             room = names-room-more types c.args.text.now c.loop-place.place before.rooms before.rooms
-                so_far.room (λ name count has. has) (λ cells some. absurd (none-some cells
-                (w.in_default-types_of_satellite.ensures.value ∙ ap (types_of_satellite types) is ∙ some)));
+                so_far.room (λ name count has. has) (λ cells some. grind (arith, common_steps, types, is));
           })
     ]

@@ -1,10 +1,10 @@
-use Rattle.crx_compact.proofs.Words.{rules, ◌≡◌, ◌∙◌, ◌-◌, ◌*◌, ◌++◌, List, ℕ, ap, arith, drop, length, min}
-use Rattle.crx_compact.proofs.Words.{replicate, subst, sym, take, length-take-le, take_at, columns, patched}
+use Rattle.crx_compact.proofs.Words.{◌≡◌, ◌∙◌, ◌-◌, ◌*◌, ◌++◌, List, ℕ, ap, arith, drop, length, min}
+use Rattle.crx_compact.proofs.Words.{replicate, take, length-take-le, take_at, columns}
 use Rattle.crx_compact.proofs.{Marks.patched-kept, SoundTexts.columns-held}
 use Rattle.std.proofs.lemmas.List.{take_min}
 use Rattle.crx_text.proofs.Blanks.{columns_are}
-use Rattle.crx_compact.specs.HeldRows.{AreHeldFlags}
 use Rattle.crx_compact.proofs.satellite.patch_indicators.Goals as goal
+use Rattle.std.proofs.lemmas.Grind.{common_steps}
 
 put-columns : (all : ℕ) (old held text : List ℕ) (first : ℕ) → length old ≡ all → first ≡ min all (length
     text) → held ≡ take first text ++ replicate (length old - length (take first text)) 32 → held ≡ columns
@@ -28,14 +28,4 @@ returns c =
       many,
       same,
     )) in
-    record {
-      good = search rules;
-      patched = rw whole put;
-      kept = rw whole (subst AreHeldFlags (sym put) (columns-held c.args.count (patched before marks)
-          c.requires.allowed
-          (record {
-            within = omega (arith, made, ap length c.bytes-text.ensures.value);
-            kept = patched-kept before marks c.requires.held.kept (sym c.in-Ok.ensures.printable);
-          })));
-      err = tt;
-    }
+    grind (arith, common_steps, before, marks, made, put, whole, columns-held, patched-kept)

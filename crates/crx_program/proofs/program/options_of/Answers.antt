@@ -3,5 +3,5 @@ use Rattle.std.proofs.lemmas.Grind.{common_steps}
 use Rattle.crx_command.proofs.DateFits.{default_fits}
 use Rattle.crx_program.proofs.program.options_of.Goals as goal
 
-pub options_with-requires-in-None-Compact : goal.options_with-requires-in-None-Compact
-options_with-requires-in-None-Compact = grind (arith, common_steps, default_fits)
+pub unwrap-requires : goal.unwrap-requires
+unwrap-requires = grind (arith, common_steps, default_fits)

@@ -9,10 +9,10 @@ returns-in-Ok-open_to_write-clause-done g c =
     let opened = c.in-Ok-open_to_write.ensures.opened in
     inl (
       called-to_write c.args.files.now.log.calls c.open_to_write.new.self.log.calls c.text.result.now
-          c.options_to_write.result c.args.job.now.target c.args.job.now.force named c.options_to_write.ensures c.open_to_write.ensures.calls,
+          c.args.job.now.target c.args.job.now.force named c.open_to_write.ensures.calls,
       rw named (
         c.in-Ok-open_to_write.device.opening,
-        (opened.name_is, opened.how_is ∙ ap Some c.options_to_write.ensures),
+        (opened.name_is, opened.how_is),
         (
           c.in-Ok-open_to_write.device,
           c.filter-status.new.writer,
@@ -35,7 +35,7 @@ returns-in-Err-clause-done g c =
       status_is = c.without_files-in-Err.ensures.status ∙ c.report.ensures.status;
       same = (refl, refl, c.without_files-in-Err.ensures.target);
       opened = called-to_write c.args.files.now.log.calls c.open_to_write.new.self.log.calls c.text.result.now
-          c.options_to_write.result c.args.job.now.target c.args.job.now.force named c.options_to_write.ensures c.open_to_write.ensures.calls;
+          c.args.job.now.target c.args.job.now.force named c.open_to_write.ensures.calls;
     })
 
 pub returns-in-Err-2-clause-done : goal.returns-in-Err-2-clause-done
@@ -48,5 +48,5 @@ returns-in-Err-2-clause-done g c =
       status_is = c.without_files-in-Err-2.ensures.status ∙ c.report-in-Err-2.ensures.status;
       same = (refl, refl, c.without_files-in-Err-2.ensures.target);
       opened = called-to_write c.args.files.now.log.calls c.open_to_write.new.self.log.calls c.text.result.now
-          c.options_to_write.result c.args.job.now.target c.args.job.now.force named c.options_to_write.ensures c.open_to_write.ensures.calls;
+          c.args.job.now.target c.args.job.now.force named c.open_to_write.ensures.calls;
     })

@@ -1,5 +1,5 @@
 use Rattle.std.proofs.lemmas.Grind.{common_steps}
-use Rattle.std.proofs.Common.{◌-◌, arith}
+use Rattle.std.proofs.Common.{arith}
 use Rattle.crx_base.specs.Padded.{line_in}
 use Rattle.crx_rinex.proofs.Cells.{cells_none, whole_columns}
 use Rattle.crx_rinex.proofs.row_buffer.read_first_cells.Goals as goal

@@ -19,11 +19,7 @@ returns-in-Err-write_all_counted-clause-settled g c =
     rw (c.in-Warned.is, drained) (record {
       notices = c.in-Warned.notice ∷ [];
       next = ([], refl);
-      wrote = (
-        c.hand_on.ensures.none_taken,
-        ap₂ sink_tally_of c.hand_on.ensures.good
-            c.hand_on.ensures.unasked,
-      );
+      wrote = grind (arith, common_steps);
       reported = record {
         count = c.in-Err-write_all_counted.field-0.0;
         some = omega arith;

@@ -1,5 +1,5 @@
 use Rattle.std.proofs.lemmas.{Grind.common_steps, Result.err_from_is_err_and}
-use Rattle.std.proofs.Common.{◌≡◌, [], ◌∷◌, true, false, List, Ok, Err, arith, refl, sym, ap, ◌∙◌}
+use Rattle.std.proofs.Common.{◌≡◌, [], ◌∷◌, true, false, List, Ok, Err, Some, arith, refl, sym, ap, ◌∙◌}
 use Rattle.std.specs.Prelude.{⊤}
 use Rattle.crx_base.specs.Padded.{line_in}
 use Rattle.crx_base.specs.meaning.Lines.{InputLine}
@@ -17,9 +17,12 @@ use Rattle.crx_runs.proofs.one_line.take_again.Goals as goal
 is-again : (g : Over) (c : After-take g) → c.in_ok-step.step ≡ Warned c.in-Warned-default-true.notice true
 is-again = grind (arith, common_steps)
 
--- The warning after which the line comes a second time.
-abbrev awaited : (g : Over) → After-take g → InputLine → List Awaited
-awaited g c line = record { notice = c.in-Warned-default-true.notice; line = line } ∷ []
+-- The line, and the warning after which it comes a second time.
+abbrev line : (g : Over) → After-take g → InputLine
+line g c = record { content = line_in c.args.content; is_plain = c.args.is_plain }
+
+abbrev first : (g : Over) → After-take g → Awaited
+first g c = record { notice = c.in-Warned-default-true.notice; line = line g c }
 
 first-out : (g : Over) (c : After-take g) → TookAll (span g.W.Sink c.args.writer.now c.carry_out.new.writer)
     []
@@ -29,20 +32,15 @@ first-out g c = again-out (g.E.Engine.ready c.args.engine.now) _ _ _ (is-again g
     (rw (sym c.answer.ensures.value ∙ c.in_ok-step.was) at c.requires.drained) c.in_ok-warned.ensures.settled
 
 -- What it answered then.
-second : (g : Over) (c : After-take g) (lines : List InputLine) (line : InputLine)
+second : (g : Over) (c : After-take g) (lines : List InputLine)
     → EngineAnswers (g.E.Engine.filter c.args.engine.now) (g.E.Engine.shows c.args.engine.now)
-    (g.E.Engine.ready c.args.engine.now) lines [] line (g.E.Engine.answer c.args.engine.now)
-    → line ≡ record { content = line_in c.args.content; is_plain = c.args.is_plain }
-    → EngineAnswers (g.E.Engine.filter c.args.engine.now) (g.E.Engine.shows c.take.new.self) (lines_handed_out
+    (g.E.Engine.has_ended c.args.engine.now) (g.E.Engine.ready c.args.engine.now) lines [] (Some (line g c))
+    (g.E.Engine.answer c.args.engine.now)
+    → EngineAnswers (g.E.Engine.filter c.args.engine.now) (g.E.Engine.shows c.take.new.self)
+    (g.E.Engine.has_ended c.take.new.self) (lines_handed_out
     c.take.result (line_shown c.of-line.result).content (g.E.Engine.ready c.take.new.self)) lines
-    (awaited g c line)
-    line (answer_given c.take.result (g.E.Engine.answer c.take.new.self))
-second g c lines line a is =
-    let kept = c.carry_out.ensures.kept in
-    let same = is ∙ sym c.of-line.ensures.shown in
-    let first = rw (sym c.answer.ensures.value ∙ c.in_ok-step.was, is-again g c) at a in
-    rw (← kept.filter, same) (c.take.ensures.answers lines (awaited g c (line_shown c.of-line.result))
-    (kept.shows lines _ (rw (← same) first.0)) refl)
+    (first g c ∷ []) (Some (line g c)) (answer_given c.take.result (g.E.Engine.answer c.take.new.self))
+second g c lines a = grind (arith, common_steps, is-again)
 
 pub returns-in_err-warned-clause-taken : goal.returns-in_err-warned-clause-taken
 returns-in_err-warned-clause-taken g c =
@@ -52,11 +50,10 @@ returns-in_err-warned-clause-taken g c =
     rw (p.1, p.2) (record {
       filter = c.carry_out.ensures.kept.filter;
       drained = tt;
-      becomes = λ lines line a same. line-becomes joins-idle joins-idle (g.E.Engine.filter c.args.engine.now)
-          lines line [] (refl, refl) (refl, refl) (g.E.Engine.shows c.args.engine.now)
-          (g.E.Engine.ready c.args.engine.now) c.in_ok-step.step (rw (is) at c.requires.drained)
-          (rw (is) at a)
-          ⊤ (λ shown. tt) (Err _) _ refl tt c.in_err-warned.ensures.settled;
+      becomes = λ lines next comes. line-becomes joins-idle joins-idle (g.E.Engine.filter c.args.engine.now)
+          lines next [] (refl, refl) (refl, refl) g.E.Engine c.args.engine.now (g.E.Engine.ready
+          c.args.engine.now) c.in_ok-step.step (rw (is) at c.requires.drained) (rw (is) at comes.0) ⊤ (λ
+          shown. tt) (Err _) _ refl tt c.in_err-warned.ensures.settled;
     })
 
 pub returns-in-Ok-clause-taken : goal.returns-in-Ok-clause-taken
@@ -67,13 +64,15 @@ returns-in-Ok-clause-taken g c =
     record {
       filter = kept.filter ∙ c.take.ensures.stepped.filter ∙ c.carry_out.ensures.kept.filter;
       drained = c.in-Ok.ensures.drained;
-      becomes = λ lines line a is. handed-becomes (span-joins g.W.Sink g.met.W.Sink.took_both)
-          (span-joins g.M.Sink g.met.M.Sink.took_both) (g.E.Engine.filter c.args.engine.now) lines line
-          (awaited g at line) out.0 out.1 (g.E.Engine.shows c.take.new.self) _ c.in-Some.handed_out
-          (g.E.Engine.answer c.take.new.self) (rw c.in-Some.is at (second g at lines line a is))
+      becomes = λ lines next comes. rw (comes.1) (handed-becomes (span-joins g.W.Sink g.met.W.Sink.took_both)
+          (span-joins g.M.Sink g.met.M.Sink.took_both) (g.E.Engine.filter c.args.engine.now) lines (Some (line
+          g at)) (first g at ∷ []) out.0 out.1 g.E.Engine c.take.new.self _ c.in-Some.handed_out
+          (g.E.Engine.answer c.take.new.self) (rw c.in-Some.is at (second g at lines (rw comes.1 at comes.0)))
           (rw c.in-Some.is at c.take.ensures.stepped.drained) _ (kept.shows _ []) (Ok false) _ (ap Ok out.2)
-          (ready-all _ _ _ (rw (c.bytes.ensures.content) at c.in-Ok.ensures.all)
-          (g.met.M.Sink.took_none _, refl));
+          (ready-all _ _ _ (rw (c.bytes.ensures.content) at c.in-Ok.ensures.all) (
+            g.met.M.Sink.took_none _,
+            refl,
+          )));
     }
 
 pub returns-in-Err-clause-taken : goal.returns-in-Err-clause-taken
@@ -84,13 +83,15 @@ returns-in-Err-clause-taken g c =
     record {
       filter = kept.filter ∙ c.take.ensures.stepped.filter ∙ c.carry_out.ensures.kept.filter;
       drained = tt;
-      becomes = λ lines line a is. handed-becomes (span-joins g.W.Sink g.met.W.Sink.took_both)
-          (span-joins g.M.Sink g.met.M.Sink.took_both) (g.E.Engine.filter c.args.engine.now) lines line
-          (awaited g at line) out.0 out.1 (g.E.Engine.shows c.take.new.self) _ c.in-Some.handed_out
-          (g.E.Engine.answer c.take.new.self) (rw c.in-Some.is at (second g at lines line a is))
+      becomes = λ lines next comes. rw (comes.1) (handed-becomes (span-joins g.W.Sink g.met.W.Sink.took_both)
+          (span-joins g.M.Sink g.met.M.Sink.took_both) (g.E.Engine.filter c.args.engine.now) lines (Some (line
+          g at)) (first g at ∷ []) out.0 out.1 g.E.Engine c.take.new.self _ c.in-Some.handed_out
+          (g.E.Engine.answer c.take.new.self) (rw c.in-Some.is at (second g at lines (rw comes.1 at comes.0)))
           (rw c.in-Some.is at c.take.ensures.stepped.drained) ⊤ (λ shown. tt) (Err Unwritten) _ refl
-          (ready-cut _ _ _ (rw (c.bytes.ensures.content) at c.in-Err.ensures.part)
-          (g.met.M.Sink.took_none _, refl));
+          (ready-cut _ _ _ (rw (c.bytes.ensures.content) at c.in-Err.ensures.part) (
+            g.met.M.Sink.took_none _,
+            refl,
+          )));
     }
 
 pub returns-in_err-carry_out-in-None-clause-taken : goal.returns-in_err-carry_out-in-None-clause-taken
@@ -101,16 +102,14 @@ returns-in_err-carry_out-in-None-clause-taken g c =
     let p = err_from_is_err_and made.result made.ensures.1 in
     let is = sym c.answer-in-None.ensures.value ∙ c.in_ok-second-in-None.was in
     rw (p.1, p.2) (record {
-      filter = c.carry_out-in-None.ensures.kept.filter ∙ c.take.ensures.stepped.filter ∙
-          c.carry_out.ensures.kept.filter;
+      filter = grind (arith, common_steps);
       drained = tt;
-      becomes = λ lines line a same. line-becomes (span-joins g.W.Sink g.met.W.Sink.took_both)
-          (span-joins g.M.Sink g.met.M.Sink.took_both) (g.E.Engine.filter c.args.engine.now) lines line
-          (awaited g at line) out.0 out.1 (g.E.Engine.shows c.take.new.self)
-          (g.E.Engine.ready c.take.new.self)
-          c.in_ok-second-in-None.second (rw (c.in-None.is, is) at c.take.ensures.stepped.drained)
-          (rw (c.in-None.is, is) at (second g at lines line a same)) ⊤ (λ shown. tt) (Err _) _ refl tt
-          c.in_err-carry_out-in-None.ensures.settled;
+      becomes = λ lines next comes. rw (comes.1) (line-becomes (span-joins g.W.Sink g.met.W.Sink.took_both)
+          (span-joins g.M.Sink g.met.M.Sink.took_both) (g.E.Engine.filter c.args.engine.now) lines (Some (line
+          g at)) (first g at ∷ []) out.0 out.1 g.E.Engine c.take.new.self (g.E.Engine.ready c.take.new.self)
+          c.in_ok-second-in-None.second (rw (c.in-None.is, is) at c.take.ensures.stepped.drained) (rw
+          (c.in-None.is, is) at (second g at lines (rw comes.1 at comes.0))) ⊤ (λ shown. tt) (Err _) _ refl tt
+          c.in_err-carry_out-in-None.ensures.settled);
     })
 
 pub returns-in_ok-carry_out-in-None-clause-taken : goal.returns-in_ok-carry_out-in-None-clause-taken
@@ -123,15 +122,12 @@ returns-in_ok-carry_out-in-None-clause-taken g c =
     record {
       filter = kept.filter ∙ c.take.ensures.stepped.filter ∙ c.carry_out.ensures.kept.filter;
       drained = c.in_ok-carry_out-in-None.ensures.drained;
-      becomes = λ lines line a same. let answered = rw (c.in-None.is, is) at (second g at lines line a same)
-          in
-          line-becomes (span-joins g.W.Sink g.met.W.Sink.took_both)
-          (span-joins g.M.Sink g.met.M.Sink.took_both)
-          (g.E.Engine.filter c.args.engine.now) lines line (awaited g at line) out.0 out.1
-          (g.E.Engine.shows then) (g.E.Engine.ready then) c.in_ok-second-in-None.second
-          (rw (c.in-None.is, is) at c.take.ensures.stepped.drained) answered _ (kept.shows _ []) (Ok _) _
-          (ap Ok out.2) (stays-then (g.E.Engine.filter c.args.engine.now) (g.E.Engine.shows then)
-          (g.E.Engine.ready then) lines (record { notice = c.in-Warned-default-true.notice; line = line })
-          line
-          c.in_ok-second-in-None.second answered) c.in_ok-carry_out-in-None.ensures.settled;
+      becomes = λ lines next comes. let answered = rw (c.in-None.is, is) at (second g at lines (rw comes.1 at
+          comes.0)) in rw (comes.1) (line-becomes (span-joins g.W.Sink g.met.W.Sink.took_both) (span-joins
+          g.M.Sink g.met.M.Sink.took_both) (g.E.Engine.filter c.args.engine.now) lines (Some (line g at))
+          (first g at ∷ []) out.0 out.1 g.E.Engine then (g.E.Engine.ready then) c.in_ok-second-in-None.second
+          (rw (c.in-None.is, is) at c.take.ensures.stepped.drained) answered _ (kept.shows _ []) (Ok _) _ (ap
+          Ok out.2) (stays-then (g.E.Engine.filter c.args.engine.now) g.E.Engine then (g.E.Engine.ready then)
+          lines (first g at) (Some (line g at)) c.in_ok-second-in-None.second answered)
+          c.in_ok-carry_out-in-None.ensures.settled);
     }

@@ -1,20 +1,23 @@
-use Rattle.std.proofs.Common.{[], List, ◌∙◌}
-use Rattle.crx_base.specs.meaning.Lines.{InputLine}
-use Rattle.crx_runs.proofs.{LinesTaken.end-becomes}
+use Rattle.std.proofs.Common.{[], None, refl, ◌∙◌, arith}
+use Rattle.crx_runs.proofs.{DeviceSpans.joins-idle, LinesTaken.{end-stays, end-warns, line-becomes, once}}
 use Rattle.crx_runs.proofs.one_line.take_end.Goals as goal
+use Rattle.std.proofs.lemmas.Grind.{common_steps}
 
 pub returns-clause-taken : goal.returns-clause-taken
 returns-clause-taken g c =
+    let then = c.end.new.self in
     let kept = c.carry_out.ensures.kept in
-    let comes = λ (lines : List InputLine) (shown : g.E.Engine.shows c.args.engine.now lines []).
-    end-becomes (g.E.Engine.filter c.args.engine.now) (g.E.Engine.ready c.end.new.self) lines
-    c.in_ok-step.step
-    (g.E.Engine.has_ended c.carry_out.new.engine lines)
-    (kept.ended lines (rw c.in_ok-step.was at (c.end.ensures.ended lines shown))) _ _ c.carry_out.result
-    (rw c.in_ok-step.was at c.end.ensures.stepped.drained)
-    (rw c.in_ok-step.was at (c.end.ensures.concludes lines shown)) c.carry_out.ensures.settled in
     record {
       filter = kept.filter ∙ c.end.ensures.stepped.filter;
-      becomes = λ lines shown. (comes lines shown).0;
-      warns = λ lines shown. (comes lines shown).1;
+      drained = c.carry_out.ensures.drained;
+      becomes = λ lines next comes. let answered = rw c.in_ok-step.was at (c.end.ensures.answers lines
+          comes.0) in rw (comes.1) (line-becomes joins-idle joins-idle (g.E.Engine.filter c.args.engine.now)
+          lines None [] (refl, refl) (refl, refl) g.E.Engine then (g.E.Engine.ready then) c.in_ok-step.step
+          (rw c.in_ok-step.was at c.end.ensures.stepped.drained) answered _ (kept.ended lines)
+          c.carry_out.result _ (once c.carry_out.result) (end-stays (g.E.Engine.filter c.args.engine.now)
+          g.E.Engine then (g.E.Engine.ready then) lines c.in_ok-step.step _ answered)
+          c.carry_out.ensures.settled);
     }
+
+pub returns-clause-warns : goal.returns-clause-warns
+returns-clause-warns g c = grind (arith, common_steps, end-warns)

@@ -1,4 +1,4 @@
-use Rattle.std.proofs.Common.{[], inl, refl, ◌∙◌}
+use Rattle.std.proofs.Common.{[], Some, inl, refl, ◌∙◌}
 use Rattle.std.proofs.lemmas.Result.{err_from_is_err_and}
 use Rattle.crx_runs.proofs.{DeviceSpans.joins-idle, LinesTaken.{always-ok, line-becomes, line-refused, once}}
 use Rattle.crx_runs.proofs.one_line.take_overlong.Goals as goal
@@ -10,12 +10,13 @@ returns-in_err-step-clause-taken g c =
     rw (p.1, p.2) (record {
       filter = c.overlong.ensures.stepped.filter;
       drained = tt;
-      becomes = λ lines line shown long. line-refused joins-idle joins-idle
-          (g.E.Engine.filter c.args.engine.now)
-          lines line [] (refl, refl) (refl, refl)
-          (g.E.Engine.shows then) (g.E.Engine.ready then) _
-          (rw c.in_err-step.was at (c.overlong.ensures.answers lines [] line shown tt long)) (inl refl)
-          (g.met.W.Sink.took_none _, refl) (g.met.M.Sink.took_none _, refl);
+      becomes = λ lines next comes. rw (comes.1.1) (line-refused joins-idle joins-idle (g.E.Engine.filter
+          c.args.engine.now) lines (Some comes.1.0) [] (refl, refl) (refl, refl) g.E.Engine then
+          (g.E.Engine.ready then) _ (rw c.in_err-step.was at (c.overlong.ensures.answers lines [] comes.1.0
+          comes.0 tt comes.1.2)) (inl refl) (g.met.W.Sink.took_none _, refl) (
+            g.met.M.Sink.took_none _,
+            refl,
+          ));
     })
 
 pub returns-clause-taken : goal.returns-clause-taken
@@ -25,13 +26,11 @@ returns-clause-taken g c =
     record {
       filter = kept.filter ∙ c.overlong.ensures.stepped.filter;
       drained = c.carry_out.ensures.drained;
-      becomes = λ lines line shown long. line-becomes joins-idle joins-idle
-          (g.E.Engine.filter c.args.engine.now)
-          lines line [] (refl, refl) (refl, refl)
-          (g.E.Engine.shows then) (g.E.Engine.ready then) c.in_ok-step.step
-          (rw c.in_ok-step.was at c.overlong.ensures.stepped.drained)
-          (rw c.in_ok-step.was at (c.overlong.ensures.answers lines [] line shown tt long)) _
-          (kept.shows _ []) c.carry_out.result _ (once c.carry_out.result)
+      becomes = λ lines next comes. rw (comes.1.1) (line-becomes joins-idle joins-idle (g.E.Engine.filter
+          c.args.engine.now) lines (Some comes.1.0) [] (refl, refl) (refl, refl) g.E.Engine then
+          (g.E.Engine.ready then) c.in_ok-step.step (rw c.in_ok-step.was at
+          c.overlong.ensures.stepped.drained) (rw c.in_ok-step.was at (c.overlong.ensures.answers lines []
+          comes.1.0 comes.0 tt comes.1.2)) _ (kept.shows _ []) c.carry_out.result _ (once c.carry_out.result)
           (always-ok c.carry_out.result (rw c.in_ok-step.was at c.overlong.ensures.once))
-          c.carry_out.ensures.settled;
+          c.carry_out.ensures.settled);
     }

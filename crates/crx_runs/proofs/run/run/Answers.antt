@@ -6,16 +6,13 @@ use Rattle.crx_runs.proofs.run.run.Goals as goal
 
 pub returns-in-Err : goal.returns-in-Err
 returns-in-Err g c =
-    let work = c.no_memory.result in
     let r = c.args.reader.now in
-    let w = c.args.writer.now in
-    let m = c.args.messages.now in
     record {
       runs = runs-nothing (g.E.Engine.filter c.args.engine.now) c.requires.lawful (reader_span g.R.Source r r)
           (span-joins g.W.Sink g.met.W.Sink.took_both) (span-joins g.M.Sink g.met.M.Sink.took_both)
-          (g.E.Engine.has_ended c.args.engine.now) work.last work.warned work.halt c.finish.result.status
-          c.finish.result.fault c.no_memory.ensures.halt c.no_memory.ensures.last (g.met.R.Source.gave_none r)
-          refl (g.met.W.Sink.took_none w, refl) (g.met.M.Sink.took_none m, refl) c.finish.ensures;
+          (g.E.Engine.has_ended c.args.engine.now) c.finish.result.status c.finish.result.fault
+          (g.met.R.Source.gave_none r) refl (g.met.W.Sink.took_none _, refl) (g.met.M.Sink.took_none _, refl)
+          c.finish.ensures;
     }
 
 pub returns-in-Ok : goal.returns-in-Ok

@@ -1,4 +1,4 @@
-use Rattle.std.proofs.{lemmas.Result.err_from_is_err_and, Common.{◌≡◌, inl, inr, List, Ok, Err, refl, sym, ap}}
+use Rattle.std.proofs.{lemmas.Result.err_from_is_err_and, Common.{◌≡◌, inl, inr, List, Ok, Err, Some, refl, sym, ap}}
 use Rattle.std.proofs.Common.{subst, ◌∙◌, arith}
 use Rattle.crx_lines.specs.{Progress.HasRead, Reading.ReaderState, Readers.reading}
 use Rattle.crx_lines.specs.{declared.phase.Phase.TheVariants.Ended, meaning.Devices.{Tally, tally_of}}
@@ -31,7 +31,7 @@ returns-in_ok-take_line-in-Ok-Some-clause-goes g c = λ r0 w0 m0 lines shown run
     (span-joins g.M.Sink g.met.M.Sink.took_both)
     running (line-read (asked g at) (g.met.R.Source.gave_both r0 _ _) running.read _
     (c.in-Ok-Some.is ∙ ap Ok c.in-Ok-Some.field-0-is)) _ (Ok _)
-    (c.in_ok-take_line-in-Ok-Some.ensures.taken.becomes lines _ shown refl)
+    (c.in_ok-take_line-in-Ok-Some.ensures.taken.becomes lines _ (shown, refl))
 
 pub returns-in_err-take_line-in-Ok-Some-clause-goes : goal.returns-in_err-take_line-in-Ok-Some-clause-goes
 returns-in_err-take_line-in-Ok-Some-clause-goes g c = λ r0 w0 m0 lines shown running.
@@ -41,7 +41,7 @@ returns-in_err-take_line-in-Ok-Some-clause-goes g c = λ r0 w0 m0 lines shown ru
     (span-joins g.M.Sink g.met.M.Sink.took_both) running
     (line-read (asked g at) (g.met.R.Source.gave_both r0 _ _) running.read _
     (c.in-Ok-Some.is ∙ ap Ok c.in-Ok-Some.field-0-is)) (λ ls notices. ⊤) (Err _)
-    (c.in_err-take_line-in-Ok-Some.ensures.taken.becomes lines _ shown refl))
+    (c.in_err-take_line-in-Ok-Some.ensures.taken.becomes lines _ (shown, refl)))
 
 pub returns-in-Ok-None-clause-goes : goal.returns-in-Ok-None-clause-goes
 returns-in-Ok-None-clause-goes g c = λ r0 w0 m0 lines shown running.
@@ -71,8 +71,8 @@ returns-in_ok-take_overlong-in-LineTooLong-clause-goes g c = λ r0 w0 m0 lines s
     c.in-Err.at c.in-Err.is c.in-LineTooLong.is in
     goes-by (g.E.Engine.filter c.args.engine.now) (span-joins g.W.Sink g.met.W.Sink.took_both)
     (span-joins g.M.Sink g.met.M.Sink.took_both)
-    running over.2 _ (Ok _) (c.in_ok-take_overlong-in-LineTooLong.ensures.taken.becomes lines over.0 shown
-    over.1)
+    running over.2 _ (Ok _) (c.in_ok-take_overlong-in-LineTooLong.ensures.taken.becomes lines (Some over.0)
+    (shown, (over.0, refl, over.1)))
 
 pub returns-in_err-take_overlong-in-LineTooLong-clause-goes :
     goal.returns-in_err-take_overlong-in-LineTooLong-clause-goes
@@ -84,7 +84,8 @@ returns-in_err-take_overlong-in-LineTooLong-clause-goes g c = λ r0 w0 m0 lines 
     let p = err_from_is_err_and made.result made.ensures.1 in
     rw (p.1, p.2) (goes-by (g.E.Engine.filter c.args.engine.now) (span-joins g.W.Sink g.met.W.Sink.took_both)
     (span-joins g.M.Sink g.met.M.Sink.took_both) running over.2 (λ ls notices. ⊤) (Err _)
-    (c.in_err-take_overlong-in-LineTooLong.ensures.taken.becomes lines over.0 shown over.1))
+    (c.in_err-take_overlong-in-LineTooLong.ensures.taken.becomes lines (Some over.0)
+    (shown, (over.0, refl, over.1))))
 
 pub returns-in_default-clause-goes : goal.returns-in_default-clause-goes
 returns-in_default-clause-goes g c = λ r0 w0 m0 lines shown running.

@@ -1,5 +1,5 @@
 use Rattle.std.proofs.{lemmas.Grind.common_steps, lemmas.Result.err_from_is_err_and}
-use Rattle.std.proofs.{Common.{◌≡◌, arith, ⊎_elim, inl, inr, [], Ok, Err, None, refl, sym, ap, ◌∙◌, subst}}
+use Rattle.std.proofs.{Common.{◌≡◌, arith, ⊎_elim, inl, inr, [], Ok, Err, Some, None, refl, sym, ap, ◌∙◌, subst}}
 use Rattle.crx_base.specs.declared.fault.Fault.TheVariants.{LineTooLong}
 use Rattle.crx_lines.specs.{Readers.reading, Reading.{HasNoFeed}, Reading.ReaderState}
 use Rattle.crx_lines.specs.declared.phase.Phase.TheVariants.{Open}
@@ -20,7 +20,8 @@ asked : (g : Over) (c : After-next_held g) → (c.next_held.result ≡ Ok None �
     (g.R.Source.at_end c.args.reader.now) (counts g c.args.reader.now) (counts g c.args.reader.now)
     (reading c.args.input.now) (reading c.next_held.follows.lender-at-none) c.next_held.result
 asked g c some = held-asked c.next_held.result (g.met.R.Source.gave_none c.args.reader.now)
-    (⊎_elim (λ none. absurd (some none)) (λ is. is) c.next_held.ensures.going) c.next_held.follows.holds-at-none some
+    (⊎_elim (λ none. absurd (some none)) (λ is. is) c.next_held.ensures.going)
+    c.next_held.follows.holds-at-none some
 
 pub returns-in_ok-take_line-in-Ok-Some-clause-goes : goal.returns-in_ok-take_line-in-Ok-Some-clause-goes
 returns-in_ok-take_line-in-Ok-Some-clause-goes g c = λ r0 w0 m0 lines shown running.
@@ -28,8 +29,8 @@ returns-in_ok-take_line-in-Ok-Some-clause-goes g c = λ r0 w0 m0 lines shown run
     let is = c.in-Ok-Some.is ∙ ap Ok c.in-Ok-Some.field-0-is in
     goes-by (g.E.Engine.filter c.args.engine.now) (span-joins g.W.Sink g.met.W.Sink.took_both)
     (span-joins g.M.Sink g.met.M.Sink.took_both) running
-    (line-read (asked g at (λ none. some-not-none _ (sym is ∙ none))) (g.met.R.Source.gave_both r0 _ _) running.read _
-    is) _ (Ok _) (c.in_ok-take_line-in-Ok-Some.ensures.taken.becomes lines _ shown refl)
+    (line-read (asked g at (λ none. some-not-none _ (sym is ∙ none))) (g.met.R.Source.gave_both r0 _ _)
+    running.read _ is) _ (Ok _) (c.in_ok-take_line-in-Ok-Some.ensures.taken.becomes lines _ (shown, refl))
 
 pub returns-in_err-take_line-in-Ok-Some-clause-goes : goal.returns-in_err-take_line-in-Ok-Some-clause-goes
 returns-in_err-take_line-in-Ok-Some-clause-goes g c = λ r0 w0 m0 lines shown running.
@@ -38,8 +39,9 @@ returns-in_err-take_line-in-Ok-Some-clause-goes g c = λ r0 w0 m0 lines shown ru
     let p = err_from_is_err_and c.from_residual.result c.from_residual.ensures.1 in
     rw (p.1, p.2) (goes-by (g.E.Engine.filter c.args.engine.now) (span-joins g.W.Sink g.met.W.Sink.took_both)
     (span-joins g.M.Sink g.met.M.Sink.took_both) running
-    (line-read (asked g at (λ none. some-not-none _ (sym is ∙ none))) (g.met.R.Source.gave_both r0 _ _) running.read _
-    is) (λ ls notices. ⊤) (Err _) (c.in_err-take_line-in-Ok-Some.ensures.taken.becomes lines _ shown refl))
+    (line-read (asked g at (λ none. some-not-none _ (sym is ∙ none))) (g.met.R.Source.gave_both r0 _ _)
+    running.read _ is) (λ ls notices. ⊤) (Err _) (c.in_err-take_line-in-Ok-Some.ensures.taken.becomes lines _
+    (shown, refl)))
 
 pub returns-in_ok-take_overlong-in-Err-clause-goes : goal.returns-in_ok-take_overlong-in-Err-clause-goes
 returns-in_ok-take_overlong-in-Err-clause-goes g c = λ r0 w0 m0 lines shown running.
@@ -49,7 +51,7 @@ returns-in_ok-take_overlong-in-Err-clause-goes g c = λ r0 w0 m0 lines shown run
     (g.met.R.Source.gave_both r0 _ _) running.read c.in-Err.at c.in-Err.is long in
     goes-by (g.E.Engine.filter c.args.engine.now) (span-joins g.W.Sink g.met.W.Sink.took_both)
     (span-joins g.M.Sink g.met.M.Sink.took_both) running over.2 _ (Ok _)
-    (c.in_ok-take_overlong-in-Err.ensures.taken.becomes lines over.0 shown over.1)
+    (c.in_ok-take_overlong-in-Err.ensures.taken.becomes lines (Some over.0) (shown, (over.0, refl, over.1)))
 
 pub returns-in_err-take_overlong-in-Err-clause-goes : goal.returns-in_err-take_overlong-in-Err-clause-goes
 returns-in_err-take_overlong-in-Err-clause-goes g c = λ r0 w0 m0 lines shown running.
@@ -61,16 +63,14 @@ returns-in_err-take_overlong-in-Err-clause-goes g c = λ r0 w0 m0 lines shown ru
     let p = err_from_is_err_and made.result made.ensures.1 in
     rw (p.1, p.2) (goes-by (g.E.Engine.filter c.args.engine.now) (span-joins g.W.Sink g.met.W.Sink.took_both)
     (span-joins g.M.Sink g.met.M.Sink.took_both) running over.2 (λ ls notices. ⊤) (Err _)
-    (c.in_err-take_overlong-in-Err.ensures.taken.becomes lines over.0 shown over.1))
+    (c.in_err-take_overlong-in-Err.ensures.taken.becomes lines (Some over.0) (shown, (over.0, refl, over.1))))
 
 pub returns-else-not-hand_on-clause-goes : goal.returns-else-not-hand_on-clause-goes
 returns-else-not-hand_on-clause-goes g c = λ r0 w0 m0 lines shown running.
     let same = rw (c.in-Ok-None.is, c.in-Ok-None.field-0-is) at c.next_held.follows.holds-at-none in
     let still = still-running (span-joins g.W.Sink g.met.W.Sink.took_both) running
     (c.hand_on.ensures.still c.if-not-hand_on.false) in
-    c.read_step.ensures.goes r0 w0 m0 lines shown (subst (λ (now : ReaderState). IsRunning (reader_span g.R.Source r0
-    c.args.reader.now) (span g.W.Sink w0 c.hand_on.new.writer) (span g.M.Sink m0 c.args.messages.now) now lines
-    ((g.E.Engine.filter c.args.engine.now).so_far lines)) (sym same) still)
+    grind (arith, common_steps, same, still)
 
 pub returns-then-not-hand_on-clause-goes : goal.returns-then-not-hand_on-clause-goes
 returns-then-not-hand_on-clause-goes g c = λ r0 w0 m0 lines shown running.

@@ -1,9 +1,10 @@
-use Rattle.std.proofs.Common.{inl, inr, [], refl, arith, ◌∙◌}
+use Rattle.std.proofs.Common.{inl, inr, None, [], refl, arith}
 use Rattle.crx_lines.specs.Readers.{reading}
 use Rattle.crx_runs.proofs.{DeviceSpans.span-joins, RunningSteps.{go-on, stopped-end, well-done}}
 use Rattle.crx_runs.proofs.work.take_all.{Given.Over, Goals.{After-step, In-Ok}}
 use Rattle.crx_runs.specs.{Running.StepGoes, Taking.IsDone, meaning.Spans.{reader_span, span}}
 use Rattle.crx_runs.proofs.work.take_all.Goals as goal
+use Rattle.std.proofs.lemmas.Grind.{common_steps}
 
 -- What a step does, by the filter that the engine had at first.
 goes : (g : Over) (c : After-step g) → StepGoes (g.E.Engine.filter c.args.engine.now)
@@ -15,12 +16,7 @@ goes = grind arith
 pub lines-preserved : goal.lines-preserved
 lines-preserved g c =
     let by = rw (c.in-Ok-Some.is, c.in-Ok-Some.field-0-is) at (goes g (goal.at.lines-preserved g
-    c).After-step) in (
-      go-on c.lines.invariant.0.3 by refl,
-      c.in-Ok-Some.ensures.stepped.drained,
-      c.step.ensures.stepped.filter ∙ c.lines.invariant.2,
-      c.in-Ok-Some.ensures.stepped.counted,
-    )
+    c).After-step) in grind (arith, common_steps, by, go-on c.lines.invariant.0.3 by refl)
 
 -- The end of the input was taken, and nothing failed.
 end-done : (g : Over) (c : In-Ok g) → g.E.Engine.shows c.step.new.engine c.lines.invariant.0.0 [] → IsDone
@@ -29,7 +25,7 @@ end-done : (g : Over) (c : In-Ok g) → g.E.Engine.shows c.step.new.engine c.lin
     c.take_end.new.engine c.lines.invariant.0.0) (span g.W.Sink c.step.new.writer c.take_end.new.writer)
     (span g.M.Sink c.step.new.messages c.take_end.new.messages) c.in-Ok.warning
 end-done g c shown = rw (← c.lines.invariant.2, ← c.step.ensures.stepped.filter)
-    (c.in-Ok.ensures.taken.becomes _ shown)
+    (c.in-Ok.ensures.taken.becomes _ None (shown, refl))
 
 pub returns-in-Ok : goal.returns-in-Ok
 returns-in-Ok g c =
@@ -49,15 +45,18 @@ pub returns-in-Err-take_end : goal.returns-in-Err-take_end
 returns-in-Err-take_end g c =
     let comes = rw (c.in-Ok-None.is, c.in-Ok-None.field-0-is) at
     (goes g (goal.at.returns-in-Err-take_end g c).After-step) in
-    inr (inl (stopped-end (span-joins g.W.Sink g.met.W.Sink.took_both) (span-joins g.M.Sink
-    g.met.M.Sink.took_both)
-    comes c.number-last.ensures.value c.in-Err-take_end.halt
-    (rw (c.step.ensures.stepped.filter, c.lines.invariant.2) at
-    (c.in-Err-take_end.ensures.taken.becomes _ comes.shown))))
+    inl (
+      c.lines.invariant.0.0,
+      inr (stopped-end (span-joins g.W.Sink g.met.W.Sink.took_both)
+          (span-joins g.M.Sink g.met.M.Sink.took_both) comes c.in-Err-take_end.halt
+          (rw (c.step.ensures.stepped.filter, c.lines.invariant.2) at
+          (c.in-Err-take_end.ensures.taken.becomes _ None (comes.shown, refl)))),
+      c.number-last.ensures.value,
+    )
 
 pub returns-in-Err : goal.returns-in-Err
 returns-in-Err g c = inl (
   c.lines.invariant.0.0,
-  rw c.in-Err.is at (goes g (goal.at.returns-in-Err g c).After-step),
+  inl (rw c.in-Err.is at (goes g (goal.at.returns-in-Err g c).After-step)),
   c.number.ensures.value,
 )

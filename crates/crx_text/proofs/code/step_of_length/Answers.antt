@@ -1,13 +1,14 @@
 use Rattle.std.proofs.Common.{arith, ◌≡◌, ◌+◌, ◌-◌, ◌<◌, ◌≤◌, ℕ, List, Bool, Some, length, take, drop, w64}
 use Rattle.std.proofs.{Common.{ap, sym, ◌∙◌}, lemmas.{Grind.common_steps, Int.to_z-of_z}}
-use Rattle.std.specs.{Option.option_map, Str.Parse.starts_with_minus}
-use Rattle.crx_text.proofs.CellNumbers.{code_of-number, coded_number-cell}
+use Rattle.std.specs.{Str.Parse.starts_with_minus}
+use Rattle.crx_text.proofs.CellNumbers.{coded_number-cell}
 use Rattle.crx_text.proofs.{FirstCells.{same_cell}, PowersOfTen.small_number}
 use Rattle.crx_text.specs.{Codes.counted_digits, FirstDigits.HasFirstDigits}
 use Rattle.crx_text.specs.{declared.code.Code.TheVariants.Step, meaning.Codes.{code_of, first_cell}}
 use Rattle.crx_text.specs.meaning.Numbers.{signed_number, without_minus}
 use mir.Val.{bool_byte}
 use Rattle.crx_text.proofs.code.step_of_length.Goals as goal
+use Rattle.std.proofs.Common.{rules}
 
 -- the cell after its minus
 after_minus : (text : List ℕ) → length (first_cell text)
@@ -24,14 +25,10 @@ step_is : (text digits : List ℕ) (is_below : Bool) (size count : ℕ) → is_b
     → count + bool_byte is_below ≡ length (first_cell text)
     → code_of (first_cell text) ≡ Some (Step (signed_number is_below size))
 step_is text digits is_below size count sign rest first some few whole =
-    let counted = all_digits digits size count first some few
-    (omega (arith, whole, after_minus text, ap bool_byte sign, ap (λ t. length (first_cell t)) rest)) in
-    rw sign (code_of-number _ _ (coded_number-cell text digits rest ∙ ap (option_map _) counted))
+    grind (arith, common_steps, coded_number-cell text digits rest)
 
 pub signed-requires : goal.signed-requires
-signed-requires c =
-    let read = c.in_ok-size.ensures in
-    omega (arith, small_number _ _ 6 read.few.1 read.digits.small)
+signed-requires c = search (rules, arith, small_number)
 
 pub returns-clause-value : goal.returns-clause-value
 returns-clause-value c =
@@ -48,7 +45,4 @@ returns-clause-value c =
     grind (arith, common_steps, w64, to_z-of_z, same, is)
 
 pub returns-clause-short : goal.returns-clause-short
-returns-clause-short c =
-    let read = c.in_ok-size.ensures in
-    let small = small_number _ _ 18 (omega (arith, read.few.1)) read.digits.small in
-    grind (arith, common_steps, w64, to_z-of_z, small)
+returns-clause-short c = search (rules, arith, small_number, w64)

@@ -26,13 +26,11 @@ returns-then-count-ge-LANES c =
 pub returns-then-count-ge8 : goal.returns-then-count-ge8
 returns-then-count-ge8 c = record {
   copied =
-      copied_ends 8 c.args.from.now c.args.to.now
-      c.if-count-ge8.true (omega (arith, c.if-count-ge-LANES.false)) c.requires;
+      grind (arith, common_steps, copied_ends 8 c.args.from.now c.args.to.now c.if-count-ge8.true);
 }
 
 pub returns-then-count-ge4 : goal.returns-then-count-ge4
 returns-then-count-ge4 c = record {
   copied =
-      copied_ends 4 c.args.from.now c.args.to.now
-      c.if-count-ge4.true (omega (arith, c.if-count-ge8.false)) c.requires;
+      grind (arith, common_steps, copied_ends 4 c.args.from.now c.args.to.now c.if-count-ge4.true);
 }

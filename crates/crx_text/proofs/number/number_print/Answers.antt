@@ -1,4 +1,4 @@
-use Rattle.std.proofs.Common.{◌≡◌, ◌-◌, ◌<◌, ◌^◌, length, ℕ, take, replicate, w64, arith, rules, ap}
+use Rattle.std.proofs.Common.{◌≡◌, ◌-◌, ◌<◌, ◌^◌, length, ℕ, w64, arith, rules, ap}
 use Rattle.std.proofs.{Common.◌∙◌, lemmas.{Grind.common_steps, Int.to_z-of_z}}
 use lib.IntN.{nat_abs}
 use Rattle.crx_text.proofs.Spellings.{size_text_fits, abs_within_below}
@@ -18,12 +18,4 @@ overflow_sub-field c =
     omega (arith, short, c.size_print-start.ensures.start, c.fill.ensures.len, c.requires.shape.1)
 
 pub returns-then-number-lt0 : goal.returns-then-number-lt0
-returns-then-number-lt0 c =
-    let number = c.in-Some.number in
-    let width : ℕ = length c.args.field.now in
-    let printed = c.size_print-start in
-    let blank : c.fill.new.self ≡ replicate {A = ℕ} width 32 = search rules in
-    rw c.in-Some.is (printed_number_below width _ _ _ _ number
-    printed.new.field (to_z-of_z w64 number (search rules)) c.if-number-lt0.true c.unsigned_abs.ensures.value
-    (overflow_sub-field c) (printed.ensures.start ∙ c.fill.ensures.len) printed.ensures.written
-    (printed.ensures.before ∙ ap (take _) blank))
+returns-then-number-lt0 c = grind (arith, common_steps, printed_number_below, w64, overflow_sub-field c)

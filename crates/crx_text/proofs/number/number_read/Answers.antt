@@ -1,14 +1,10 @@
-use Rattle.std.proofs.Common.{◌+◌, ◌-◌, ◌^◌, ◌<◌, ◌≤◌, ℕ, length, drop, take, w64, arith, rules}
+use Rattle.std.proofs.Common.{◌+◌, ◌-◌, ◌^◌, ◌<◌, ℕ, length, arith}
 use Rattle.std.proofs.lemmas.{Grind.common_steps, Int.to_z-of_z, List.{length-take, length-drop}}
-use mir.Val.{SFits}
 use Rattle.crx_text.proofs.{PowersOfTen.more_digits_fit, Sizes.{IsWithin_more, signed_is_within, size_fits}}
 use Rattle.crx_text.proofs.number.number_read.Goals as goal
 
 pub digits_read-requires : goal.digits_read-requires
-digits_read-requires c =
-    let text = c.split_minus-is_below.result.1.now in
-    let point : ℕ = length text - c.args.decimals - 1 in
-    more_digits_fit 0 0 (length (take point text)) 18 (omega arith) (omega (arith, length-take point text))
+digits_read-requires c = grind (arith, common_steps, more_digits_fit 0 0, length-take)
 
 pub digits_read-requires-2 : goal.digits_read-requires-2
 digits_read-requires-2 c =
@@ -28,11 +24,4 @@ signed-requires c =
     size_fits _ (length text) (omega arith) fits
 
 pub returns-clause-in_range : goal.returns-clause-in_range
-returns-clause-in_range c =
-    let fits : SFits w64 c.signed.result = search rules in
-    let text = c.split_minus-is_below.result.1.now in
-    let small : c.in-Some-digits_read.size < 10 ^ (length text - 1) =
-    grind (arith, common_steps, more_digits_fit, length-take, length-drop) in
-    let shorter : length c.trim_start-text.result.now ≤ c.args.width = omega arith in
-    rw (to_z-of_z w64 c.signed.result fits, c.signed.ensures) (IsWithin_more _ _ _ shorter
-    (signed_is_within _ _ _ _ c.split_minus-is_below.ensures.shorter small))
+returns-clause-in_range c = grind (arith, common_steps, more_digits_fit, signed_is_within)

@@ -1,10 +1,9 @@
 use Rattle.std.proofs.lemmas.Grind.{common_steps}
-use Rattle.std.proofs.Common.{◌≡◌, ◌≤◌, ℕ, suc, List, ◌∷◌, length, take, set, Some, w64, arith}
+use Rattle.std.proofs.Common.{◌≡◌, ◌≤◌, ℕ, suc, List, ◌∷◌, length, take, set, w64, arith}
 use Rattle.std.proofs.{Common.{rules, sym, ap, ◌∙◌}, lemmas.{Int.to_z-of_z, List.take-replicate}}
 use Rattle.std.proofs.lemmas.List.{length-take-le, take-append-le, take_all}
 use lib.IntN.{nat_abs}
 use Rattle.crx_text.proofs.Spellings.{printed_number, printed_number_below, abs_within}
-use Rattle.crx_text.specs.meaning.Numbers.{number_text}
 use Rattle.crx_text.proofs.number.obs_print_row.Goals as goal
 
 put_in_front : (n : ℕ) (xs : List ℕ) (i x : ℕ) → take n (set xs i x) ≡ set (take n xs) i x
@@ -24,8 +23,7 @@ returns-then-size-ge1000000 c =
     let cut = length-take-le 14 c.args.cell.now (omega (arith, c.requires.width)) in
     let same = c.number_print.auto.field in
     let long : 14 ≤ length field = omega (arith, same, cut) in
-    take-append-le 14 field _ long ∙ take_all 14 field (omega (arith, same, cut)) ∙ c.number_print.ensures
-    ∙ ap (λ n. number_text n 3 (Some c.in-Some.number)) cut ∙ ap (number_text 14 3) (sym c.in-Some.is)
+    grind (arith, common_steps, field, cut, same, long, take-append-le 14 field, take_all 14 field)
 
 pub returns-then-number-lt0 : goal.returns-then-number-lt0
 returns-then-number-lt0 c =

@@ -15,12 +15,11 @@ returns-then-count-gt0-clause-value c =
     _ (omega arith) (omega (arith, c.loop-end-test.true)) c.if-count-gt0.true
 
 pub loop-end-preserved : goal.loop-end-preserved
-loop-end-preserved c = (
-  omega (arith, c.loop-end.invariant.0),
-  found_none c.args.text.now c.loop-end.end c.loop-end.invariant.0 c.loop-end.invariant.1 16
-      (c.loop-end.end - 16) (omega arith) (omega (arith, c.loop-end-test.true))
-      (omega (arith, c.if-count-gt0.false)),
-)
+loop-end-preserved c =
+    grind (
+      arith,
+      found_none c.args.text.now c.loop-end.end c.loop-end.invariant.0 c.loop-end.invariant.1 16 (c.loop-end.end - 16),
+    )
 
 pub slice_bounds-result-end-then-count-gt0-2 : goal.slice_bounds-result-end-then-count-gt0-2
 slice_bounds-result-end-then-count-gt0-2 c =

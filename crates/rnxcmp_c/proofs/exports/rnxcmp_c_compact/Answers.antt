@@ -5,7 +5,7 @@ use Rattle.rnxcmp_c.proofs.exports.rnxcmp_c_compact.Goals as goal
 
 pub answer_of-requires : goal.answer_of-requires
 answer_of-requires c = take-enough (Compact c.in-Ok.options 0) c.compact-outcome.ensures.runs.2 c.new-written.ensures
-    c.new-reported.ensures c.taken_at_most.ensures refl
+    c.new-reported.ensures refl refl
 
 pub returns-clause-memory : goal.returns-clause-memory
 returns-clause-memory c memory = answers-alone c.answer_of.ensures memory

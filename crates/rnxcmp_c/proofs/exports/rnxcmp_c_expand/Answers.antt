@@ -27,7 +27,7 @@ promised c within memory =
 pub answer_of-requires : goal.answer_of-requires
 answer_of-requires c = take-enough (Expand c.in-Ok.options 0) c.expand-outcome.ensures.runs.2
     c.new-written.ensures
-    c.new-reported.ensures c.taken_at_most.ensures refl
+    c.new-reported.ensures refl refl
 
 -- of the choices alone whether faults are skipped counts
 pub returns : goal.returns

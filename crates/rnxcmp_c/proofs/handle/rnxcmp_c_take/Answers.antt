@@ -39,6 +39,4 @@ returns-clause-sound c = λ is_open.
     (sound.0, _, _, returns-clause-stands c sound.0 sound.1 sound.2 sound.3)
 
 pub returns-clause-keeps : goal.returns-clause-keeps
-returns-clause-keeps c = λ task fed taken stands ended memory few long. task-keeps task _ fed
-    (result-where fed _ _ _ _ task memory few (ended-where fed _ _ _ _ task memory long
-    ((handle-promise stands c.put_in.ensures.reader c.hand_out-answer.ensures.taken.answered).ended ended)))
+returns-clause-keeps c = grind (arith, common_steps, task-keeps, result-where, ended-where, handle-promise)

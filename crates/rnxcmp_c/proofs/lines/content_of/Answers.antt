@@ -17,11 +17,7 @@ ends_with_return-push (y ∷ z ∷ zs) x = ends_with_return-push (z ∷ zs) x
 ends_with_return-push xs x = grind (arith, common_steps)
 
 pub returns-then-last-eq13 : goal.returns-then-last-eq13
-returns-then-last-eq13 c =
-    let cases = c.in-Some.ensures.cases.0 in
-    grind (arith, common_steps, without_return-cr, ends_with_return-push, eq-eqb, c.if-last-eq13.true)
+returns-then-last-eq13 c = grind (arith, common_steps, without_return-cr, ends_with_return-push, eq-eqb)
 
 pub returns-else-last-eq13 : goal.returns-else-last-eq13
-returns-else-last-eq13 c =
-    let cases = c.in-Some.ensures.cases.0 in
-    grind (arith, common_steps, without_return-other, ends_with_return-push, ne_eqb, c.if-last-eq13.false)
+returns-else-last-eq13 c = grind (arith, common_steps, without_return-other, ends_with_return-push, ne_eqb)

@@ -6,16 +6,14 @@ use Rattle.rnxcmp_c.proofs.Words.{ended_lines_of, take_all, take_at, take-append
 use Rattle.rnxcmp_c.proofs.Words.{BothTexts}
 use Rattle.rnxcmp_c.specs.Past.{StopsSoon}
 use Rattle.rnxcmp_c.proofs.lines.take_bytes.Goals as goal
+use Rattle.std.proofs.lemmas.Grind.{common_steps}
 
 -- of the bytes that are left so many more were taken
 soon-then : (run : TaskRun) (fed : List ℕ) (taken : BothTexts) (bytes done left : List ℕ) (n : ℕ)
     → bytes ≡ done ++ left → 0 < n → StopsSoon run (fed ++ done) taken left n
     → StopsSoon run fed taken bytes (length done + n)
 soon-then run fed taken bytes done left n all more soon =
-    let less : length done + n - 1 ≡ length done + (n - 1) = omega (arith, more) in
-    let first : take (length done + n - 1) bytes ≡ done ++ take (n - 1) left =
-    rw (all, less) (take-append-add done left (n - 1)) in
-    rw (first, ← (append_assoc fed done (take (n - 1) left))) soon
+    grind (arith, common_steps, take-append-add done left (n - 1))
 
 pub take_to_line_end-requires-clause-going : goal.take_to_line_end-requires-clause-going
 take_to_line_end-requires-clause-going g c =

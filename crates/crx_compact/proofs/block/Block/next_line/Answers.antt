@@ -1,10 +1,11 @@
-use Rattle.crx_compact.proofs.Words.{rules, ◌≡◌, refl, ◌<◌, get_or, List, ℕ, Option, Some, drop, take}
-use Rattle.crx_compact.proofs.Words.{length, ap, sym, ◌∙◌, arith, length-take-le}
+use Rattle.crx_compact.proofs.Words.{rules, ◌≡◌, get_or, List, ℕ, take}
+use Rattle.crx_compact.proofs.Words.{arith, length-take-le}
 use Rattle.crx_compact.specs.Blocks.{IsBlock}
 use Rattle.crx_compact.proofs.LineTexts.{NextLine, next-line}
 use Rattle.crx_compact.proofs.block.Block.next_line.Goals.{After-index}
 use Rattle.std.proofs.{Math.ListN.drop_of_length-le, lemmas.List.get_or-take}
 use Rattle.crx_compact.proofs.block.Block.next_line.Goals as goal
+use Rattle.std.proofs.lemmas.Grind.{common_steps}
 
 -- not all lines were borrowed yet, so there is a next one
 line-there : (lengths bytes : List ℕ) (many filled past past_bytes front memory count : ℕ)
@@ -12,11 +13,13 @@ line-there : (lengths bytes : List ℕ) (many filled past past_bytes front memor
     → (past ≡ many → ⊥) → count ≡ get_or lengths past count
     → NextLine (take many lengths) bytes filled past past_bytes count
 line-there lengths bytes many filled past past_bytes front memory count h other here =
-    let all : length (take many lengths) ≡ many = length-take-le many lengths h.1 in
-    let within = h.0.past_within in
-    let less : past < many = omega (arith, within, all, other) in
-    next-line (take many lengths) bytes filled past past_bytes count h.0 h.2 (omega (arith, less, all))
-    (here ∙ sym (get_or-take many lengths past count less))
+    grind (
+      arith,
+      common_steps,
+      length-take-le many lengths h.1,
+      next-line (take many lengths) bytes filled past past_bytes count h.0 h.2,
+      get_or-take many lengths past count,
+    )
 
 here : (c : After-index) → NextLine (take c.self.inside.count c.self.inside.lengths.items)
     c.self.inside.bytes.items c.self.inside.filled c.self.inside.handed_out c.self.inside.handed_out_bytes
@@ -39,23 +42,13 @@ invariant_of-self-2 c = (
 )
 
 pub slice_bounds-result-end : goal.slice_bounds-result-end
-slice_bounds-result-end c =
-    let next = here (goal.at.slice_bounds-result-end c).After-index in
-    omega (arith, next.within, ap length c.deref.ensures.value)
+slice_bounds-result-end c = grind (arith, common_steps)
 
 pub returns : goal.returns
 returns c =
     let inside = c.self.inside in
     let next_line = here (goal.at.returns c).After-index in
-    rw (← c.self.view_is, c.deref.ensures.value) (
-      (refl, λ _. tt, cc (next_line.left)),
-      record {
-        value = ap {B = Option (List ℕ)}
-            (λ n. Some (take n (drop inside.handed_out_bytes inside.bytes.items))) (omega arith)
-            ∙ next_line.is;
-        after_borrow = tt;
-      },
-    )
+    grind (arith, common_steps, inside, next_line)
 
 pub returns-then-self : goal.returns-then-self
 returns-then-self c =

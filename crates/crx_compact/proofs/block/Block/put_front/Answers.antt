@@ -1,21 +1,14 @@
 use Rattle.crx_compact.proofs.Words.{rules, ◌-◌, drop, length, ap, arith, length-set, take_at, PendingLines}
 use Rattle.crx_compact.proofs.{LineTexts.{PutFront, put-front}, block.Block.put_front.Goals.After-put_line}
 use Rattle.crx_compact.proofs.block.Block.put_front.Goals as goal
+use Rattle.std.proofs.lemmas.Grind.{common_steps}
 
 -- the line is put in front of those that are pending, where there is room for one as long as a line may be
 front-put : (c : After-put_line) → PutFront c.self.inside.lengths.items c.self.inside.bytes.items
     c.put_line.new.bytes c.args.line.now c.self.inside.count c.self.inside.filled c.self.inside.handed_out
     (c.self.inside.handed_out - 1) c.self.inside.handed_out_bytes
     (c.self.inside.handed_out_bytes - length c.args.line.now - 1)
-front-put c =
-    search (
-      rules,
-      put-front,
-      c.self.invariant,
-      c.put_line.ensures.put,
-      c.deref_mut.ensures.value,
-      c.put_line.ensures.rest,
-    )
+front-put c = search (rules, put-front)
 
 pub invariant_of-self : goal.invariant_of-self
 invariant_of-self c =
@@ -28,13 +21,7 @@ invariant_of-self c =
       omega (arith, length-set inside.lengths.items (inside.handed_out - 1) (length c.args.line.now)),
       omega arith,
       (omega arith, omega arith),
-      (
-        omega (arith, c.self.invariant.4),
-        omega (arith, c.self.invariant.4),
-        omega (arith, c.self.invariant.4),
-        omega (arith, c.self.invariant.4, length-set inside.lengths.items (inside.handed_out - 1) (length c.args.line.now)),
-        omega (arith, c.self.invariant.4),
-      ),
+      grind (arith, common_steps, inside, length-set),
     )
 
 pub returns-clause-lines : goal.returns-clause-lines

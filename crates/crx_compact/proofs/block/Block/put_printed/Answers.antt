@@ -5,6 +5,7 @@ use Rattle.crx_compact.proofs.{LineTexts.{BlockPushed, row-pushed}}
 use Rattle.crx_compact.specs.Placing.{row_tail_of}
 use Rattle.crx_compact.proofs.block.Block.put_printed.Goals.{After-print_line-length}
 use Rattle.crx_compact.proofs.block.Block.put_printed.Goals as goal
+use Rattle.std.proofs.lemmas.Grind.{common_steps}
 
 -- the bytes are the block's own again
 stored : (c : After-print_line-length)
@@ -17,14 +18,7 @@ use_bytes-requires c =
     omega (arith, c.requires.left, c.self.invariant.4, ap (λ (l : PendingLines). l.left) c.self.view_is)
 
 pub print_line-length-requires : goal.print_line-length-requires
-print_line-length-requires c = record {
-  room = omega (
-    arith,
-    c.use_bytes.ensures.counted,
-    ap length c.as_mut_slice-bytes.ensures.value,
-    c.requires.few,
-  );
-}
+print_line-length-requires c = grind (arith, common_steps)
 
 -- the row's line is put after the others
 pushed : (c : After-print_line-length) → BlockPushed c.self.inside.lengths.items c.self.inside.bytes.items
@@ -43,9 +37,7 @@ pushed c =
     c.print_line-length.ensures
 
 pub invariant_of-self : goal.invariant_of-self
-invariant_of-self c =
-    let at = (goal.at.invariant_of-self c).After-print_line-length in
-    rw (stored at) (pushed at).still
+invariant_of-self c = grind (arith, common_steps, pushed)
 
 pub returns-clause-lines : goal.returns-clause-lines
 returns-clause-lines c = search (rules, c.self.view_is, stored, pushed)

@@ -1,12 +1,13 @@
 use Rattle.crx_compact.proofs.Words.{rules, arith, ◌≡◌, Bool, true, not, Some, None, if◌then◌else◌}
 use Rattle.crx_compact.proofs.Words.{ap, ◌∙◌, tail_held}
-use Rattle.crx_compact.proofs.Words.{columns_state, tail_of_history, lines_after_tail, no_tail}
-use Rattle.crx_compact.proofs.Words.{tail_after, tail_written_after, Tail, Expected, HeldColumns}
+use Rattle.crx_compact.proofs.Words.{tail_of_history, lines_after_tail, no_tail}
+use Rattle.crx_compact.proofs.Words.{tail_written_after, Tail}
 use Rattle.crx_compact.proofs.{wayback.Tailing.{lines-coded, tail-coded}}
 use Rattle.crx_compact.proofs.reading.Stages.{stage-idle, tail-idle}
-use Rattle.crx_compact.specs.{OpenEpochs.ColumnsState.Idle, Coded.CodedEpoch}
+use Rattle.crx_compact.specs.{Coded.CodedEpoch}
 use Rattle.crx_compact.proofs.columns.Columns.encode.Goals.{After-encode}
 use Rattle.crx_compact.proofs.columns.Columns.encode.Goals as goal
+use Rattle.std.proofs.lemmas.Grind.{common_steps}
 
 -- an epoch is in full where that is asked for, or where nothing is kept
 in-full : (full is_kept : Bool) (tail : Tail)
@@ -29,11 +30,7 @@ pub returns-in-Ok-encode-clause-coded : goal.returns-in-Ok-encode-clause-coded
 returns-in-Ok-encode-clause-coded c = search (rules, lines_after_tail, after)
 
 pub returns-in-Ok-encode-clause-kept : goal.returns-in-Ok-encode-clause-kept
-returns-in-Ok-encode-clause-kept c =
-    ap (λ (s : Expected). columns_state true s c.self.inside.count c.encode.new.self)
-    (stage-idle c.self.inside.is_kept c.self.inside.expected c.self.inside.count c.self.inside.history
-    c.args.self.now.state (ap (λ (held : HeldColumns). held.state) c.self.view_is) c.requires.idle)
-    ∙ ap (λ t. Idle (Some t)) (c.in-Ok-encode.ensures.written.tail ∙ ap (λ t. tail_after t c.args.epoch) (after (goal.at.returns-in-Ok-encode-clause-kept c).After-encode))
+returns-in-Ok-encode-clause-kept c = grind (arith, common_steps, stage-idle)
 
 pub returns-in-Ok-encode-clause-left : goal.returns-in-Ok-encode-clause-left
 returns-in-Ok-encode-clause-left c = λ epochs h.

@@ -7,6 +7,7 @@ use Rattle.crx_compact.proofs.reading.Stages.{state-rows, step-by-stage}
 use Rattle.crx_compact.proofs.reading.StepsByCode.{made-more, printed-whole}
 use Rattle.crx_base.specs.Padded.{line_in}
 use Rattle.crx_compact.proofs.columns.Columns.feed_into.Goals as goal
+use Rattle.std.proofs.lemmas.Grind.{common_steps}
 
 pub returns-then-not-is_whole-clause-made : goal.returns-then-not-is_whole-clause-made
 returns-then-not-is_whole-clause-made c =
@@ -38,10 +39,7 @@ print-requires-clause-before c = λ some.
     c.requires.printed c.in-Ok.ensures.ok some
 
 pub returns-then-not-is_whole-clause-printed : goal.returns-then-not-is_whole-clause-printed
-returns-then-not-is_whole-clause-printed c =
-    let new = c.take_line.new in
-    rows-printed (tail_of_history new.history) new.count _ c.print.new.lines (state-rows c.self.inside.is_kept new.expected
-    new.count new.history c.in-Ok.ensures.ok.rows) c.print.ensures.printed
+returns-then-not-is_whole-clause-printed c = grind (arith, common_steps, rows-printed, state-rows)
 
 pub returns-else-not-is_whole-clause-printed : goal.returns-else-not-is_whole-clause-printed
 returns-else-not-is_whole-clause-printed c = idle-unprinted _ _ c.print.new.lines refl

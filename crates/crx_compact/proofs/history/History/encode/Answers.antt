@@ -10,6 +10,7 @@ use Rattle.crx_compact.proofs.{placing.Prepared.asked-more}
 use borrow.Author.Count.{falls}
 use Rattle.crx_compact.specs.{Written.IsRowWritten}
 use Rattle.crx_compact.proofs.history.History.encode.Goals as goal
+use Rattle.std.proofs.lemmas.Grind.{common_steps}
 
 pub loop-wanting-preserved : goal.loop-wanting-preserved
 loop-wanting-preserved c =
@@ -54,15 +55,11 @@ loop-row-init c =
     let rooms = c.begin_rows.ensures.rooms in
     let known = ap (λ (h : OpenHistory). h.satellites.rooms) c.self.view_is in
     record {
-      written = subst (AreRowsWritten _ [] c.begin_rows.new.self)
-          (sym (ap (λ (l : PendingLines). l.lines) c.requires.none))
-          (subst (λ (t : Tail). AreRowsWritten (if c.args.in_full then no_tail else t) []
-          c.begin_rows.new.self []) same c.begin_rows.ensures.begun);
+      written = grind (arith, common_steps, same);
       room = subst (HaveRoom c.args.epoch.now.rows) (sym rooms) (subst (λ (rs : List Row). HaveRoom rs
           c.loop-wanting.satellites.rooms)
           (taken_all _ _ (sym c.in_default.ensures.value)) c.loop-wanting.invariant.room);
-      kept = λ name count has. subst (HasRoom name count) (sym rooms)
-          (c.loop-wanting.invariant.asked.rooms name count (subst (HasRoom name count) (sym known) has));
+      kept = grind (arith, common_steps, rooms, known);
       left = omega (arith, ap (λ (l : PendingLines). l.left) c.requires.none);
       front = ap (λ (l : PendingLines). l.front) c.requires.none;
     }

@@ -1,14 +1,14 @@
-use Rattle.crx_compact.proofs.Words.{rules, ◌≡◌, ◌≤◌, ◌++◌, ◌+◌, ◌*◌, List, ℕ, ap, ◌∙◌, sym, without_end_blanks, few_kept}
-use Rattle.crx_compact.proofs.Words.{by_position, mark_of, text_difference, take, length, arith, code_text}
+use Rattle.crx_compact.proofs.Words.{rules, ◌≡◌, ◌++◌, ◌+◌, ◌*◌, List, ℕ, ap, ◌∙◌, sym, without_end_blanks}
+use Rattle.crx_compact.proofs.Words.{text_difference, take, length, arith, code_text}
 use Rattle.crx_compact.proofs.Words.{code_of_value, epoch_text, flat_map, OpenHistory, Row, RowTail, row_tail_in}
 use Rattle.crx_compact.proofs.{Words.{epoch_by_rows}, SoundTexts.difference-trimmed}
 use Rattle.crx_compact.proofs.{Making.ok-unless}
 use Rattle.std.proofs.lemmas.List.Folds.{flat_map-map}
 use Rattle.crx_text.proofs.CodeTexts.{code_text_length}
 use Rattle.crx_compact.proofs.wayback.Standing.{difference-length}
-use Rattle.std.proofs.lemmas.List.{length-take}
 use Rattle.crx_compact.proofs.history.History.end_rows.Goals.{After-bytes-2}
 use Rattle.crx_compact.proofs.history.History.end_rows.Goals as goal
+use Rattle.std.proofs.lemmas.Grind.{common_steps}
 
 -- an empty text has room for a code
 pub unwrap-requires : goal.unwrap-requires
@@ -21,21 +21,11 @@ put_front-requires-clause-short c = search (rules, code_text, c.bytes.ensures.va
 -- the difference of two epochs' texts
 marks : (c : After-bytes-2) → c.bytes-2.result.now
     ≡ text_difference (take c.self.inside.length c.self.inside.text) c.trim_end-next_text.result.now
-marks c = c.bytes-2.ensures.value ∙ c.trim_end_blanks.ensures.trimmed
-    ∙ ap without_end_blanks (c.append_difference.ensures.appended
-    ∙ ap (λ (t : List ℕ). t ++ by_position mark_of (take c.self.inside.length c.self.inside.text) c.trim_end-next_text.result.now)
-    c.clear-2.ensures.emptied)
+marks c = grind (arith, common_steps)
 
 -- the new text is no longer than the text of an epoch
 pub put_front-requires-2-clause-short : goal.put_front-requires-2-clause-short
-put_front-requires-2-clause-short c =
-    let at = (goal.at.put_front-requires-2-clause-short c).After-bytes-2 in
-    let old : List ℕ = take c.self.inside.length c.self.inside.text in
-    let whole = take (41 + 3 * c.count.result) c.put_names.new.text in
-    let short : length c.trim_end-next_text.result.now ≤ 3038 =
-    omega (arith, ap (λ (t : List ℕ). length t) c.trim_end-next_text.ensures.value, few_kept whole, length-take (41 + 3 * c.count.result) c.put_names.new.text) in
-    rw (marks at) (difference-length 3038 old c.trim_end-next_text.result.now
-    (omega (arith, length-take c.self.inside.length c.self.inside.text, c.self.invariant)) short)
+put_front-requires-2-clause-short c = grind (arith, difference-length 3038)
 
 -- the rows of an epoch that has ended, and its text
 pub returns-clause-written : goal.returns-clause-written

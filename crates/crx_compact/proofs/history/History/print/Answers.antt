@@ -9,6 +9,7 @@ use Rattle.crx_text.proofs.Blanks.{end_blanks-more}
 use Rattle.crx_text.specs.meaning.Numbers as numbers
 use Rattle.crx_compact.proofs.history.History.print.Goals.{After-entry}
 use Rattle.crx_compact.proofs.history.History.print.Goals as goal
+use Rattle.std.proofs.lemmas.Grind.{common_steps}
 
 -- the columns without their end blanks are no more than the columns
 few : (text line : List ℕ) → line ≡ without_end_blanks (columns text 1 HEAD_WIDTH) → length line ≤ 41
@@ -36,10 +37,7 @@ returns-in_default c =
     HEAD_WIDTH)) c.self.view_is
     ∙ sym (end_blanks-more (columns c.args.self.now.text 1 HEAD_WIDTH) 15)
     ∙ ap (printed_head (columns c.args.self.now.text 1 HEAD_WIDTH)) (sym clock) in
-    record {
-      printed = head-printed c.args.count (tail_of_history c.args.self.now) _ _ _ c.if-count-eq0.true
-          c.clear.ensures.cleared c.put.ensures.lines c.put.ensures.taken line;
-    }
+    grind (arith, common_steps, line, head-printed c.args.count (tail_of_history c.args.self.now))
 
 pub returns-then-count-eq0 : goal.returns-then-count-eq0
 returns-then-count-eq0 c = record { printed = search (rules, head-printed) }

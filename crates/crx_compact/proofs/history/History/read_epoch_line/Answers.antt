@@ -9,20 +9,17 @@ use Rattle.crx_compact.proofs.{NamedAgain.named-kept, AnnouncedRows.announced-ro
 use Rattle.crx_compact.proofs.history.History.read_epoch_line.Goals.{After-bytes-text}
 use Rattle.crx_compact.specs.{Refusals.AnswersRefusal}
 use Rattle.crx_compact.proofs.history.History.read_epoch_line.Goals as goal
+use Rattle.std.proofs.lemmas.Grind.{common_steps}
 
 -- the text that the line makes
 text : (c : After-bytes-text) → c.bytes-text.result.now ≡ patched c.args.self.now.text c.args.line.now
-text c = c.bytes-text.ensures.value
-    ∙ by_ok c.patch_bytes.result c.if-is_err.ensures.negation c.patch_bytes.ensures.ok
-    ∙ ap (λ (h : OpenHistory). patched h.text c.args.line.now) c.self.view_is
+text c = grind (arith, common_steps, by_ok)
 
 -- the line and its text have the same satellites, or the same fault
 same : (c : After-bytes-text)
     → satellites_of_line c.args.types.now (past_of_tail (tail_of_history c.args.self.now)) c.args.line.now
     ≡ satellites_of_text c.args.types.now c.bytes-text.result.now
-same c =
-    let printable = sym c.patch_bytes.ensures.printable ∙ c.if-is_err.ensures.negation in
-    grind (arith, printable, text c)
+same c = grind (arith, common_steps)
 
 -- the text is no longer than an epoch's
 pub put_first-requires : goal.put_first-requires

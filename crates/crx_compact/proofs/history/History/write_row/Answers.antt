@@ -6,29 +6,16 @@ use Rattle.crx_compact.proofs.{Results.from_some, Writing.{come-already, no-row,
 use Rattle.crx_compact.proofs.{placing.Placed.placed-asked}
 use Rattle.crx_compact.proofs.placing.SteppedRows.{IsLastStored, come-stored, last-within}
 use Rattle.crx_compact.specs.{Placing.{HasCome, IsPlaced, SatelliteTail}, contracts.history.History.the_view}
-use Rattle.crx_compact.proofs.history.History.write_row.Goals.{After-unwrap-satellite, Joined-place, in-Some}
-use Rattle.crx_compact.proofs.history.History.write_row.Goals.{in-None+in_ok-prepare-in-None}
+use Rattle.crx_compact.proofs.history.History.write_row.Goals.{After-unwrap-satellite, Joined-place}
 use Rattle.crx_compact.proofs.history.History.write_row.Goals as goal
+use Rattle.std.proofs.lemmas.Grind.{common_steps}
 
 -- the satellite has come, or had come already, and nothing but the satellites has changed
 placed : (c : Joined-place) → IsPlaced c.args.name.now (length c.args.values.now) c.self.inside.satellites
     c.match-place.self-inside.satellites c.match-place.is_new
     × KeepsRooms c.self.inside.satellites.rooms c.match-place.self-inside.satellites.rooms
     × (the_view c.match-place.self-inside ≡ record c.args.self.now { satellites = c.match-place.self-inside.satellites })
-placed c = elim c.match-place.branch [
-  | in-Some w ↦ rw (w.is_new-is, w.self-inside-is) (
-    w.in-Some.ensures.placed,
-    λ name count. subst (HasRoom name count) (sym c.place.ensures.rooms),
-    λ j. record (c.self.view_is j) { satellites = c.place.new.self },
-  )
-  | in-None+in_ok-prepare-in-None w ↦ rw (w.is_new-is, w.self-inside-is) (
-    search (rules, placed-asked, from_some, w.prepare.ensures.asked.asked),
-    λ name count has. subst (HasRoom name count) (sym w.place-in-None.ensures.rooms)
-        (w.prepare.ensures.asked.asked.rooms name count (subst (HasRoom name count) (sym
-        c.place.ensures.rooms) has)),
-    λ j. record (c.self.view_is j) { satellites = w.place-in-None.new.self },
-  )
-]
+placed c = search (rules, arith, placed-asked)
 
 pub returns-in_err-prepare-in-None-clause-written : goal.returns-in_err-prepare-in-None-clause-written
 returns-in_err-prepare-in-None-clause-written c = λ after rows written.
@@ -45,9 +32,10 @@ answer : (c : Joined-place) (after : Tail) (rows : List Row)
     → AreRowsWritten after rows c.args.self.now c.args.lines.now.lines
     → c.match-place.is_new ≡ not (has_satellite c.args.name.now rows)
 answer c after rows written =
-    (placed c).0.answer
-    ∙ ap not (come-already after rows c.args.self.now c.args.lines.now.lines
-    c.self.inside.satellites c.args.name.now (ap (λ (h : OpenHistory). h.satellites) c.self.view_is) written)
+    grind (
+      arith,
+      come-already after rows c.args.self.now c.args.lines.now.lines c.self.inside.satellites c.args.name.now,
+    )
 
 pub returns-then-not-is_new-clause-written : goal.returns-then-not-is_new-clause-written
 returns-then-not-is_new-clause-written c = λ after rows written.
@@ -59,11 +47,7 @@ returns-then-not-is_new-clause-written c = λ after rows written.
         answer = sym c.if-not-is_new.true ∙ answer at after rows written;
         written = λ is. absurd (false≢true is);
         taken = λ is. absurd (false≢true is);
-        same = λ is. (
-          come.2 ∙ ap (λ (s : PlacedRows). record c.args.self.now { satellites = s })
-              (come.0.repeated c.if-not-is_new.true ∙ ap (λ (h : OpenHistory). h.satellites) c.self.view_is),
-          refl,
-        );
+        same = grind (arith, common_steps, come);
       };
     }
 
@@ -76,12 +60,7 @@ stored c come = come-stored _ _ _ _ _ come (ap (λ n. n - 1) c.placed-last.ensur
     (rw (c.unwrap-satellite.ensures) at c.entry_mut.ensures.there)
 
 pub entry_mut-requires : goal.entry_mut-requires
-entry_mut-requires c =
-    let placed = (placed (goal.at.entry_mut-requires c).Joined-place).0 in
-    record {
-      within = last-within _ _ _ _ (placed.come c.if-not-is_new.false) (ap (λ n. n - 1)
-          c.placed-last.ensures.value);
-    }
+entry_mut-requires c = grind (arith, common_steps, last-within)
 
 pub put_row-requires-clause-fits : goal.put_row-requires-clause-fits
 put_row-requires-clause-fits c =
@@ -138,6 +117,5 @@ returns-clause-prepared c =
     record {
       known = λ has. refl;
       room = λ is. subst (HasRoom _ _) same (come.0.room c.if-not-is_new.false);
-      rooms = λ name count has. subst (HasRoom name count) same (come.1 name count
-          (subst (λ (h : OpenHistory). HasRoom name count h.satellites.rooms) (sym c.self.view_is) has));
+      rooms = grind (arith, common_steps, come, same);
     }

@@ -1,9 +1,10 @@
-use Rattle.std.proofs.Common.{rules, ◌≡◌, ◌<◌, ◌+◌, ◌-◌, ◌*◌, ◌++◌, ◌∷◌, [], List, ℕ, append_assoc, drop}
+use Rattle.std.proofs.Common.{rules, ◌≡◌, ◌<◌, ◌+◌, ◌-◌, ◌*◌, ◌++◌, List, ℕ, drop}
 use Rattle.std.proofs.Common.{length, replicate, set, take, ap, arith}
 use Rattle.std.proofs.lemmas.List.{length-set, length-take, replicate_more, take_at, take_more_set}
 use Rattle.crx_compact.specs.Placing.{SatelliteTail}
 use Rattle.crx_compact.proofs.Resizing.{fewer-held, fewer-types, more-held, more-types}
 use Rattle.crx_compact.proofs.satellite.SatelliteHistory.resize.Goals as goal
+use Rattle.std.proofs.lemmas.Grind.{common_steps}
 
 pub invariant_of-self : goal.invariant_of-self
 invariant_of-self c =
@@ -26,41 +27,10 @@ two-blank : (xs old : List ℕ) (i k m : ℕ) → 2 * i + 1 < length xs → take
     → m ≡ k + 2
     → take (2 * (i + 1)) (set (set xs (2 * i) 32) (2 * i + 1) 32) ≡ old ++ replicate m 32
 two-blank xs old i k m within so_far more =
-    let first : take (2 * i + 1) (set xs (2 * i) 32) ≡ take (2 * i) xs ++ 32 ∷ [] =
-    take_more_set xs (2 * i) 32 (omega (arith, within)) in
-    let second : take (2 * i + 1 + 1) (set (set xs (2 * i) 32) (2 * i + 1) 32) ≡ take (2 * i + 1) (set xs
-    (2 * i) 32) ++ 32 ∷ [] =
-    take_more_set (set xs (2 * i) 32) (2 * i + 1) 32 (omega (arith, within, length-set xs (2 * i) 32)) in
-    let next : 2 * (i + 1) ≡ 2 * i + 1 + 1 = omega arith in
-    let last : m ≡ k + 1 + 1 = omega (arith, more) in
-    cc (
-      append_assoc old (replicate k 32) (32 ∷ []),
-      replicate_more {X = ℕ} k 32,
-      append_assoc old (replicate (k + 1) 32) (32 ∷ []),
-      replicate_more {X = ℕ} (k + 1) 32,
-    )
+    grind (arith, common_steps, take_more_set, length-set, replicate_more)
 
 pub loop-index-preserved : goal.loop-index-preserved
-loop-index-preserved c =
-    let room = ap (λ (t : SatelliteTail). t.room) c.self.view_is in
-    let long = ap length c.as_mut_slice-indicators.ensures.value in
-    record {
-      indicators = two-blank c.loop-index.indicators _ c.loop-index.index _ _ (omega (
-        arith,
-        room,
-        long,
-        c.self.invariant.2,
-      ))
-          c.loop-index.invariant.indicators (omega arith);
-      arcs = search (
-        rules,
-        c.loop-index.invariant.arcs,
-        take_more_set,
-        replicate,
-        append_assoc,
-        replicate_more,
-      );
-    }
+loop-index-preserved c = grind (arith, common_steps, two-blank, take_more_set, replicate_more)
 
 pub invariant_of-self-2 : goal.invariant_of-self-2
 invariant_of-self-2 c =
@@ -80,11 +50,4 @@ invariant_of-self-2 c =
     )
 
 pub returns : goal.returns
-returns c = search (
-  rules,
-  take_at,
-  more-types,
-  replicate,
-  c.loop-index.invariant.indicators,
-  c.loop-index.invariant.arcs,
-)
+returns c = search (rules, take_at, more-types)

@@ -1,20 +1,21 @@
-use Rattle.crx_compact.proofs.Words.{rules, ◌≡◌, ◌∙◌, ap, sym, length, length-each_place, length-take-le}
+use Rattle.crx_compact.proofs.Words.{rules, ◌≡◌, ◌∙◌, ap, length, length-each_place, length-take-le}
 use Rattle.crx_compact.proofs.Words.{take, take_at}
 use Rattle.crx_compact.proofs.placing.SteppedRows.{arcs-marked, codes-marked}
 use Rattle.crx_compact.specs.Placing.{SatelliteTail, cells_for}
 use Rattle.crx_text.proofs.WrittenTexts.{line-written}
 use Rattle.crx_compact.proofs.satellite.SatelliteHistory.write_line.Goals.{After-self}
 use Rattle.crx_compact.proofs.satellite.SatelliteHistory.write_line.Goals as goal
+use Rattle.std.proofs.Common.{arith}
 
 -- it has as many types as the row
 marked : (c : After-self) → (take c.self.inside.count c.self.inside.arcs.items
     ≡ cells_for (length c.args.values.now) c.args.self.now.cells) × (c.self.inside.count ≡ length
     c.args.values.now)
 marked c =
-    let cells = ap (λ (s : SatelliteTail). s.cells) (c.self.view_is ∙ c.mark-marks.ensures.marked) in (
-      cells,
-      sym (length-take-le c.self.inside.count c.self.inside.arcs.items c.self.invariant.1) ∙ ap length cells
-          ∙ length-each_place _ _,
+    grind (
+      arith,
+      length-take-le c.self.inside.count c.self.inside.arcs.items c.self.invariant.1,
+      length-each_place,
     )
 
 pub returns-clause-after : goal.returns-clause-after

@@ -7,6 +7,7 @@ use Rattle.crx_compact.specs.Entries.{Entry, IsOrder}
 use Rattle.crx_compact.proofs.placing.{Coming.emptied, Found.not-found, Orders.{none-in_order, place-is}}
 use Rattle.crx_compact.proofs.placing.Placed.{placed-again, placed-anew, placed-exchanged, placed-not, placed-unknown}
 use Rattle.crx_compact.proofs.satellites.Satellites.bring.Goals as goal
+use Rattle.std.proofs.lemmas.Grind.{common_steps}
 
 pub returns-in_default : goal.returns-in_default
 returns-in_default c =
@@ -38,14 +39,10 @@ pub pair_mut-satellite-requires : goal.pair_mut-satellite-requires
 pair_mut-satellite-requires c = slice_get_within _ _ _ c.in-Some.ensures.found.there
 
 pub exchange-requires-2-clause-within : goal.exchange-requires-2-clause-within
-exchange-requires-2-clause-within c =
-    let stands = place-is c.self.invariant.2 c.in-Some.ensures.found c.number_at-place.ensures.value in
-    grind (arith, stands.1, c.if-place-self-2.false, c.self.invariant.2.counted)
+exchange-requires-2-clause-within c = grind (arith, common_steps, place-is)
 
 pub exchange-requires-3-clause-within : goal.exchange-requires-3-clause-within
-exchange-requires-3-clause-within c =
-    let stands = place-is c.self.invariant.2 c.in-Some.ensures.found c.number_at-place.ensures.value in
-    grind (arith, stands.1, c.if-place-self-2.false, c.exchange-2.ensures.order.counted, c.self.invariant.2.counted)
+exchange-requires-3-clause-within c = grind (arith, common_steps, place-is)
 
 pub returns : goal.returns
 returns c =

@@ -1,26 +1,17 @@
-use Rattle.std.proofs.Common.{ap, sym, subst, arith, drop, length, map, take, All, ℕ, Option, Some, ◌≡◌, ◌<◌}
-use Rattle.std.proofs.Common.{◌≤◌, ◌∙◌, option_map, rules, slice_get}
+use Rattle.std.proofs.Common.{ap, sym, subst, arith, drop, map, take, All, ℕ, Option, Some}
+use Rattle.std.proofs.Common.{◌≤◌, ◌∙◌, option_map, slice_get}
 use Rattle.std.specs.Map.Iter.{deref_pair}
 use borrow.Author.Count.{below_more}
 use Rattle.crx_compact.specs.{Entries.{KeepsTypes, in_order, placed_rows}, HeldRows.IsAwaitedSatellite}
-use Rattle.crx_compact.specs.{EpochLinesRead.HaveComeAgain}
 use Rattle.crx_compact.specs.{Placing.{padded, row_of_entry, row_tail_of, satellite_of}}
 use Rattle.crx_compact.proofs.placing.{Again.{come-again, named-before, none-placed, typed-named}}
 use Rattle.crx_compact.proofs.placing.{SteppedRows.rows-counted}
 use Rattle.crx_compact.proofs.placing.Orders.{length-in_order, there-in_order}
 use Rattle.crx_compact.proofs.satellites.Satellites.come_again.Goals as goal
+use Rattle.std.proofs.lemmas.Grind.{common_steps}
 
 pub unwrap-requires : goal.unwrap-requires
-unwrap-requires c =
-    let all = c.self.invariant.1 in
-    let below = c.self.invariant.2.index c.loop-place.place
-    (omega (arith, all, c.loop-place-test.true, c.if-count-self.false)) in
-    let within : c.number_at.result < length c.self.inside.known.entries = omega (
-      arith,
-      c.number_at.ensures.value,
-      below,
-    ) in
-    search rules
+unwrap-requires c = grind (arith, common_steps)
 
 pub loop-place-preserved : goal.loop-place-preserved
 loop-place-preserved c =
@@ -54,9 +45,7 @@ loop-place-preserved c =
           (omega (arith, less, all, c.if-count-self.false)) there))
           ∙ sym c.in-Some.ensures.value ∙ ap {B = Option ℕ} Some (c.if-found-count.false
           ∙ counted.ensures.value);
-      own = ap (λ n. padded (record { name = name; count = n }) (Some (row_tail_of name satellite)))
-          (sym counted.ensures.value)
-          ∙ sym (ap (row_tail_of name) counted.ensures.whole);
+      own = grind (arith, common_steps, name, satellite, counted);
       room = subst (λ n. n ≤ satellite.room) counted.ensures.value counted.ensures.room;
     })
 
@@ -70,18 +59,7 @@ returns-clause-again c =
     (rw (← c.self.view_is) at c.requires.none) in
     let come = come-again self.known c.len-count.ensures.unique c.self.invariant.2 c.args.types.now self.live all
     (λ place less. c.loop-place.invariant place (omega (arith, less, c.if-count-self.false))) in
-    rw (← c.self.view_is) (subst (λ n. HaveComeAgain c.args.types.now (placed_rows n self.live os es)
-    (placed_rows c.args.count self.live os es)) (sym none) (subst (λ n. HaveComeAgain c.args.types.now
-    (placed_rows 0 self.live os es) (placed_rows n self.live os es)) (sym c.if-count-self.false) come))
+    grind (arith, common_steps, self, es, os, none, come)
 
 pub returns-clause-counted : goal.returns-clause-counted
-returns-clause-counted c =
-    let self = c.self.inside in
-    let es = self.known.entries in
-    let os = in_order self.order.items es in
-    let all = c.self.invariant.1 in
-    let counted = length-in_order es c.self.invariant.2 in
-    let none = none-placed self.placed self.live es c.self.invariant
-    (rw (← c.self.view_is) at c.requires.none) in
-    rw (← c.self.view_is) (subst (λ n. c.args.count ≡ length (map row_of_entry (drop n (take self.live os))))
-    (sym none) (c.if-count-self.false ∙ sym (rows-counted self.live os (omega (arith, all, counted)))))
+returns-clause-counted c = grind (arith, common_steps, length-in_order, none-placed, rows-counted)

@@ -1,7 +1,8 @@
-use Rattle.std.proofs.Common.{arith, refl}
+use Rattle.std.proofs.Common.{arith}
 use Rattle.crx_compact.proofs.placing.SteppedRows.{left-at, row-below, stored-at}
 use Rattle.indexmap.specs.Layout.{length-set_value_at}
 use Rattle.crx_compact.proofs.satellites.Satellites.entry_mut.Goals as goal
+use Rattle.std.proofs.lemmas.Grind.{common_steps}
 
 pub pair_mut-satellite-requires : goal.pair_mut-satellite-requires
 pair_mut-satellite-requires c = omega (
@@ -21,19 +22,12 @@ returns c =
     let self = c.self.inside in
     let within = rw (← c.self.view_is) at c.requires.within in
     let there = c.pair_mut-satellite.ensures.value in
-    rw (← c.self.view_is) (
-      (
-        refl,
-        λ left. left-at self.known c.self.invariant.2 self.placed self.live within
-            c.number_at.ensures.value there left
-            c.self.invariant.0,
-        tt,
-      ),
-      record {
-        there = stored-at self.known c.self.invariant.2 self.placed self.live within
-            c.number_at.ensures.value there
-            c.pair_mut-satellite.ensures.unique;
-        some = refl;
-        after_borrow = tt;
-      },
+    grind (
+      arith,
+      common_steps,
+      self,
+      within,
+      there,
+      left-at self.known c.self.invariant.2 self.placed self.live within c.number_at.ensures.value there,
+      stored-at self.known c.self.invariant.2 self.placed self.live within c.number_at.ensures.value there c.pair_mut-satellite.ensures.unique,
     )

@@ -1,6 +1,6 @@
 use Rattle.std.proofs.Common.{rules, ◌≤◌, arith, subst, sym, ◌∙◌}
 use Rattle.std.proofs.{lemmas.Option.{same_Some, slice_get_within}, lemmas.Result.on_ok_weaker}
-use Rattle.indexmap.specs.{IndexMap.set_value_at, Layout.length-set_value_at}
+use Rattle.indexmap.specs.{Layout.length-set_value_at}
 use Rattle.crx_compact.proofs.placing.EntryChanges.{has-room, room-there, rooms-changed}
 use Rattle.crx_compact.proofs.placing.Prepared.{front-same, none-lost, range-same, rows-before, rows-same}
 use Rattle.crx_compact.proofs.placing.Rooms.{unknown}
@@ -34,26 +34,4 @@ invariant_of-self-2 c =
 
 pub returns-clause-asked : goal.returns-clause-asked
 returns-clause-asked c =
-    let self = c.self.inside in
-    let es = self.known.entries in
-    let few = c.self.invariant.0 in
-    let all = c.self.invariant.1 in
-    let is = c.in_ok-found.ensures.found in
-    let map = c.find_or_add.new.map in
-    let there = c.pair_mut-satellite.ensures.value in
-    let room = c.make_room.ensures in
-    let unique = c.pair_mut-satellite.ensures.unique in
-    let new = set_value_at map.entries c.in_ok-found.found c.make_room.new.self in
-    let front = rows-before es map.entries new is.known (rows-same map.entries c.in_ok-found.found _ _
-    c.make_room.new.self there room.flags room.cells) in
-    rw (← c.self.view_is) (record {
-      asked = record {
-        rows = front-same self.order.items self.places.items _ es new c.self.invariant.2 c.find_or_add.ensures.front front
-            self.placed (omega (arith, few, all));
-        rest = range-same self.order.items self.places.items _ es new c.self.invariant.2 c.find_or_add.ensures.front front
-            self.placed self.live all;
-        rooms = λ name count has. rooms-changed map c.in_ok-found.found _ _ _ unique there room.kept name count
-            (is.rooms name count has);
-      };
-      room = on_ok_weaker c.make_room.result (search (rules, has-room)) c.make_room.ensures.room;
-    })
+    search (rules, arith, rows-before, rows-same, front-same, range-same, rooms-changed, has-room)

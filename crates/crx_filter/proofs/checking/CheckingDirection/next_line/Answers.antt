@@ -1,7 +1,9 @@
-use Rattle.crx_filter.proofs.Words.{◌≡◌, ◌∙◌, ℕ, zero, suc, List, [], ◌∷◌, refl, sym, drop}
+use Rattle.crx_filter.proofs.Words.{◌≡◌, ℕ, zero, suc, List, [], ◌∷◌, refl, drop}
 use Rattle.std.{proofs.lemmas.List.drop-drop, specs.List.slice_get}
 use Rattle.crx_filter.specs.{Totals.found_held, meaning.Standard.report_lines}
 use Rattle.crx_filter.proofs.checking.CheckingDirection.next_line.Goals as goal
+use Rattle.std.proofs.Common.{arith}
+use Rattle.std.proofs.lemmas.Grind.{common_steps}
 
 -- the first of the lines behind others
 first-behind : (lines : List (List ℕ)) (count : ℕ) → slice_get (drop count lines) 0 ≡ slice_get lines count
@@ -16,17 +18,6 @@ returns-then-print_report_line c =
     c.self.inside.noted.not_standard) in
     let count = c.self.inside.handed_out in
     rw (← c.self.view_is) (
-      (
-        refl,
-        (λ there. tt),
-        (
-          sym (drop-drop 1 count report),
-          (refl, refl, (λ choices served. served), (λ choices lines known. known), (λ lines known. known)),
-        ),
-      ),
-      record {
-        value = rw (c.bytes.ensures.value) (sym (first-behind report count
-            ∙ c.if-print_report_line.ensures.line));
-        after_borrow = tt;
-      },
+      grind (arith, common_steps, report, count, drop-drop 1 count report),
+      grind (arith, common_steps, report, count, first-behind report count),
     )

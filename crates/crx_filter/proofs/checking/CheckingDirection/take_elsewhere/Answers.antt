@@ -1,8 +1,7 @@
-use Rattle.crx_filter.proofs.steps.CheckerSteps.{noted-takes, refused-takes}
-use Rattle.crx_filter.proofs.steps.CheckerSteps.{nothing_kept, step-counting, step-named, refused-reads}
-use Rattle.crx_filter.proofs.steps.{CheckerSteps.still-drained, EngineAnswers.short-line}
+use Rattle.crx_filter.proofs.steps.CheckerSteps.{line-taken, noted-takes, refused-takes, nothing_kept}
+use Rattle.crx_filter.proofs.steps.CheckerSteps.{refused-reads}
+use Rattle.crx_filter.proofs.steps.{CheckerSteps.{step-counted, step-held, still-drained}, EngineAnswers.short-line}
 use Rattle.{crx_lines.specs.Reading.{line_shown}, std.proofs.lemmas.Result.err_from_is_err_and}
-use Rattle.std.proofs.Common.{true≢false, sym, ◌∙◌}
 use Rattle.crx_filter.proofs.checking.CheckingDirection.take_elsewhere.Goals as goal
 
 pub returns-in_err-step : goal.returns-in_err-step
@@ -16,33 +15,21 @@ returns-in_err-step c =
           (c.in_err-step.ensures.reads.refuses nothing_kept) (still-drained c.self.inside.handed_out _ _ drained));
     })
 
-pub note-requires-clause-observed : goal.note-requires-clause-observed
-note-requires-clause-observed c = step-counting _ _ _ _ _ _ c.in_ok-step.ensures.reads.steps
-    (c.in_ok-step.ensures.reads.takes nothing_kept)
-
-pub note-requires-clause-read : goal.note-requires-clause-read
-note-requires-clause-read c is = absurd (true≢false (sym is ∙ c.in_ok-step.ensures.reads.steps))
+pub note-requires-clause-held : goal.note-requires-clause-held
+note-requires-clause-held c = step-held _ _ _ _ _ (c.in_ok-step.ensures.reads.takes nothing_kept)
 
 pub invariant_of-self-2 : goal.invariant_of-self-2
-invariant_of-self-2 c =
-    let takes = c.in_ok-step.ensures.reads.takes nothing_kept in
-    let shown = rw c.bytes.ensures.content at takes in
-    record {
-      named = λ is_open. step-named _ _ _ _ _ _ c.in_ok-step.ensures.reads.steps takes
-          c.clear_if_begun.ensures.empty is_open;
-      observed = c.note.ensures.observed _ _ shown;
-      bounded = c.note.ensures.bounded;
-    }
+invariant_of-self-2 c = step-counted _ _ _ _ _ (c.in_ok-step.ensures.reads.takes nothing_kept)
+    c.note.new.self c.note.ensures.begun
 
 pub returns : goal.returns
 returns c =
-    let line = line_shown c.args.line in
     let was = c.self.inside in
     let takes = rw c.bytes.ensures.content at (c.in_ok-step.ensures.reads.takes nothing_kept) in
     let drained = rw (← c.self.view_is) at c.requires.asked.drained in
     rw (← c.self.view_is) (record {
-      takes = noted-takes was.reader c.take.new.self was.noted.totals
-          c.note.new.self.totals _ _ line c.in_ok-step.step (short-line line c.args.line.short) takes
-          (c.note.ensures.totals _ _ takes) (c.note.ensures.standard _ _ takes)
-          (still-drained was.handed_out _ _ drained) c.note.ensures.count;
+      takes = noted-takes was.reader c.take.new.self was.noted c.note.new.self (line_shown c.args.line) _
+          (short-line (line_shown c.args.line) c.args.line.short)
+          (line-taken (line_shown c.args.line).content was.reader c.take.new.self _ c.in_ok-step.step takes)
+          (c.note.ensures.notes _ _ takes) (still-drained was.handed_out _ _ drained);
     })

@@ -1,7 +1,5 @@
 use Rattle.crx_compact.specs.OpenEpochs.{tail_held}
 use Rattle.crx_filter.proofs.{CompactSteps.{begin-lacks, begun-wants}, Words.{arith, common_steps, rules, sym, subst, ◌≡◌, true}}
-use Rattle.crx_compact.specs.{OpenEpochs.ColumnsState, ReadingRooms.HaveCellsRoom}
-use Rattle.crx_filter.specs.{EpochRooms.rows_held, Rooms.may_begin}
 use Rattle.crx_filter.proofs.compact_reader.CompactReader.begin.Goals as goal
 
 pub invariant_of-self-2 : goal.invariant_of-self-2
@@ -13,19 +11,10 @@ invariant_of-self-2 c =
     }
 
 pub returns-clause-kept : goal.returns-clause-kept
-returns-clause-kept c =
-    let made = c.in_ok-begin.ensures.made in
-    record {
-      rooms = search (rules, c.begin.ensures.rooms.kept);
-      held = λ held. subst (λ (s : ColumnsState). HaveCellsRoom (rows_held s) c.begin.new.self.rooms) (sym made.2)
-          (c.in_ok-begin.ensures.rooms.room made.0 made.1);
-    }
+returns-clause-kept c = grind (arith, common_steps)
 
 pub returns-clause-unprinted : goal.returns-clause-unprinted
 returns-clause-unprinted c block opened = c.begin.ensures.unprinted block
 
 pub returns-in_err-begin-clause-reads : goal.returns-in_err-begin-clause-reads
-returns-in_err-begin-clause-reads c =
-    let self = c.args.self.now in
-    let begins : may_begin self.stage ≡ true = grind (arith, common_steps) in
-    grind (arith, common_steps, begins, begin-lacks _ _ _ _ c.in_err-begin.ensures.rooms)
+returns-in_err-begin-clause-reads c = search (rules, arith, begin-lacks)

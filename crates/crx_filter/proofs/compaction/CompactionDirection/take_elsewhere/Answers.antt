@@ -1,11 +1,13 @@
-use Rattle.crx_filter.proofs.Words.{common_steps, arith, ap, refl, sym, ◌∙◌, ◌≡◌, ◌+◌, Choices, Header}
+use Rattle.crx_filter.proofs.Words.{common_steps, arith, ap, refl, sym, ◌∙◌, ◌≡◌, ◌+◌, true, false, Choices, Header}
 use Rattle.{crx_filter.proofs.Words.is_at_every, crx_compact.specs.Encoding.EncoderState}
 use Rattle.crx_filter.proofs.steps.CompactionKnows.{compaction_of, copied-takes, ended-takes, kept_in, moved-takes}
-use Rattle.crx_filter.proofs.steps.{CompactionKnows.refused-takes, CompactionSteps.{copied-closed, not-first}}
+use Rattle.crx_filter.proofs.steps.{CompactionKnows.refused-takes, CompactionSteps.{copied-closed, is_copied, is_first_line}}
 use Rattle.crx_filter.proofs.steps.Together.{begun-asked, begun-holds, begun-open, begun-rows}
 use Rattle.crx_filter.proofs.steps.Together.{begun-together, begun-whole, closed-together, none-there}
 use Rattle.crx_filter.proofs.steps.Together.{same-together, served-closed, served-open}
-use Rattle.{crx_filter.proofs.compaction.CompactionDirection.take_elsewhere.Goals.After-begin}
+use Rattle.{crx_filter.proofs.compaction.CompactionDirection.take_elsewhere.Goals.{After-begin, After-reset}}
+use Rattle.crx_filter.proofs.compaction.CompactionDirection.take_elsewhere.Goals.{in_default-via-in-Header+else-this}
+use Rattle.crx_filter.proofs.compaction.CompactionDirection.take_elsewhere.Goals.{in_default-via-in_default}
 use Rattle.{crx_lines.specs.Reading.line_shown}
 use Rattle.std.proofs.lemmas.Result.{err_from_is_err_and}
 use Rattle.crx_filter.proofs.compaction.CompactionDirection.take_elsewhere.Goals as goal
@@ -34,8 +36,8 @@ returns-in_err-take c =
           (λ choices chosen. served-closed _ _ _ closed) drained;
     })
 
-pub invariant_of-self-in-Nothing : goal.invariant_of-self-in-Nothing
-invariant_of-self-in-Nothing c =
+pub invariant_of-self-in-Nothing-1 : goal.invariant_of-self-in-Nothing-1
+invariant_of-self-in-Nothing-1 c =
     let takes = c.in_ok-take.ensures.reads.takes (kept_in c.self.inside) in
     grind (arith, common_steps, closed-together, none-there, takes)
 
@@ -63,7 +65,7 @@ returns-then-is_in_epoch c =
     rw (← c.self.view_is) (record {
       takes = moved-takes _ _ (compaction_of was.index was.reader was.encoder)
           (compaction_of was.index c.take.new.self c.begin.new.self) (line_shown c.args.line) _ c.args.line.short
-          (rw begun (λ name count has. has)) (begun-open _ _ _ _ takes opened) (rw begun refl)
+          (rw begun (λ name count has. has)) (begun-open _ _ _ takes opened) (rw begun refl)
           (λ choices chosen. served-open _ _ _ (due (goal.at.returns-then-is_in_epoch c).After-begin choices chosen))
           (ap (λ (e : EncoderState). e.pending) begun);
     })
@@ -76,11 +78,11 @@ end_epoch-requires c =
           (sym c.is_in_epoch.ensures.value ∙ c.if-is_in_epoch.false);
     }
 
-pub invariant_of-self-in-Begun : goal.invariant_of-self-in-Begun
-invariant_of-self-in-Begun c =
+pub invariant_of-self-in-Begun-1 : goal.invariant_of-self-in-Begun-1
+invariant_of-self-in-Begun-1 c =
     let begins = rw c.in-Begun.is at (c.in_ok-take.ensures.reads.takes (kept_in c.self.inside)) in
     let closed = sym c.is_in_epoch.ensures.value ∙ c.if-is_in_epoch.false in
-    let ends = c.end_epoch.ensures.ends _ (begun-whole _ _ _ _ begins closed).held in
+    let ends = c.end_epoch.ensures.ends _ (begun-whole _ _ _ begins closed).held in
     closed-together _ _ closed ends.closed ends.rows
 
 pub returns-else-is_in_epoch : goal.returns-else-is_in_epoch
@@ -88,7 +90,7 @@ returns-else-is_in_epoch c =
     let was = c.self.inside in
     let takes = rw (c.in-Begun.is, c.bytes.ensures.content) at (c.in_ok-take.ensures.reads.takes (kept_in was)) in
     let begun = c.begin.ensures.begun in
-    let done = begun-whole _ _ _ _ takes (sym c.is_in_epoch.ensures.value ∙ c.if-is_in_epoch.false) in
+    let done = begun-whole _ _ _ takes (sym c.is_in_epoch.ensures.value ∙ c.if-is_in_epoch.false) in
     let ends = c.end_epoch.ensures.ends done.head done.held in
     rw (← c.self.view_is) (record {
       takes = ended-takes _ _ (compaction_of was.index was.reader was.encoder)
@@ -99,56 +101,45 @@ returns-else-is_in_epoch c =
           (begun-holds was.encoder takes begun) ends refl;
     })
 
-pub invariant_of-self-then-is_first : goal.invariant_of-self-then-is_first
-invariant_of-self-then-is_first c =
+pub invariant_of-self-then-this : goal.invariant_of-self-then-this
+invariant_of-self-then-this c =
     grind (arith, common_steps, closed-together, c.in_ok-take.ensures.reads.takes (kept_in c.self.inside))
 
-pub returns-then-is_first : goal.returns-then-is_first
-returns-then-is_first c =
+pub returns-in-Header-true : goal.returns-in-Header-true
+returns-in-Header-true c =
     let was = c.self.inside in
-    let takes = rw (c.in-Header.is, c.bytes.ensures.content) at (c.in_ok-take.ensures.reads.takes (kept_in was)) in
+    let takes = rw (c.in-Header-true.is, c.bytes.ensures.content) at (c.in_ok-take.ensures.reads.takes (kept_in was)) in
     rw (← c.self.view_is) (record {
       takes = copied-takes _ _ (compaction_of was.index was.reader was.encoder)
           (compaction_of was.index c.take.new.self c.put_first_lines.new.self) (line_shown c.args.line) _
-          c.args.line.short (rw c.put_first_lines.ensures.put (λ name count has. has)) (Header c.in-Header.is_first)
-          c.date.result.now (λ e. absurd (cc (e))) (λ e. absurd (cc (e))) refl takes
-          (λ choices chosen. rw chosen (sym c.date.ensures.value))
-          (rw (c.if-is_first.true, c.put_first_lines.ensures.put) refl) refl;
+          c.args.line.short (rw c.put_first_lines.ensures.put (λ name count has. has)) (Header c.in-Header-true.is_first)
+          c.date.result.now refl takes (λ choices chosen. rw chosen (sym c.date.ensures.value))
+          (rw (c.in-Header-true.is_first-test, c.put_first_lines.ensures.put) refl) refl;
     })
 
-pub invariant_of-self-in-Header : goal.invariant_of-self-in-Header
-invariant_of-self-in-Header c =
-    grind (arith, common_steps, closed-together, c.in_ok-take.ensures.reads.takes (kept_in c.self.inside))
-
-pub returns-else-is_first : goal.returns-else-is_first
-returns-else-is_first c =
-    let was = c.self.inside in
-    let takes = rw (c.in-Header.is, c.bytes.ensures.content) at (c.in_ok-take.ensures.reads.takes (kept_in was)) in
-    rw (← c.self.view_is) (record {
-      takes = copied-takes _ _ (compaction_of was.index was.reader was.encoder)
-          (compaction_of was.index c.take.new.self c.reset.new.self) (line_shown c.args.line) _
-          c.args.line.short (rw c.reset.ensures.emptied (λ name count has. has)) (Header c.in-Header.is_first)
-          c.args.options.now.date (λ e. absurd (cc (e))) (λ e. absurd (cc (e))) refl takes
-          (λ choices chosen. rw chosen refl) (rw (c.if-is_first.false, c.reset.ensures.emptied) refl) refl;
-    })
+-- the line is one that is copied, and not the header's first one
+is-copied : (c : After-reset) → (is_copied c.in_ok-take.field-0 ≡ true) × (is_first_line c.in_ok-take.field-0 ≡ false)
+is-copied c = elim c.in_default.branch [
+  | in_default-via-in-Header+else-this w ↦ grind (arith, common_steps)
+  | in_default-via-in_default w ↦ grind (arith, common_steps)
+]
 
 pub invariant_of-self-in_default : goal.invariant_of-self-in_default
 invariant_of-self-in_default c =
-    let step = c.in_default in
+    let copied = is-copied (goal.at.invariant_of-self-in_default c).After-reset in
     let takes = c.in_ok-take.ensures.reads.takes (kept_in c.self.inside) in
-    let closed = copied-closed _ _ _ _ _ step.not-Begun c.in_ok-take.ensures.reads.steps takes in
+    let closed = copied-closed _ _ _ _ _ copied.0 takes in
     grind (arith, common_steps, closed-together, closed)
 
 pub returns-in_default : goal.returns-in_default
 returns-in_default c =
     let was = c.self.inside in
-    let step = c.in_default in
+    let copied = is-copied (goal.at.returns-in_default c).After-reset in
     let takes = rw c.bytes.ensures.content at (c.in_ok-take.ensures.reads.takes (kept_in was)) in
     rw (← c.self.view_is) (record {
       takes = copied-takes _ _ (compaction_of was.index was.reader was.encoder)
-          (compaction_of was.index c.take.new.self c.reset-in_default.new.self) (line_shown c.args.line) _
-          c.args.line.short (rw c.reset-in_default.ensures.emptied (λ name count has. has)) _
-          c.args.options.now.date step.not-Nothing step.not-Begun c.in_ok-take.ensures.reads.steps takes
-          (λ choices chosen. rw chosen refl)
-          (rw (not-first _ step.not-Header, c.reset-in_default.ensures.emptied) refl) refl;
+          (compaction_of was.index c.take.new.self c.reset.new.self) (line_shown c.args.line) _
+          c.args.line.short (rw c.reset.ensures.emptied (λ name count has. has)) _
+          c.args.options.now.date copied.0 takes (λ choices chosen. rw chosen refl)
+          (rw (copied.1, c.reset.ensures.emptied) refl) refl;
     })

@@ -1,13 +1,13 @@
-use Rattle.crx_filter.proofs.Words.{common_steps, arith, ap, refl, ◌∙◌, sym, ◌+◌, inl, List, ℕ, LineTooLong}
-use Rattle.crx_filter.proofs.Words.{step_made}
-use Rattle.crx_filter.proofs.steps.{EngineAnswers.{as-read-long, line-answered}, EngineFaults.after-error}
-use Rattle.crx_filter.proofs.steps.EngineFaults.{long-failed, notes-refused}
+use Rattle.crx_filter.proofs.Words.{common_steps, arith, ap, refl, ◌∙◌, sym, ◌+◌, inl, List, [], ℕ, LineStep}
+use Rattle.crx_filter.proofs.Words.{step_made, LineTooLong, Overlong}
+use Rattle.crx_filter.proofs.steps.{EngineAnswers.{as-read-long, goes-on}, EngineFaults.{long-next, none-handed, refused-takes}}
 use Rattle.crx_filter.specs.{DirectionParts.EngineParts, EngineState.engine_state}
 use Rattle.crx_filter.proofs.engine.LineEngine.overlong.Goals as goal
 
 pub returns-in_default : goal.returns-in_default
 returns-in_default g c =
     let d = g.D.Direction in
+    let now = c.stage-stage.ensures in
     let then = c.fail.new.self in
     let was : EngineParts _ = record {
       options = c.self.inside.options;
@@ -15,36 +15,28 @@ returns-in_default g c =
       direction = c.self.inside.direction;
       answer = c.self.inside.answer;
     } in
-    let law = c.stage-stage.ensures.lawful c.self.inside.options c.self.invariant.3 in
-    let failed = long-failed d.by_line law.too_long_first law.too_long_next _ c.self.inside.number
-    c.args.number c.stage-stage.result (d.parts c.self.inside.direction) _ _ _
-    (c.fail.ensures.fails _ c.may_skip.ensures.value c.is_in_epoch-is_open.ensures.value)
-    (c.requires.next.next ∙ ap (λ (e : EngineParts _). e.number + 1) (sym c.self.view_is))
-    c.stage-stage.ensures.value c.stage-stage.ensures.held (grind (
+    let law = now.lawful was.options c.self.invariant.3 in
+    let next = long-next d.by_line law.too_long_first law.too_long_next was.options was.number
+    c.stage-stage.result (d.parts was.direction) now.value now.held (grind (
       arith,
       common_steps,
       c.in_default.not-Looking,
       c.in_default.not-Closed,
       c.in_default.not-Ended,
     )) in
-    let stopped = failed.1 in
-    let made = ap (λ (ls : List (List ℕ)). step_made then.answer ls (engine_state d then)) stopped.drained ∙ stopped.steps ∙ sym failed.0 in
+    let stopped = c.fail.ensures.fails _ c.may_skip.ensures.value c.is_in_epoch-is_open.ensures.value
+    (d.parts was.direction) Overlong was.number
+    (record { stage_was = sym now.value; held = now.held; types = refl; kept = refl; goes = refl })
+    (c.requires.next.next ∙ ap (λ (e : EngineParts _). e.number + 1) (sym c.self.view_is)) in
+    let drained = ap (λ (s : LineStep _ _). s.handed_out) stopped ∙ none-handed d.by_line (engine_state d was)
+    Overlong LineTooLong in
+    let made = ap (λ (ls : List (List ℕ)). step_made then.answer ls (engine_state d then)) (sym drained)
+    ∙ stopped in
     rw (ap (λ (e : EngineParts _). e.answer) c.self-in_default.view_is, ← c.self.view_is) (record {
-      stops = rw failed.0 stopped;
-      answers = λ line long. line-answered d was (record {
-        chosen = c.self.invariant.3;
-        lawful = law;
-        enough = c.stage-stage.ensures.enough;
-      }) then line _ then.answer (as-read-long line long)
-          (notes-refused d was then line c.stage-stage.ensures.passes
-          (λ lines known. c.fail.ensures.stays _ lines known) LineTooLong _ _
-          (d.has_room was.direction line.content) _ stopped (as-read-long line long) (inl made))
-          (record {
-            steps = inl made;
-            ended = stopped.ended;
-            nothing = after-error _ stopped.drained;
-            choices = stopped.choices;
-          });
-      stays = λ choices lines known. after-error _ (c.fail.ensures.stays choices lines known);
+      steps = made ∙ sym next;
+      drained = drained;
+      takes = λ line long. refused-takes d was then line
+          (goes-on d was c.self.invariant.3 now.lawful now.enough) now.passes c.fail.ensures.stays LineTooLong
+          Overlong _ [] made (as-read-long line long) (inl (made ∙ sym next));
       once = c.fail.ensures.once refl;
     })

@@ -18,14 +18,7 @@ pub invariant_of-self-then-branch : goal.invariant_of-self-then-branch
 invariant_of-self-then-branch c = c.read_between.ensures.unprinted c.self.inside.lines
 
 pub returns-in_err-read_between : goal.returns-in_err-read_between
-returns-in_err-read_between c =
-    let p = err_from_is_err_and c.from_residual.result c.from_residual.ensures.1 in
-    let at = (goal.at.returns-in_err-read_between c).After-read_between in
-    rw (← c.self.view_is, p.1, p.2, none at) (record {
-      takes = reader-takes c.self.inside.reader
-          c.read_between.new.self c.self.inside.lines _ (line_shown c.args.line) _ _ c.args.line.short
-          (rw c.bytes.ensures.content at c.in_err-read_between.ensures.reads) c.read_between.ensures.kept;
-    })
+returns-in_err-read_between c = grind (arith, common_steps, err_from_is_err_and, reader-takes)
 
 pub returns-then-branch : goal.returns-then-branch
 returns-then-branch c = rw (← c.self.view_is, none (goal.at.returns-then-branch c).After-read_between) (record {

@@ -4,6 +4,7 @@ use Rattle.crx_filter.proofs.Words.{records_announced, counts_types, with_record
 use Rattle.crx_filter.proofs.rinex_reader.RinexReader.begin.Goals.{then-count-eq0, else-count-eq0}
 use Rattle.crx_rinex.specs.{Heads.head_line, declared.epoch_line.Head.Head}
 use Rattle.crx_filter.proofs.rinex_reader.RinexReader.begin.Goals as goal
+use Rattle.std.proofs.lemmas.Grind.{common_steps}
 
 event-phase : (line : List ℕ) (count : ℕ) (counted : Bool) → records_announced line ≡ count → counted
     ≡ counts_types line → with_records_left {O = OpenEpoch} count counted ≡ with_records_left
@@ -15,21 +16,17 @@ returns-in-Event c =
     let self = c.args.self.now in
     let line = c.args.line.now in
     let is = c.in_ok-count.ensures.value ∙ ap (λ (h : Head). Ok (head_line h)) c.in-Event.is in
-    record {
-      reads = record {
-        takes = λ kept. record {
-          unit_made = begin-made self line kept c.requires.stage
-              ∙ event-made self.types line _ c.in-Event.count is;
-          phase_then = c.with_records_left-self.ensures.rinex _ ∙ event-phase line c.in-Event.count
-              c.counts_types.result (event-counts line _ c.in-Event.count is) c.counts_types.ensures.value;
-          types_then = refl;
-          closed = c.with_records_left-self.ensures.closed;
-        };
-        refuses = λ kept. tt;
-        steps = refl;
-        same = tt;
-      };
-    }
+    grind (
+      arith,
+      common_steps,
+      self,
+      line,
+      is,
+      begin-made self line,
+      event-made self.types line,
+      event-phase line c.in-Event.count c.counts_types.result,
+      event-counts line,
+    )
 
 pub returns-after-count-eq0 : goal.returns-after-count-eq0
 returns-after-count-eq0 c =
@@ -50,7 +47,6 @@ returns-after-count-eq0 c =
               (record { types_then = refl; held = refl; rows_then = c.new-self.ensures.rows }) w.self-is
         ];
         refuses = λ kept. tt;
-        steps = refl;
         same = tt;
       };
     }

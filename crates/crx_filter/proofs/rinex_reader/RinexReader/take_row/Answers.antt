@@ -1,5 +1,5 @@
 use Rattle.crx_filter.proofs.Words.{common_steps, ◌≡◌, ◌+◌, ◌≤◌, ◌++◌, ◌∷◌, [], List, length, refl, arith}
-use Rattle.crx_filter.proofs.Words.{sym, ap, ◌∙◌, ObservationHead, Row, RinexReader}
+use Rattle.crx_filter.proofs.Words.{◌∙◌, ObservationHead, Row, RinexReader}
 use Rattle.crx_base.specs.declared.limits.TheConstants.{SATELLITES_LIMIT}
 use Rattle.crx_filter.proofs.RinexSteps.{IsInEpoch, in-its-epoch, last-row-taken, row-taken, stays-open}
 use Rattle.{crx_rinex.specs.meaning.EpochLines.IsObservationHead, std.proofs.lemmas.List.length_push}
@@ -35,13 +35,7 @@ invariant_of-self-else-self-announced c =
     let wants = at.wants in
     let others = c.if-self-announced.false in
     let announced = c.count-announced.ensures.value in
-    record {
-      consistent = stays-open c.args.self.now.stage c.args.self.now.head c.in-Some.head
-          (c.args.self.now.count + 1) c.add.new.self.rows at.stage c.in-Some.is (ap (λ n. n + 1) counted
-          ∙ sym (ap length c.add.ensures.rows ∙ length_push c.args.self.now.rows.rows c.args.self.now.row))
-          (omega (arith, wants, others, announced));
-      few = search few-rows;
-    }
+    grind (arith, common_steps, at, counted, wants, others, announced, stays-open, length_push, few-rows)
 
 pub returns-clause-takes : goal.returns-clause-takes
 returns-clause-takes c = λ line kept read other new.

@@ -11,15 +11,10 @@ use Rattle.crx_lines.proofs.line.LineReader.advance_by_reading.Given.{Over}
 use Rattle.crx_lines.proofs.line.LineReader.advance_by_reading.Goals.{After-take_line-cut}
 use Rattle.crx_lines.proofs.line.LineReader.advance_by_reading.Goals.{then-found-2, else-found-2}
 use Rattle.crx_lines.proofs.line.LineReader.advance_by_reading.Goals as goal
+use Rattle.std.proofs.lemmas.Grind.{common_steps}
 
 pub returns-in-Err-clause-answers : goal.returns-in-Err-clause-answers
-returns-in-Err-clause-answers g c =
-    let found = rw (ap kept c.deref_mut.ensures.value) at c.in-Err.ensures.fault in (
-      found.0,
-      found.1,
-      fault-answers found.0 _ _ _ (reading c.args.self.now) _ _ c.in-Err.fault found.2
-          (record { line = refl; number = refl; phase = refl }),
-    )
+returns-in-Err-clause-answers g c = grind (arith, common_steps, fault-answers)
 
 -- the line that was taken, with what is left behind it
 module _ (g : Over) (c : After-take_line-cut g) where
@@ -43,18 +38,11 @@ module _ (g : Over) (c : After-take_line-cut g) where
   some = some-read c.in-Ok.found.passed c.in-Ok.found.len _ c.if-found.false
 
   left : kept c.take_line-cut.new.self ≡ drop n held
-  left =
-      c.take_line-cut.ensures.kept
-      ∙ ap (λ w. drop (c.in-Ok.found.len + cond c.in-Ok.found.is_ended 1 0) (kept w))
-      c.deref_mut-2.ensures.value ∙ ap (λ k. drop k held) (sym count)
+  left = grind (arith, common_steps)
 
   line : cut_shown c.take_line-cut.new.self.bytes.items c.take_line-cut.result
       ≡ line_of (record { bytes = take c.in-Ok.found.len held; is_ended = c.in-Ok.found.is_ended })
-  line =
-      c.take_line-cut.ensures.shown
-      ∙ ap (λ w. line_of
-      (record { bytes = take c.in-Ok.found.len (kept w); is_ended = c.in-Ok.found.is_ended }))
-      c.deref_mut-2.ensures.value
+  line = grind (arith, common_steps)
 
   taken : (after : ReaderState) → after.rest ≡ kept c.take_line-cut.new.self
       → after.passed ≡ c.args.self.now.passed + (c.in-Ok.found.passed + n)
@@ -72,14 +60,7 @@ pub overflow_add-self-2 : goal.overflow_add-self-2
 overflow_add-self-2 g c = omega (arith, within g (goal.at.overflow_add-self-2 g c).After-take_line-cut)
 
 pub invariant_of-self-2 : goal.invariant_of-self-2
-invariant_of-self-2 g c =
-    let at = (goal.at.invariant_of-self-2 g c).After-take_line-cut in
-    let byte = some-byte _ _ _ _ _ _ _ _ _ _ c.in-Ok.ensures.ok.1 c.in-Ok.ensures.end (count g at)
-    (some g at) in
-    record {
-      counted = omega (arith, byte, c.args.self.now.counted);
-      limit = omega (arith, within g at, ap length (left g at), length-drop (n g at) (held g at));
-    }
+invariant_of-self-2 g c = grind (arith, common_steps, some-byte, length-drop)
 
 pub returns-then-found-cut-clause-answers : goal.returns-then-found-cut-clause-answers
 returns-then-found-cut-clause-answers g c =

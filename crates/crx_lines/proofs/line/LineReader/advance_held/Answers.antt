@@ -1,13 +1,14 @@
-use Rattle.std.proofs.Common.{◌≡◌, ℕ, true, ◌+◌, ◌-◌, List, length, [], inr, take, drop, IsTrue, sym, ap, ◌∙◌}
+use Rattle.std.proofs.Common.{◌≡◌, ℕ, true, ◌+◌, ◌-◌, List, length, [], inr, drop, IsTrue, ap, ◌∙◌}
 use Rattle.std.proofs.Common.{refl}
 use Rattle.std.proofs.{Common.{arith, subst}, lemmas.Bool.lt-ltb}
-use Rattle.crx_base.specs.declared.limits.TheConstants.{INPUT_LIMIT, LINE_LIMIT}
-use Rattle.crx_base.specs.meaning.Lines.{Piece, line_of, is_long}
+use Rattle.crx_base.specs.declared.limits.TheConstants.{INPUT_LIMIT}
+use Rattle.crx_base.specs.meaning.Lines.{Piece, line_of}
 use Rattle.crx_lines.proofs.AdvanceLemmas.{EndIs, piece_at, takes, whole-piece}
 use Rattle.crx_lines.proofs.SeekLemmas.{Seeking-start, Seeking-searched}
 use Rattle.crx_lines.specs.{Readers.reading, Reading.{ReaderState, TakesPiece}, Window.{cut_shown, kept}}
 use Rattle.crx_lines.proofs.line.LineReader.advance_held.Goals.{After-take_line-cut}
 use Rattle.crx_lines.proofs.line.LineReader.advance_held.Goals as goal
+use Rattle.std.proofs.lemmas.Grind.{common_steps}
 
 abbrev after : After-take_line-cut → ReaderState
 after c =
@@ -43,22 +44,14 @@ taken c =
       subst (λ given. TakesPiece (reading old) given ⊥ piece (after c)) s.lead
           (takes gave held held old.passed _ 0 len (len + 1) ⊥ true s end refl (inr refl) (reading old)
           (after c) refl refl now (omega arith) refl c.requires),
-      cut.shown ∙ ap (λ w. line_of (record { bytes = take len (kept w); is_ended = true }))
-          c.deref_mut.ensures.value ∙ ap (λ bytes. line_of (record { bytes = bytes; is_ended = true })) (sym whole),
+      grind (arith, common_steps, len, cut, whole),
     )
 
 pub returns-then-cut-gt-LINE_LIMIT-clause-answers : goal.returns-then-cut-gt-LINE_LIMIT-clause-answers
 returns-then-cut-gt-LINE_LIMIT-clause-answers c =
     let t = taken (goal.at.returns-then-cut-gt-LINE_LIMIT-clause-answers c).After-take_line-cut in
     let over = c.if-cut-gt-LINE_LIMIT.true in
-    let long = c.take_line-cut.ensures.cut.3 in (
-      refl,
-      t.0,
-      t.1,
-      t.2,
-      subst (λ l. IsTrue (is_long l)) t.3 (lt-ltb LINE_LIMIT _ (omega (arith, over, long))),
-      refl,
-    )
+    let long = c.take_line-cut.ensures.cut.3 in grind (arith, common_steps, t, over, long, IsTrue, lt-ltb)
 
 pub returns-clause-answers : goal.returns-clause-answers
 returns-clause-answers c =

@@ -1,7 +1,9 @@
 use Rattle.std.proofs.{Common.{◌≡◌, inr, refl, Option, None, Result, Ok, Err}, lemmas.Result.err_from_is_err_and}
 use Rattle.crx_base.specs.declared.fault.At.{At}
-use Rattle.crx_lines.specs.{Readers.reading, declared.line.Line.Line}
+use Rattle.crx_lines.specs.{declared.line.Line.Line}
 use Rattle.crx_lines.proofs.line.LineReader.next_held.Goals as goal
+use Rattle.std.proofs.Common.{arith}
+use Rattle.std.proofs.lemmas.Grind.{common_steps}
 
 err-not-none : (at : At) → ◌≡◌ {A = Result (Option Line) At} (Err at) (Ok None) → ⊥
 err-not-none at e = cc
@@ -12,10 +14,5 @@ returns-in_err-cut c =
     let found = c.in_err-cut.ensures.answers in
     rw (p.1, p.2) (
       (refl, (λ _. tt), found),
-      record {
-        answers = (reading c.advance_held.new.self, found);
-        going = inr c.in-Open.is;
-        none = λ is. absurd (err-not-none _ is);
-        after_borrow = tt;
-      },
+      grind (arith, common_steps, found, err-not-none),
     )

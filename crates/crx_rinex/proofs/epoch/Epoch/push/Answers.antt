@@ -1,11 +1,12 @@
 use Rattle.std.proofs.Common.{◌≡◌, ◌≤◌, ◌+◌, ◌++◌, ◌∷◌, [], ℕ, List, length, vec_capacity, arith, rules, sym}
-use Rattle.std.proofs.{Common.{ap, ◌∙◌, false, if◌then◌else◌, inr}, lemmas.Grind.common_steps}
+use Rattle.std.proofs.{Common.{ap, refl, ◌∙◌, false, if◌then◌else◌, inr}, lemmas.Grind.common_steps}
 use Rattle.std.{proofs.lemmas.List.length_push, specs.{List.list_any, Str.bytes_eq}}
 use Rattle.indexmap.specs.IndexSet.{spare}
 use Rattle.crx_header.specs.meaning.EpochColumns.{satellites_of}
 use Rattle.crx_rinex.proofs.{Rows.{among-names, parts-more}, epoch.Epoch.push.Goals.After-contains}
 use Rattle.crx_rinex.specs.{Epochs.{AreEpochParts, is_full_epoch}, meaning.Epochs.has_satellite}
 use Rattle.crx_rinex.specs.meaning.Observations.{Epoch}
+use Rattle.crx_rinex.proofs.epoch.Epoch.push.Goals.{then-is_empty+else-is_err+else-is_err-2, else-is_empty}
 use Rattle.crx_rinex.proofs.epoch.Epoch.push.Goals as goal
 
 -- whether the epoch has the satellite
@@ -25,28 +26,37 @@ invariant_of-self-2 c =
     let rows = c.self.inside.rows.items in
     let row = c.args.row in
     let new = known (goal.at.invariant_of-self-2 c).After-contains ∙ c.if-contains.false in
-    let same = c.make_room.ensures.names in
-    let absent : list_any (bytes_eq c.name-2.result) c.make_room.new.names.keys ≡ false =
+    let made = c.if-is_empty.self-inside in
+    let ready : (made.head ≡ head) × (made.rows.items ≡ rows) × (made.names.keys ≡ names)
+    × (satellites_of head.head ≤ vec_capacity made.rows)
+    × (satellites_of head.head ≤ length rows + spare made.names) = elim c.if-is_empty.branch [
+      | then-is_empty+else-is_err+else-is_err-2 w ↦ rw w.self-inside-is (
+        refl,
+        search rules,
+        search rules,
+        grind (arith, common_steps),
+        grind (arith, common_steps),
+      )
+      | else-is_empty w ↦ grind (arith, common_steps)
+    ] in
+    let same = ready.2 in
+    let absent : list_any (bytes_eq c.name-2.result) made.names.keys ≡ false =
     (λ j. list_any (bytes_eq (c.name-2.ensures.value j)) (same j))
     ∙ sym (ap (λ (n : List ℕ). list_any (bytes_eq n) names) c.name.ensures.value)
     ∙ sym c.contains.ensures ∙ c.if-contains.false in
     let put : c.insert.new.self.keys ≡ names ++ row.name ∷ [] = (rw c.unwrap.ensures at c.insert.ensures.keys)
-    ∙ ap (λ b. if b then c.make_room.new.names.keys
-    else c.make_room.new.names.keys ++ c.name-2.result ∷ []) absent
+    ∙ ap (λ b. if b then made.names.keys
+    else made.names.keys ++ c.name-2.result ∷ []) absent
     ∙ (λ j. same j ++ c.name-2.ensures.value j ∷ []) in
     let pushed : c.push.new.self.items ≡ rows ++ row ∷ [] =
-    (rw c.unwrap-2.ensures at c.push.ensures.items) ∙ ap (λ rs. rs ++ row ∷ []) c.make_room.ensures.rows in
+    (rw c.unwrap-2.ensures at c.push.ensures.items) ∙ ap (λ rs. rs ++ row ∷ []) ready.1 in
     let parts : AreEpochParts head c.insert.new.self.keys c.push.new.self.items = rw (put, pushed)
     (parts-more head names rows row c.self.invariant.0 (ap is_full_epoch c.self.view_is ∙ c.requires)
     c.name.ensures.sound (ap (λ (e : Epoch). has_satellite row.name e.rows) c.self.view_is ∙ new)) in
-    let room : (satellites_of head.head ≤ vec_capacity c.make_room.new.rows)
-    × (satellites_of head.head ≤ length rows + spare c.make_room.new.names) = search rules in
     let fewer = c.insert.ensures.spare in
     let many = ap length pushed in
-    let more = c.push.ensures.capacity in (
-      parts,
-      inr (omega (arith, room.0, more), omega (arith, room.1, fewer, many, length_push rows row)),
-    )
+    let more = c.push.ensures.capacity in
+    grind (arith, common_steps, rows, row, ready, parts, fewer, many, more, length_push rows row)
 
 pub returns-clause-new : goal.returns-clause-new
 returns-clause-new c = known (goal.at.returns-clause-new c).After-contains ∙ c.if-contains.false

@@ -1,16 +1,18 @@
-use Rattle.std.proofs.{Common.{Some, drop, slice_get, refl, ap, sym, ◌∙◌}}
-use Rattle.std.proofs.lemmas.List.{drop-drop}
-use Rattle.crx_rinex.{proofs.Lines.{first_of_rest}, specs.meaning.Printing.printed_epoch}
+use Rattle.std.proofs.Common.{◌≡◌, Some, drop, slice_get, refl, ap, sym, ◌∙◌, arith}
+use Rattle.std.proofs.lemmas.{Grind.common_steps, List.drop-drop}
+use Rattle.crx_rinex.{proofs.Lines.{each_line, first_of_rest}, specs.meaning.Printing.printed_epoch}
+use Rattle.crx_rinex.proofs.printed.Printed.next_line.Goals.{then-self-eq0, else-self-eq0+in_ok-row}
 use Rattle.crx_rinex.proofs.printed.Printed.next_line.Goals as goal
 
-pub returns-then-print_line : goal.returns-then-print_line
-returns-then-print_line c =
-    let lines = printed_epoch c.self.inside.epoch in
-    let next = c.self.inside.next in (
-      (refl, λ _. tt, sym (drop-drop 1 next lines) ∙ ap (drop 1) c.self.view_is),
-      record {
-        value = ap (λ l. Some l) c.bytes.ensures.value ∙ sym c.if-print_line.ensures.line
-            ∙ sym (first_of_rest lines next) ∙ ap (λ ls. slice_get ls 0) c.self.view_is;
-        after_borrow = tt;
-      },
+pub returns : goal.returns
+returns c =
+    let after = c.if-self-eq0.self-inside in
+    let lines = printed_epoch after.epoch in
+    let parts : (slice_get lines after.next ≡ Some after.text) × (drop after.next lines ≡ c.args.self.now) =
+    elim c.if-self-eq0.branch [
+      | then-self-eq0 w ↦ grind (arith, common_steps, each_line)
+      | else-self-eq0+in_ok-row w ↦ grind (arith, common_steps, each_line)
+    ] in (
+      (refl, λ _. tt, sym (drop-drop 1 after.next lines) ∙ ap (drop 1) parts.1),
+      grind (arith, common_steps, after, lines, parts, first_of_rest lines after.next),
     )

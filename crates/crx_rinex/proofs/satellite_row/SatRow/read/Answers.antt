@@ -1,20 +1,29 @@
-use Rattle.std.proofs.{Common.{◌≡◌, ◌*◌, length, ap, ◌∙◌, arith}}
+use Rattle.std.proofs.Common.{◌≡◌, ◌*◌, All, length, ap, subst, sym, ◌∙◌, arith}
+use Rattle.std.proofs.lemmas.{Grind.common_steps, List.take_all}
 use Rattle.crx_header.specs.meaning.Satellites.{is_identifier}
-use Rattle.crx_rinex.{proofs.Cells.sound-written}
+use Rattle.crx_text.specs.meaning.Numbers.{IsValue}
+use Rattle.crx_rinex.proofs.Cells.{cells_none, sound-written}
+use Rattle.crx_rinex.proofs.satellite_row.SatRow.read.Goals.{After-all_kept}
 use Rattle.crx_rinex.proofs.satellite_row.SatRow.read.Goals as goal
+
+pub returns-then-not-read_cell-clause-err : goal.returns-then-not-read_cell-clause-err
+returns-then-not-read_cell-clause-err c = grind (arith, common_steps, cells_none)
+
+-- all cells are read
+long : (c : After-all_kept) → (length c.loop-k.read ≡ c.in-Some.m) × (length c.loop-k.marks ≡ 2 * c.in-Some.m)
+long c = (
+  omega (arith, c.loop-k.auto.read, ap length c.as_mut_slice-read.ensures.value, c.in-Ok.ensures.len),
+  omega (arith, c.loop-k.auto.marks, ap length c.as_mut_slice-marks.ensures.value, c.in-Ok-vec.ensures.len),
+)
 
 pub invariant_of-result : goal.invariant_of-result
 invariant_of-result c =
-    let m = c.in-Some.m in
-    let values_len = c.in-Ok.ensures.len in
-    let flags_len = c.in-Ok-vec.ensures.len in
-    let values : length _ ≡ m = let a = c.read_any_line.auto.values in let b = c.deref_mut.ensures.len
-    in omega (arith, a, b, values_len) in
-    let flags : length c.read_any_line.new.flags ≡ 2 * m = let a =
-    c.read_any_line.auto.flags in let b = c.deref_mut-2.ensures.len in omega (arith, a, b, flags_len) in
-    sound-written c.identifier.result c.read_any_line.new.values c.in-Ok.values.items c.read_any_line.new.flags _ m
+    let long = long (goal.at.invariant_of-result c).After-all_kept in
+    let whole = take_all c.loop-k.k c.loop-k.read (omega (arith, long.0, c.loop-k-test.false)) in
+    sound-written c.identifier.result c.loop-k.read c.in-Ok.values.items c.loop-k.marks _ c.in-Some.m
     _ _ (ap is_identifier c.identifier.ensures.value ∙ c.in-Some.ensures.named) c.in-Some.ensures.allowed
-    values flags values_len flags_len c.in_ok-read_any_line.ensures.ok.ranged c.in_ok-read_any_line.ensures.ok.kept
+    long.0 long.1 c.in-Ok.ensures.len c.in-Ok-vec.ensures.len
+    (subst (All IsValue) whole c.loop-k.invariant.ranged) (sym c.if-not-all_kept.ensures.value)
 
 pub returns-clause-sound : goal.returns-clause-sound
 returns-clause-sound c = invariant_of-result c

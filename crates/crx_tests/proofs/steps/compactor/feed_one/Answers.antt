@@ -19,7 +19,8 @@ returns-in-Ok-clause-counted g c =
     let fed = c.feed.new.self in
     let answer = c.in-Ok.answer in
     let counted = steps-counted compaction (compactor_state self) (compactor_state fed)
-    (Content (line_shown c.args.line).content) (compactor_ready fed) (Ok answer) c.in-Ok.ensures.answers.takes.steps in
+    (Content (line_shown c.args.line).content) (compactor_ready fed) (Ok answer) c.in-Ok.ensures.takes.steps
+    in
     let by-number = subst (λ (n : ℕ). (compactor_state fed).number ≡ taken_after answer n) c.requires.counted
     counted in
     let by-result = subst (λ (n : ℕ). (compactor_state fed).number ≡ n) (sym c.counted.ensures) by-number in

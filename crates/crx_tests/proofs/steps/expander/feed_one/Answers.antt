@@ -20,7 +20,7 @@ returns-in-Ok-clause-counted g c =
     let answer = c.in-Ok.answer in
     let counted = steps-counted expansion (expander_state self)
     (expander_state fed) (Content (line_shown c.args.line).content) (expander_ready fed)
-    (Ok answer) c.in-Ok.ensures.answers.takes.steps in
+    (Ok answer) c.in-Ok.ensures.takes.steps in
     let by-number = subst (λ (n : ℕ). (expander_state fed).number ≡ taken_after answer n) c.requires.counted
     counted in
     let by-result = subst (λ (n : ℕ). (expander_state fed).number ≡ n) (sym c.counted.ensures) by-number in

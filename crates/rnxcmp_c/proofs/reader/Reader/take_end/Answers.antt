@@ -2,12 +2,10 @@ use Rattle.std.proofs.Common.{arith}
 use Rattle.rnxcmp_c.proofs.{HandleLemmas.{ended-by_none, runs-where_none}, ReaderLemmas.{all-over, ended-as, stops-over}}
 use Rattle.rnxcmp_c.proofs.Words.{inl, inr, ⊎_elim, ap, sym, ◌∙◌, Some, None, Reader}
 use Rattle.rnxcmp_c.proofs.reader.Reader.take_end.Goals as goal
+use Rattle.std.proofs.lemmas.Grind.{common_steps}
 
 pub end_engine-requires : goal.end_engine-requires
-end_engine-requires c =
-    let r = c.requires in
-    let runs = runs-where_none r.0 _ r.1 r.2 _ (sym c.is_some.ensures ∙ c.if-is_some.false) r.3 in
-    (r.0, r.1, r.2, runs.is_of, runs.going, omega (arith, runs.counted, runs.within))
+end_engine-requires c = grind (arith, common_steps, runs-where_none)
 
 pub returns-in-Ok : goal.returns-in-Ok
 returns-in-Ok c = λ task fed taken stands.

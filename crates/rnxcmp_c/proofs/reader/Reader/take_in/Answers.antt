@@ -6,10 +6,7 @@ use Rattle.rnxcmp_c.proofs.Words.{length-take, ℕ}
 use Rattle.rnxcmp_c.proofs.reader.Reader.take_in.Goals as goal
 
 pub feed_engine-requires : goal.feed_engine-requires
-feed_engine-requires c =
-    let r = c.requires in
-    let runs = runs-where_none r.0 _ r.1 r.2 _ (sym c.is_some.ensures ∙ c.if-is_some.false) r.3 in
-    (r.0, r.1, r.2, runs.is_of, runs.going, grind (arith, common_steps, runs.counted, runs.within))
+feed_engine-requires c = grind (arith, common_steps, runs-where_none)
 
 pub returns-then-not-is_empty : goal.returns-then-not-is_empty
 returns-then-not-is_empty c = λ task fed taken stands.

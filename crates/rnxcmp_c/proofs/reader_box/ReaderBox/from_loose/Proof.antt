@@ -1,4 +1,4 @@
--- `of` moves the pointer, and what the parts owned goes with it.
+-- `from_loose` moves the pointer, and what the parts owned goes with it.
 use Rattle.std.proofs.{Common.arith, lemmas.Grind.common_steps}
 use Rattle.rnxcmp_c.proofs.{LooseValues.{both, Loose, loose_good, loose_out}}
 use Rattle.rnxcmp_c.proofs.{ReaderBoxValues.{word, place_in}}
@@ -9,15 +9,15 @@ use Rattle.rnxcmp_c.proofs.RawWords.{of_opd, no_more}
 use Rattle.rnxcmp_c.proofs.RawWords.{and_then, returns, enter, alloc_all, pass_all, free_all, look_at, get}
 use Rattle.rnxcmp_c.proofs.RawWords.{get_in, sets, agg, sub, whole, tables, yes, RattleType, plain, block_ptr}
 use Rattle.rnxcmp_c.proofs.RawWords.{nothing, says, Stays, stay_dropped, walk_of, ends_at, Goes-dropped}
-use Rattle.rnxcmp_c.proofs.{RawWords.{proved_at, ghosts}, reader_box.ReaderBox.of.Statement.statement}
-use Rattle.rnxcmp_c.specs.contracts.reader_box.ReaderBox.of.{ended, clauses, Key.name as #self}
+use Rattle.rnxcmp_c.proofs.{RawWords.{proved_at, ghosts}, reader_box.ReaderBox.from_loose.Statement.statement}
+use Rattle.rnxcmp_c.specs.contracts.reader_box.ReaderBox.from_loose.{ended, clauses, Key.name as #self}
 use Rattle.std_heap.specs.contracts.Global as heap
 use Rattle.std_heap.proofs.Global.TheLaws as heap_laws
 use Rattle.rnxcmp_c.specs.contracts.reader.Reader as reader
-use Rattle.rnxcmp_c.proofs.reader_box.ReaderBox.of.Code as code
+use Rattle.rnxcmp_c.proofs.reader_box.ReaderBox.from_loose.Code as code
 
-pub of_spec : {M : Type 1} → statement M
-of_spec 𝓤 𝓛 𝓜 𝓡 wired =
+pub from_loose_spec : {M : Type 1} → statement M
+from_loose_spec 𝓤 𝓛 𝓜 𝓡 wired =
     let H = 𝓛.H in let 𝓣 = tables 𝓤 H 𝓜 𝓡 𝓡.env in let c = clauses 𝓛 𝓜.mem 𝓡.returns in
     let R : RattleType = reader.the_row in let Z : RattleType = heap.the_row in let LZ =
     heap_laws.the_row_laws in let From : RattleType = Loose R Z LZ ghosts in

@@ -1,4 +1,4 @@
--- `of` takes the box apart.
+-- `from_box` takes the box apart.
 use Rattle.rnxcmp_c.proofs.{LooseValues.{both, loose_good, loose_in}, RawWords.{◌≡◌, List, [], ◌∷◌, ◌++◌}}
 use Rattle.rnxcmp_c.proofs.RawWords.{refl, ap, ◌∙◌, a_type, dcons, dnil, Val, vptr, vstruct}
 use Rattle.rnxcmp_c.proofs.RawWords.{of_list, inst_fn, SProp, emp, never, id⊢, fst∗, ftrue, fsep, flft}
@@ -11,18 +11,19 @@ use Rattle.rnxcmp_c.proofs.RawWords.{sets, agg, sub, whole, fact, fact_i, tables
 use Rattle.rnxcmp_c.proofs.RawWords.{types_at, plain, RawPtr, Ptr, block_ptr, null_ptr, ptr_val, in_a_block}
 use Rattle.rnxcmp_c.proofs.RawWords.{nothing, only, heard, param, layout, bounded, param_laws, triple_of}
 use Rattle.rnxcmp_c.proofs.RawWords.{Stays, stay_dropped, walk_of, Goes-blank, handle_tells, fm, box_owns}
-use Rattle.rnxcmp_c.proofs.{RawWords.{box_out, box_in, proved_at, leaves}, loose.Loose.of.Statement.statement}
-use Rattle.rnxcmp_c.specs.contracts.loose.Loose.of.{ended, clauses, Key.name as #self}
+use Rattle.rnxcmp_c.proofs.RawWords.{box_out, box_in, proved_at, leaves}
+use Rattle.rnxcmp_c.proofs.loose.Loose.from_box.Statement.{statement}
+use Rattle.rnxcmp_c.specs.contracts.loose.Loose.from_box.{ended, clauses, Key.name as #self}
 use types.ByLocal.{lands_as}
 use denote.{Struct.Tuple.Tuple, Triple.Call.calls_at}
 use Rattle.std_alloc.proofs.boxed.Box.into_raw_with_allocator.Met.{met}
 use mir.Raw.{raw as bare}
 use Rattle.std_alloc.proofs.BoxSteps.Form as box
 use Rattle.std_alloc.specs.contracts.boxed.Box.into_raw_with_allocator as callee
-use Rattle.rnxcmp_c.proofs.loose.Loose.of.Code as code
+use Rattle.rnxcmp_c.proofs.loose.Loose.from_box.Code as code
 
-pub of_spec : {M : Type 1} → statement M
-of_spec 𝓤 𝓛 𝓜 𝓡 wired T A L LA g d dx dd allocator glue glued =
+pub from_box_spec : {M : Type 1} → statement M
+from_box_spec 𝓤 𝓛 𝓜 𝓡 wired T A L LA g d dx dd allocator glue glued =
     let H = 𝓛.H in let 𝓣 = tables 𝓤 H 𝓜 𝓡 𝓡.env in let R : RattleType = param 0 T in let Z : RattleType =
     param 1 A in let LZ = param_laws 1 A LA in let En = ended T A g d dx dd in let c =
     clauses T A g d dx dd 𝓛 𝓜.mem 𝓡.returns in

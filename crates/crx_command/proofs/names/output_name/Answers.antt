@@ -4,7 +4,7 @@ use Rattle.std.proofs.Common.{take, drop, List, Bor, Option, Some, None, MatchOp
 use Rattle.std.proofs.{Common.take-append-drop, lemmas.{List.drop_at, Slice.Eq.bytes_eq-Decides}}
 use Rattle.std.specs.Str.Pattern.{FindsTextSuffix, StripsSuffix}
 use Rattle.crx_command.specs.meaning.Names.{without_ending}
-use Rattle.crx_command.proofs.names.without_ending.Goals as goal
+use Rattle.crx_command.proofs.names.output_name.Goals as goal
 
 no_ending : (name ending : List ℕ) → ((front : List ℕ) → name ≢ front ++ ending)
     → None ≡ without_ending ending name
@@ -27,5 +27,12 @@ either : (name ending : List ℕ) (r : Option (Bor (List ℕ)))
     → option_map {T = Bor (List ℕ)} {U = List ℕ} (λ stem. stem.now) r ≡ without_ending ending name
 either = grind (arith, common_steps, no_ending, its_stem)
 
-pub returns : goal.returns
-returns c = either _ _ _ c.strip_suffix.ensures.cases
+pub returns-then-not-ending : goal.returns-then-not-ending
+returns-then-not-ending c =
+    let stem = either _ _ _ c.strip_suffix.ensures.cases in
+    grind (arith, common_steps)
+
+pub loop-ending-preserved : goal.loop-ending-preserved
+loop-ending-preserved c =
+    let stem = either _ _ _ c.strip_suffix.ensures.cases in
+    grind (arith, common_steps)

@@ -1,13 +1,13 @@
 use Rattle.crx_compact.proofs.Words.{◌≡◌, ◌+◌, ◌*◌, ◌++◌, length, drop, map, take, columns, shown_value}
 use Rattle.crx_text.specs.meaning.PrintedCells.{printed_cells}
-use Rattle.crx_compact.proofs.cells.print_cells.Given as goal
+use Rattle.crx_compact.proofs.satellite.SatelliteHistory.print_line.Given as goal
 
 -- the cells that are left complete the bytes up to the end
 abbrev pub invariant-loop-index : goal.invariant-loop-index
 invariant-loop-index l = record {
-  cells : take (l.at + 16 * l.index) l.bytes ++ printed_cells (drop l.index (map shown_value l.arcs))
+  cells : take (l.at + 3 + 16 * l.index) l.bytes ++ printed_cells (drop l.index (map shown_value l.arcs))
       (drop (2 * l.index) (columns l.flags 1 (2 * length l.arcs)))
-      ≡ take l.at l.initial.bytes ++ printed_cells (map shown_value l.arcs)
+      ≡ take (l.at + 3) l.initial.bytes ++ printed_cells (map shown_value l.arcs)
       (columns l.flags 1 (2 * length l.arcs));
   long : length l.bytes ≡ length l.initial.bytes;
 }
