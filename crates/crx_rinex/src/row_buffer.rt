@@ -7,7 +7,7 @@ ghost use Rattle.crx_text.specs.meaning.Columns.{columns};
 ghost use Rattle.crx_text.specs.meaning.Numbers.{observation_of};
 ghost use Rattle.crx_rinex.specs.meaning.Observations.{observations_of};
 ghost use Rattle.crx_rinex.specs.meaning.Printing.{printed_row};
-ghost use Rattle.crx_rinex.specs.SatelliteLines.{blank_row, row_by_cells, AreCellsRead, AreEmptyFrom, AreFirstRead, ArePaired, IsRowOf, KeepsEmptyFrom};
+ghost use Rattle.crx_rinex.specs.SatelliteLines.{blank_row, row_by_cells, AreCellsRead, AreEmptyFrom, AreFirstRead, ArePaired, KeepsEmptyFrom};
 ghost use Rattle.crx_rinex.specs.meaning.SatelliteLines.{field, row_of, IsSoundRow};
 
 use crate::satellite_row::print_row;
@@ -74,25 +74,27 @@ impl RowBuffer {
         let Some(count) = types_of_satellite(types, line.line()) else {
             return Err(Fault::BadSatellite);
         };
-        self.count = count;
-        if let Err(fault) = read_cells(
-            line,
-            count,
-            &mut self.filled,
-            &mut self.values,
-            &mut self.flags,
-        ) {
-            // As before the first line, with the name and the count, since cells of another count may have
-            // been read.
-            self.name = *b"G01";
-            self.count = 1;
-            self.filled = 0;
-            self.values = [None; TYPES_LIMIT];
-            self.flags = [b' '; 2 * TYPES_LIMIT];
-            return Err(fault);
-        }
-        self.name = identifier(line.line(), 1);
-        Ok(())
+        let fault = match read_first_cells(line, count, &mut self.values, &mut self.flags) {
+            None => Fault::BadField,
+            Some(reached) => {
+                empty_cells(reached, self.filled, &mut self.values, &mut self.flags);
+                if all_kept(&self.flags[..2 * reached]) {
+                    self.name = identifier(line.line(), 1);
+                    self.count = count;
+                    self.filled = reached;
+                    return Ok(());
+                }
+                Fault::BadFlags
+            }
+        };
+        // As before the first line, with the name and the count, since cells of another count may have been
+        // read.
+        self.name = *b"G01";
+        self.count = 1;
+        self.filled = 0;
+        self.values = [None; TYPES_LIMIT];
+        self.flags = [b' '; 2 * TYPES_LIMIT];
+        Err(fault)
     }
 
     /// The identifier: the system's letter and the satellite's number.
@@ -147,36 +149,6 @@ impl RowBuffer {
             text,
         );
     }
-}
-
-/// Reads so many cells of a satellite line. `BadField` comes where a field is neither blank nor a number, or
-/// something is after the last cell; then `BadFlags` where an indicator may not be there. `filled` says,
-/// before and after, how many of the first cells may have something: those behind them are empty. Part of its
-/// caller, as a call takes some 8 instructions.
-#[inline(always)]
-fn read_cells(
-    line: Padded<'_>,
-    count: usize,
-    filled: &mut usize,
-    values: &mut [Option<i64>],
-    flags: &mut [u8],
-) -> Result<(), Fault>
-    requires few { count ≤ length values.old }
-    requires empty { AreEmptyFrom filled.old values.old flags.old }
-    ensures ok { OnOk result (IsRowOf count (line_in line.entry) (take count values.new) (take (2 * count) flags.new)) }
-    ensures empty { OnOk result (AreEmptyFrom filled.new values.new flags.new) }
-    ensures within { OnOk result (filled.new ≤ count) }
-    ensures err { IfErr result (λ fault. row_by_cells count (line_in line.entry) ≡ Err fault) }
-{
-    let Some(reached) = read_first_cells(line, count, values, flags) else {
-        return Err(Fault::BadField);
-    };
-    empty_cells(reached, *filled, values, flags);
-    *filled = reached;
-    if !all_kept(&flags[..2 * reached]) {
-        return Err(Fault::BadFlags);
-    }
-    Ok(())
 }
 
 /// Reads as many of the cells as the line reaches, and gives how many: the whole ones, and the one that the
