@@ -1,13 +1,13 @@
 -- The state of an engine of a direction.
 use Rattle.std.specs.Prelude.{◌≡◌, ⊤, ℕ, true, List, length, Result, Ok, Err}
-use Rattle.std.specs.Prelude.{IfOk, OnErr}
+use Rattle.std.specs.Prelude.{IfErr, IfOk, OnErr}
 use Rattle.crx_base.specs.meaning.Choices.{Choices}
 use Rattle.crx_base.specs.declared.fault.At.{At}
 use Rattle.crx_base.specs.meaning.Lines.{InputLine}
 use Rattle.crx_base.specs.meaning.AsRead.{ReadLine}
 use Rattle.crx_filter.specs.EngineLines.{HasTaken}
 use Rattle.crx_filter.specs.DirectionParts.{EngineParts, HasEnough, IsAfterLines, ComesAfter, state_by}
-use Rattle.crx_filter.specs.LineByLine.{RunState, state_end_with}
+use Rattle.crx_filter.specs.LineByLine.{Ended, RunState, state_end_with}
 use Rattle.crx_runs.specs.Engines.{Awaited}
 use Rattle.crx_filter.specs.EngineLaws.{GoesLineByLine}
 use Rattle.crx_filter.specs.EngineSteps.{Steps, step_made}
@@ -59,13 +59,14 @@ module _ {D : Type 0} (d : Ghosts D) where
       → KnowsAfter (d.notes after.direction before.options) lines line result
 
   -- it has taken a line, read so, and these lines are ready then. It has made the line's step, or that of
-  -- memory that ran out. What its direction knew of the lines before, it knows with this line too; after a
-  -- fault it knows it of the same lines
+  -- memory that ran out; a fault that is answered has ended the run. What its direction knew of the lines
+  -- before, it knows with this line too; after a fault it knows it of the same lines
   pub record TakesLine (before : EngineParts D) (line : InputLine) (read : ReadLine) (result : Result Step At)
       (ready : List (List ℕ)) (after : EngineParts D) : Type 0 where
     pub goes : EngineGoes before
     pub steps : Steps d.by_line (engine_state before) read (d.has_room before.direction line.content) result ready
         (engine_state after)
+    pub ended : IfErr result (λ at. (engine_state after).phase ≡ Ended at)
     pub notes : EngineNotes before line result after
     pub stays : (choices : Choices) (lines : List InputLine) → d.notes before.direction choices lines
         → OnErr result (d.notes after.direction choices lines)

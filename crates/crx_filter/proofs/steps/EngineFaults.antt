@@ -10,11 +10,11 @@ use specs.DirectionParts.{DirectionParts, state_by, Reads, AnswersToFault, hande
 use specs.{DirectionParts.{EngineParts, KnowsStill}, EngineState.{EngineGoes, TakesLine}}
 use specs.{EngineState.{engine_ready, engine_state}, declared.direction.Direction.Ghosts}
 use specs.{DirectionParts.hands_out, EngineSteps.answer_of_step, LineByLine.{end_step, answer_of_lines}}
-use specs.{LineByLine.fault_at_end_in, LineByLine.state_end_with, Stages.{bare_phase, is_settled}}
+use specs.{LineByLine.{Ended as EndedPhase, fault_at_end_in, state_end_with}, Stages.{bare_phase, is_settled}}
 use specs.declared.stage.Stage.TheVariants.{Closed, Ended}
 use Rattle.crx_filter.proofs.{following.Following.failed-ends, steps.EngineAnswers.as-read-within}
 use Rattle.crx_runs.specs.declared.engine.Step.{Step, TheVariants.{Warned}}
-use Rattle.std.proofs.Common.{OnErr}
+use Rattle.std.proofs.Common.{IfErr, OnErr}
 use Rattle.crx_runs.specs.Engines.{answer_given, lines_handed_out}
 use Rattle.crx_runs.specs.declared.engine.HandedOut.{HandedOut}
 
@@ -67,6 +67,13 @@ module _ {U O K : Type 0} (direction : Direction U O K) where
   long-next first next choices last stage parts was held going =
       grind (arith, common_steps, made-too_long first next parts.stage parts.begun parts.types parts.kept)
 
+  -- a fault that is answered ends the run
+  pub ended-by : (before after : RunState O K) (fault : Fault) (read : ReadLine) (result : Result Step At)
+      (ready : List (List ℕ)) → step_made result ready after ≡ failed_step direction before read fault
+      → IfErr result (λ at. after.phase ≡ EndedPhase at)
+  ended-by before after fault read (Ok step) ready stopped = tt
+  ended-by before after fault read (Err at) ready stopped = grind (arith, common_steps)
+
   -- ---- the end of the input
 
   module _ (choices : Choices) (number : ℕ) (before after : DirectionParts O K) (stage : Stage)
@@ -117,6 +124,7 @@ module _ {D : Type 0} (d : Ghosts D) (before after : EngineParts D) (line : Inpu
   refused-takes fault read result ready stopped is steps = record {
     goes = goes;
     steps = steps;
+    ended = ended-by d.by_line _ _ fault read result ready stopped;
     notes = λ lines counted given known. grind (arith, common_steps, false≢true);
     stays = λ choices lines known. after-error result (stays choices lines known);
   }

@@ -31,6 +31,7 @@ returns-in-Ok g c =
         steps = handed-line d.by_line _ c.self.inside.options c.self.inside.number
             (d.parts c.self.inside.direction) (d.parts c.take_elsewhere-taken.new.self) _ _ out _ _ refl
             c.in-Ok.ensures.takes.reads;
+        ended = grind (arith, common_steps);
         notes = grind (arith, common_steps, next);
         stays = λ choices lines known. grind (arith, common_steps);
       };
