@@ -40,7 +40,7 @@ pub record AreCounted (reader : RinexReader) (noted : Noted) : Type 0 where
   pub observed : is_open_stage reader.stage ≡ true → IsObserved noted.observed reader.rows.rows
 
 -- no row of an epoch was noted
-pub record IsFresh (noted : Noted) : Type 0 where
+pub record HasNoRow (noted : Noted) : Type 0 where
   pub named : (name : List ℕ) → has_identifier noted.names name ≡ false
   pub observed : noted.observed ≡ 0
 

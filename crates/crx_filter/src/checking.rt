@@ -7,7 +7,7 @@ ghost use Rattle.crx_lines.specs.Reading.{line_number, line_shown};
 ghost use Rattle.crx_rinex.specs.meaning.EpochPlaces.{OpenEpoch};
 ghost use Rattle.crx_rinex.specs.meaning.Observations.{Epoch as ObservationEpoch};
 ghost use Rattle.crx_filter.specs.CheckByLine.{Totals as TotalsNoted, check_by_line, check_reading, no_choices};
-ghost use Rattle.crx_filter.specs.CheckingParts.{IsFresh, NotesLine};
+ghost use Rattle.crx_filter.specs.CheckingParts.{HasNoRow, NotesLine};
 ghost use Rattle.crx_filter.specs.CompactionByLine.{is_before_header};
 ghost use Rattle.crx_filter.specs.LineByLine.{Made};
 ghost use Rattle.crx_filter.specs.RinexReaders.{reader_phase, TakesRinexLine, TakesRow};
@@ -106,7 +106,7 @@ impl Noted {
     fn note(&mut self, reader: &RinexReader, step: RinexStep, line: Line<'_>)
         requires within { self.old.totals.epochs + self.old.totals.events < INPUT_LIMIT }
         requires held { step ≡ RinexStep.Begun → is_some reader.now.head ≡ true }
-        ensures begun { step ≡ RinexStep.Begun → IsFresh self.new }
+        ensures begun { step ≡ RinexStep.Begun → HasNoRow self.new }
         ensures notes { (before : RinexReader) (made : Made ObservationEpoch OpenEpoch)
             → TakesRinexLine made before (line_shown line.entry).content step reader.now
             → NotesLine made (is_before_header (reader_phase before)) (line_shown line.entry) (line_number line.entry)

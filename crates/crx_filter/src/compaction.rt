@@ -64,7 +64,7 @@ fn is_at_every(every: Option<u32>, index: u64) -> bool
 /// Takes a line of an open epoch, whose row is written as soon as it is read: `true` says that it is the
 /// epoch's last. After a want of memory the open epoch is forgotten.
 #[inline(always)]
-fn take_row(
+fn compact_row(
     reader: &mut RinexReader,
     encoder: &mut Encoder,
     line: Padded<'_>,
@@ -169,7 +169,7 @@ impl Direction for Compaction {
 
     #[inline(always)]
     fn take_in_epoch(&mut self, line: Line<'_>) -> Result<bool, Fault> {
-        let is_last = take_row(&mut self.reader, &mut self.encoder, line.padded())?;
+        let is_last = compact_row(&mut self.reader, &mut self.encoder, line.padded())?;
         if !is_last {
             return Ok(false);
         }

@@ -23,10 +23,6 @@ passed xs start end count inside =
     let parts : end - start ≡ count + (end - (start + count)) = omega arith in
     grind (arith, common_steps, parts, drop-take, drop-drop)
 
--- a window holds no more than it spans
-pub length-kept : (xs : List ℕ) (start end : ℕ) → length (slice_range xs start end) ≤ end
-length-kept xs start end = omega (arith, length-take (end - start) (drop start xs))
-
 -- a byte that is put in front of a part, or behind it, isn't of that part
 pub untouched : (xs : List ℕ) (start end place b : ℕ) → start ≤ end → (place < start) ⊎ (end ≤ place)
     → slice_range (slice_set xs place b) start end ≡ slice_range xs start end

@@ -114,8 +114,8 @@ impl Window {
         count
     }
 
-    /// Makes room after the bytes that are held. They move only where too little is left.
-    fn make_room(&mut self)
+    /// Makes room after the bytes that are held: where too little is left, they move to the front.
+    fn move_to_front(&mut self)
         requires { length (kept self.old) ≤ LINE_LIMIT + 1 }
         ensures kept { kept self.new ≡ kept self.old }
         ensures room { self.new.end + LEAST_ROOM ≤ SIZE }
@@ -134,8 +134,8 @@ impl Window {
         }
     }
 
-    /// Asks the reader once, for at most so many bytes, and holds them after the others. Where none may come, a
-    /// byte is a fault.
+    /// Asks the reader once, for at most so many bytes, and holds them after the others. Where none may come,
+    /// a byte is a fault.
     pub(crate) fn fill<R: Source>(&mut self, reader: &mut R, most: u64) -> Result<usize, Fault>
         requires { length (kept self.old) ≤ LINE_LIMIT + 1 }
         ensures ok { IfOk result (λ n. (more : List ℕ) × (length more ≡ n) × (n ≤ most)
@@ -156,7 +156,7 @@ impl Window {
                 Err(_) => Err(Fault::ReadFailed),
             };
         }
-        self.make_room();
+        self.move_to_front();
         let end = self.end;
         let room = most.min((SIZE - end) as u64) as usize;
         match reader.read(&mut self.bytes[end..end + room]) {

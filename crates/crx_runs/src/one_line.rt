@@ -39,7 +39,7 @@ impl From<At> for Halt {
 /// Writes what a step made ready, or reports its warning; whether it was a warning. Before a warning what was
 /// written is handed on, where that is awaited. A failure of that is told before the next read.
 #[inline(never)]
-fn carry_out<E: Engine, W: Sink, M: Sink>(
+fn write_step<E: Engine, W: Sink, M: Sink>(
     engine: &mut E,
     writer: &mut W,
     messages: &mut M,
@@ -122,7 +122,7 @@ fn take_again<E: Engine, W: Sink, M: Sink>(
     ensures order { KeepsOrder W.Sink writer.old writer.new messages.old messages.new }
 {
     let step = engine.answer()?;
-    let warned = carry_out(engine, writer, messages, step)?;
+    let warned = write_step(engine, writer, messages, step)?;
     let Step::Warned { again: true, .. } = step else {
         return Ok(warned);
     };
@@ -134,7 +134,7 @@ fn take_again<E: Engine, W: Sink, M: Sink>(
         },
         None => {
             let second = engine.answer()?;
-            carry_out(engine, writer, messages, second)?;
+            write_step(engine, writer, messages, second)?;
             Ok(warned)
         }
     }
@@ -154,7 +154,7 @@ pub fn take_overlong<E: Engine, W: Sink, M: Sink>(
     ensures order { KeepsOrder W.Sink writer.old writer.new messages.old messages.new }
 {
     let step = engine.overlong(number)?;
-    carry_out(engine, writer, messages, step)
+    write_step(engine, writer, messages, step)
 }
 
 /// Takes the end of the input: writes what it makes ready, and reports its warning; whether there was one.
@@ -171,5 +171,5 @@ pub fn take_end<E: Engine, W: Sink, M: Sink>(
     ensures order { KeepsOrder W.Sink writer.old writer.new messages.old messages.new }
 {
     let step = engine.end()?;
-    carry_out(engine, writer, messages, step)
+    write_step(engine, writer, messages, step)
 }

@@ -16,7 +16,7 @@ use proofs.following.{CheckedOn.{checked-on, same-state}, Following.state_in}
 use proofs.standard.{CheckEnded.kept-always, CheckLines.{IsReached, Grows, line-grows, phase-reached}}
 use proofs.steps.{CompactionSteps.parts_with}
 use Rattle.crx_filter.{proofs.steps.Given.given-either, specs.CheckByLine.totals_made}
-use Rattle.crx_filter.specs.{CheckingParts.{AreCounted, AreNamed, IsFresh, NotesLine, is_reading}}
+use Rattle.crx_filter.specs.{CheckingParts.{AreCounted, AreNamed, HasNoRow, NotesLine, is_reading}}
 use Rattle.crx_filter.specs.{CompactionByLine.is_before_header, declared.checking.Noted.Noted}
 use Rattle.crx_filter.specs.{DirectionParts.{DirectionParts, DirectionTakes, Reads}}
 use Rattle.crx_filter.specs.{DirectionParts.{ComesAfter, brings_nothing, state_by}, LineByLine.Quiet as LineQuiet}
@@ -245,7 +245,7 @@ module _ (made : Made ObservationEpoch OpenEpoch) (before after : RinexReader) (
   pub step-held : step ≡ Begun → is_some after.head ≡ true
   step-held begun = grind (arith, common_steps, in-epoch)
 
-  pub step-counted : (noted : Noted) → (step ≡ Begun → IsFresh noted) → AreCounted after noted
+  pub step-counted : (noted : Noted) → (step ≡ Begun → HasNoRow noted) → AreCounted after noted
   step-counted noted fresh = grind (arith, common_steps, step-begun, none-named)
 
 -- all six lines of a report were handed out where none is pending, and only there

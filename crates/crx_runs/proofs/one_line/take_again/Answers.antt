@@ -24,9 +24,9 @@ line g c = record { content = line_in c.args.content; is_plain = c.args.is_plain
 abbrev first : (g : Over) → After-take g → Awaited
 first g c = record { notice = c.in-Warned-default-true.notice; line = line g c }
 
-first-out : (g : Over) (c : After-take g) → TookAll (span g.W.Sink c.args.writer.now c.carry_out.new.writer)
+first-out : (g : Over) (c : After-take g) → TookAll (span g.W.Sink c.args.writer.now c.write_step.new.writer)
     []
-    × TookAll (span g.M.Sink c.args.messages.now c.carry_out.new.messages)
+    × TookAll (span g.M.Sink c.args.messages.now c.write_step.new.messages)
     (notices_text (c.in-Warned-default-true.notice ∷ [])) × (c.in_ok-warned.warned ≡ true)
 first-out g c = again-out (g.E.Engine.ready c.args.engine.now) _ _ _ (is-again g c)
     (rw (sym c.answer.ensures.value ∙ c.in_ok-step.was) at c.requires.drained) c.in_ok-warned.ensures.settled
@@ -48,7 +48,7 @@ returns-in_err-warned-clause-taken g c =
     in
     let is = sym c.answer.ensures.value ∙ c.in_ok-step.was in
     rw (p.1, p.2) (record {
-      filter = c.carry_out.ensures.kept.filter;
+      filter = c.write_step.ensures.kept.filter;
       drained = tt;
       becomes = λ lines next comes. line-becomes joins-idle joins-idle (g.E.Engine.filter c.args.engine.now)
           lines next [] (refl, refl) (refl, refl) g.E.Engine c.args.engine.now (g.E.Engine.ready
@@ -62,7 +62,7 @@ returns-in-Ok-clause-taken g c =
     let out = first-out g at in
     let kept = c.write_handed_out.ensures.kept in
     record {
-      filter = kept.filter ∙ c.take.ensures.stepped.filter ∙ c.carry_out.ensures.kept.filter;
+      filter = kept.filter ∙ c.take.ensures.stepped.filter ∙ c.write_step.ensures.kept.filter;
       drained = c.in-Ok.ensures.drained;
       becomes = λ lines next comes. rw (comes.1) (handed-becomes (span-joins g.W.Sink g.met.W.Sink.took_both)
           (span-joins g.M.Sink g.met.M.Sink.took_both) (g.E.Engine.filter c.args.engine.now) lines (Some (line
@@ -81,7 +81,7 @@ returns-in-Err-clause-taken g c =
     let out = first-out g at in
     let kept = c.write_handed_out.ensures.kept in
     record {
-      filter = kept.filter ∙ c.take.ensures.stepped.filter ∙ c.carry_out.ensures.kept.filter;
+      filter = kept.filter ∙ c.take.ensures.stepped.filter ∙ c.write_step.ensures.kept.filter;
       drained = tt;
       becomes = λ lines next comes. rw (comes.1) (handed-becomes (span-joins g.W.Sink g.met.W.Sink.took_both)
           (span-joins g.M.Sink g.met.M.Sink.took_both) (g.E.Engine.filter c.args.engine.now) lines (Some (line
@@ -94,11 +94,11 @@ returns-in-Err-clause-taken g c =
           )));
     }
 
-pub returns-in_err-carry_out-in-None-clause-taken : goal.returns-in_err-carry_out-in-None-clause-taken
-returns-in_err-carry_out-in-None-clause-taken g c =
-    let at = (goal.at.returns-in_err-carry_out-in-None-clause-taken g c).After-take in
+pub returns-in_err-write_step-in-None-clause-taken : goal.returns-in_err-write_step-in-None-clause-taken
+returns-in_err-write_step-in-None-clause-taken g c =
+    let at = (goal.at.returns-in_err-write_step-in-None-clause-taken g c).After-take in
     let out = first-out g at in
-    let made = c.from_residual-in_err-carry_out-in-None in
+    let made = c.from_residual-in_err-write_step-in-None in
     let p = err_from_is_err_and made.result made.ensures.1 in
     let is = sym c.answer-in-None.ensures.value ∙ c.in_ok-second-in-None.was in
     rw (p.1, p.2) (record {
@@ -109,19 +109,19 @@ returns-in_err-carry_out-in-None-clause-taken g c =
           g at)) (first g at ∷ []) out.0 out.1 g.E.Engine c.take.new.self (g.E.Engine.ready c.take.new.self)
           c.in_ok-second-in-None.second (rw (c.in-None.is, is) at c.take.ensures.stepped.drained) (rw
           (c.in-None.is, is) at (second g at lines (rw comes.1 at comes.0))) ⊤ (λ shown. tt) (Err _) _ refl tt
-          c.in_err-carry_out-in-None.ensures.settled);
+          c.in_err-write_step-in-None.ensures.settled);
     })
 
-pub returns-in_ok-carry_out-in-None-clause-taken : goal.returns-in_ok-carry_out-in-None-clause-taken
-returns-in_ok-carry_out-in-None-clause-taken g c =
-    let at = (goal.at.returns-in_ok-carry_out-in-None-clause-taken g c).After-take in
+pub returns-in_ok-write_step-in-None-clause-taken : goal.returns-in_ok-write_step-in-None-clause-taken
+returns-in_ok-write_step-in-None-clause-taken g c =
+    let at = (goal.at.returns-in_ok-write_step-in-None-clause-taken g c).After-take in
     let then = c.take.new.self in
     let out = first-out g at in
-    let kept = c.carry_out-in-None.ensures.kept in
+    let kept = c.write_step-in-None.ensures.kept in
     let is = sym c.answer-in-None.ensures.value ∙ c.in_ok-second-in-None.was in
     record {
-      filter = kept.filter ∙ c.take.ensures.stepped.filter ∙ c.carry_out.ensures.kept.filter;
-      drained = c.in_ok-carry_out-in-None.ensures.drained;
+      filter = kept.filter ∙ c.take.ensures.stepped.filter ∙ c.write_step.ensures.kept.filter;
+      drained = c.in_ok-write_step-in-None.ensures.drained;
       becomes = λ lines next comes. let answered = rw (c.in-None.is, is) at (second g at lines (rw comes.1 at
           comes.0)) in rw (comes.1) (line-becomes (span-joins g.W.Sink g.met.W.Sink.took_both) (span-joins
           g.M.Sink g.met.M.Sink.took_both) (g.E.Engine.filter c.args.engine.now) lines (Some (line g at))
@@ -129,5 +129,5 @@ returns-in_ok-carry_out-in-None-clause-taken g c =
           (rw (c.in-None.is, is) at c.take.ensures.stepped.drained) answered _ (kept.shows _ []) (Ok _) _ (ap
           Ok out.2) (stays-then (g.E.Engine.filter c.args.engine.now) g.E.Engine then (g.E.Engine.ready then)
           lines (first g at) (Some (line g at)) c.in_ok-second-in-None.second answered)
-          c.in_ok-carry_out-in-None.ensures.settled);
+          c.in_ok-write_step-in-None.ensures.settled);
     }

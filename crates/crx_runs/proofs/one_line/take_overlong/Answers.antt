@@ -22,15 +22,15 @@ returns-in_err-step-clause-taken g c =
 pub returns-clause-taken : goal.returns-clause-taken
 returns-clause-taken g c =
     let then = c.overlong.new.self in
-    let kept = c.carry_out.ensures.kept in
+    let kept = c.write_step.ensures.kept in
     record {
       filter = kept.filter ∙ c.overlong.ensures.stepped.filter;
-      drained = c.carry_out.ensures.drained;
+      drained = c.write_step.ensures.drained;
       becomes = λ lines next comes. rw (comes.1.1) (line-becomes joins-idle joins-idle (g.E.Engine.filter
           c.args.engine.now) lines (Some comes.1.0) [] (refl, refl) (refl, refl) g.E.Engine then
           (g.E.Engine.ready then) c.in_ok-step.step (rw c.in_ok-step.was at
           c.overlong.ensures.stepped.drained) (rw c.in_ok-step.was at (c.overlong.ensures.answers lines []
-          comes.1.0 comes.0 tt comes.1.2)) _ (kept.shows _ []) c.carry_out.result _ (once c.carry_out.result)
-          (always-ok c.carry_out.result (rw c.in_ok-step.was at c.overlong.ensures.once))
-          c.carry_out.ensures.settled);
+          comes.1.0 comes.0 tt comes.1.2)) _ (kept.shows _ []) c.write_step.result _ (once c.write_step.result)
+          (always-ok c.write_step.result (rw c.in_ok-step.was at c.overlong.ensures.once))
+          c.write_step.ensures.settled);
     }

@@ -14,7 +14,7 @@ returns-in_err-is_last c =
     let row = rw c.padded.ensures.content at c.in_err-is_last.ensures.refused in
     rw (← c.self.view_is, p.1, p.2) (record {
       takes = refused-takes _ _ (compaction_of was.index was.reader was.encoder)
-          (compaction_of was.index c.take_row.new.reader c.take_row.new.encoder) (line_shown c.args.line) _
+          (compaction_of was.index c.compact_row.new.reader c.compact_row.new.encoder) (line_shown c.args.line) _
           (row.refuses (kept_in was)) (λ lacks room. lacks (room.row opened)) row.types refl row.kept
           (λ choices chosen. row.full _ chosen) row.nothing;
     })
@@ -33,7 +33,7 @@ returns-then-not-is_last c =
     let moves = row-moves row (kept_in was) c.if-not-is_last.true in
     rw (← c.self.view_is) (record {
       takes = moved-takes _ _ (compaction_of was.index was.reader was.encoder)
-          (compaction_of was.index c.take_row.new.reader c.take_row.new.encoder) (line_shown c.args.line) _
+          (compaction_of was.index c.compact_row.new.reader c.compact_row.new.encoder) (line_shown c.args.line) _
           c.args.line.short row.kept moves.0
           (ap (λ (e : EncoderState). record { index = was.index; tail = e.before }) row.written)
           (λ choices chosen. served-open _ _ _ (ap (λ (e : EncoderState). e.in_full) row.written
@@ -62,8 +62,8 @@ returns c =
     let ends = c.end_epoch.ensures.ends done.head done.held in
     rw (← c.self.view_is) (record {
       takes = ended-takes _ _ (compaction_of was.index was.reader was.encoder)
-          (compaction_of (was.index + 1) c.take_row.new.reader c.end_epoch.new.encoder) (line_shown c.args.line) _
-          c.args.line.short (rw ends.rooms row.kept) done c.take_row.new.encoder
+          (compaction_of (was.index + 1) c.compact_row.new.reader c.end_epoch.new.encoder) (line_shown c.args.line) _
+          c.args.line.short (rw ends.rooms row.kept) done c.compact_row.new.encoder
           (λ choices chosen. ap (λ (e : EncoderState). e.in_full) row.written ∙ due-there _ _ _ opened chosen)
           (ap (λ (e : EncoderState). e.before) row.written) (ap (λ (e : EncoderState). e.rows) row.written)
           row.held ends refl;

@@ -2,7 +2,7 @@ use Rattle.std.proofs.lemmas.Grind.{common_steps}
 use Rattle.std.proofs.Common.{[], ◌∷◌, refl, ap₂, arith, append-nil}
 use Rattle.crx_lines.specs.Devices.{sink_tally_of}
 use Rattle.crx_runs.specs.meaning.Messages.{warning_text}
-use Rattle.crx_runs.proofs.one_line.carry_out.Goals as goal
+use Rattle.crx_runs.proofs.one_line.write_step.Goals as goal
 
 pub returns-in-Err-clause-settled : goal.returns-in-Err-clause-settled
 returns-in-Err-clause-settled = grind arith

@@ -1,7 +1,7 @@
 use Rattle.crx_filter.proofs.{Words.{common_steps, arith, inl, inr, refl, ap, not, ◌∙◌, false≢true}}
 use Rattle.crx_filter.proofs.{steps.Together.{row-lost, rows-few}}
 use Rattle.crx_filter.proofs.steps.Together.{row-known, row-refused, row-written, rows-there}
-use Rattle.crx_filter.proofs.compaction.take_row.Goals as goal
+use Rattle.crx_filter.proofs.compaction.compact_row.Goals as goal
 
 pub encode_row-requires : goal.encode_row-requires
 encode_row-requires c = grind (arith, common_steps, rows-few)
