@@ -21,6 +21,7 @@ LIKED = (
 )
 
 left_out = []  # the checks that weren't run, each with the reason
+found_wrong = []  # what the checks that failed told, as lines
 
 
 def files_below(folder):
@@ -57,7 +58,7 @@ def tally(kind, checks):
             print(f"{kind} {name} ... left out: {wrong}", flush=True)
             continue
         passed, failed = (passed, failed + 1) if wrong else (passed + 1, failed)
-        print(f"{kind} {name} ... {'FAILED' if wrong else 'ok'}", flush=True)
-        for line in wrong:
-            print(f"    {line}", flush=True)
+        lines = [f"{kind} {name} ... {'FAILED' if wrong else 'ok'}", *(f"    {line}" for line in wrong)]
+        print(*lines, sep="\n", flush=True)
+        found_wrong.extend(lines if wrong else [])
     return passed, failed

@@ -71,10 +71,14 @@ def tell_failure(minutes, crate, what, lines):
     print(text, end="", flush=True)
 
 
+def failed():
+    """What failed, as it was told."""
+    return [path.read_text() for path in sorted(FAILED.iterdir())] if FAILED.exists() else []
+
+
 def failures():
     """Shows once more what failed; the exit status."""
-    for path in sorted(FAILED.iterdir()) if FAILED.exists() else ():
-        print(path.read_text(), end="", flush=True)
+    print("".join(failed()), end="", flush=True)
     return 1
 
 

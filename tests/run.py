@@ -15,8 +15,8 @@ print, and as it is installed (tests/commands). Reads, writes and flushes of it 
 name, at once, ended by signals and with failing calls (tests/files), what it explains of damaged files (tests/explain), and the suite for other
 programs over this one (tests/conformance). The library for C and Python is called beside it (tests/library), the
 programs of other machines are proved and run beside it where their emulator is there (tests/machines), a release
-is made (tests/release), and the documents are compared with the sources (tests/documents). What needs a tool or a
-right that isn't there is listed at the end, and so are the machines that weren't tried. The last line is
+is made (tests/release), and the documents are compared with the sources (tests/documents). What failed is told once more at
+the end; what needs a tool or a right that isn't there is listed there too, and so are the machines that weren't tried. The last line is
 `N passed, M failed`, of all. The exit status is 0 where nothing failed.
 """
 
@@ -30,7 +30,7 @@ HERE = Path(__file__).resolve().parent
 TOP = HERE.parent
 sys.path.insert(0, str(HERE))
 import prove  # noqa: E402
-from checking import LIKED, left_out, tally  # noqa: E402
+from checking import LIKED, found_wrong, left_out, tally  # noqa: E402
 
 # What is run of the built program: the word that its lines begin with, and the folder of its checks.py. The library is made by its own tests,
 # and those of recipes, commands and files use it.
@@ -79,20 +79,21 @@ def main():
     parser.add_argument("--only", nargs="+", choices=[kind for kind, _ in KINDS], metavar="KIND", help="run these kinds alone, of the program")
     arguments = parser.parse_args()
     program = arguments.program.resolve()
-    counts = []
+    counts, told = [], []
     if arguments.gate:
         if prove.toolchain():
             print("0 passed, 1 failed")
             return 1
         counts = [prove.ci(program)]
+        told = prove.failed()  # before a test calls make, which forgets them
     if program.exists():
         counts += [tally(kind, checks_of(name, program)) for kind, name in KINDS if not arguments.only or kind in arguments.only]
     else:
         print(f"no program {program}")
         counts.append((0, 1))
     passed, failed = (sum(column) for column in zip(*counts))
-    if arguments.gate:
-        prove.failures()
+    print("".join(told), end="")
+    print(*found_wrong, sep="\n", end="\n" if found_wrong else "")
     print_left_out()
     print(f"{passed} passed, {failed} failed")
     return 1 if failed else 0
