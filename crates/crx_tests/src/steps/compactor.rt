@@ -79,6 +79,7 @@ fn feed_last(
     let is_none = engine.next_line().is_none();
     expect_at(rt, engine.is_drained(), name, place);
     let is_first = engine.end() == Err(at);
+    expect_at(rt, engine.is_drained(), name, place);
     let is_second = engine.end() == Err(at);
     expect_at(rt, is_none && is_first && is_second, name, place);
 }
