@@ -4,9 +4,9 @@ use Rattle.std.proofs.Common.{Bool, true, ◌&&◌, T, eqb, List, [], ◌∷◌,
 use Rattle.std.proofs.Common.{arith, eqb→eq, eqb-true, append_assoc, decimal, ◌^◌, ap, sym, ◌∙◌}
 use Rattle.std.proofs.{Common.{refl, subst}, Math.{Dec.ltb, Seq.take-append-add}, lemmas.Bool.agree_below}
 use Rattle.std.proofs.lemmas.{Bool.{agree_below_at, and_parts, cases_lt, le-ltb, lt-ltb}, Fmt.decimal_digit}
-use Rattle.std.proofs.lemmas.{Fmt.decimal_nonempty, Grind.common_steps, List.{take_more_set, length-set}}
+use Rattle.std.proofs.lemmas.{Fmt.decimal_nonempty, Grind.common_steps}
 use Rattle.std.proofs.lemmas.{List.{length-take-le, length-drop, take-take}, Nat.from_le_bytes-to_le_bytes_4}
-use Rattle.std.specs.{Fmt.signed_decimal, Int.{from_le_bytes, to_le_bytes, w32}}
+use Rattle.std.specs.{Fmt.signed_decimal, Int.{to_le_bytes, w32}}
 use lib.Count.{count_trailing_zeros}
 use mir.Val.{SFits, bool_byte}
 use Rattle.itoa.proofs.Decimal.{decimal_four, decimal_pair, decimal_two, pair}

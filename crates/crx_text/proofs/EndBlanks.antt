@@ -2,7 +2,7 @@
 use Rattle.std.proofs.Common.{not, cond, eqb, ℕ, ◌≡◌, ◌+◌, ◌-◌, ◌*◌}
 use Rattle.std.proofs.Common.{◌%◌, ◌^◌, ◌<◌, ◌≤◌, List, [], ◌∷◌, ◌++◌, length, drop, take, map, replicate, w8}
 use Rattle.std.proofs.{Common.{arith, refl, ap, sym, ◌∙◌, ◌≢◌, get_or}, Math.{Nat.pow-suc, Seq.take-add}}
-use Rattle.std.proofs.lemmas.{Bool.ne_eqb, Grind.common_steps, List.{drop_all, drop_more, length-take-le}}
+use Rattle.std.proofs.lemmas.{Grind.common_steps, List.{drop_all, length-take-le}}
 use Rattle.std.proofs.lemmas.{List.{nil_from_length, take-append-drop}, Simd.bitmask_splat}
 use Rattle.std.{proofs.lemmas.Simd.{chunk-drop, length-chunk}, specs.Int.Count.count_leading_zeros}
 use Rattle.std.specs.Int.Count.{leading_unique}

@@ -1,7 +1,7 @@
 -- The number that a row of lanes weighs, three digits at a time.
 use Rattle.std.proofs.Common.{◌≡◌, ℕ, suc, ◌+◌, ◌-◌, ◌*◌, ◌%◌, ◌^◌, ◌<◌, ◌≤◌, true, cond, ltb}
 use Rattle.std.proofs.Common.{bit_and, ◌/◌, leb, List, [], ◌∷◌, ◌++◌, map, length, replicate, get_or, subst}
-use Rattle.std.proofs.{Common.{Fits, w8, refl, sym, ◌∙◌, ltb-true, ltb-false, arith}, Math.Nat.pow-suc}
+use Rattle.std.proofs.{Common.{Fits, w8, refl, sym, ltb-true, ltb-false, arith}, Math.Nat.pow-suc}
 use Rattle.std.proofs.{Math.Nat.mul-le-mul_right, lemmas.Bool.{and_parts, leb-true}}
 use Rattle.std.proofs.lemmas.{Grind.common_steps, List.Folds.list_all-append}
 use Rattle.std.specs.{List.{range_with_len, list_all}, Str.all_ascii_digits}

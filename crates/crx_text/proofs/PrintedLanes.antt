@@ -1,13 +1,13 @@
 -- The lanes of a printed observation: three digits of each group, and where the number begins.
-use Rattle.std.proofs.Common.{◌≡◌, ℕ, zero, suc, ◌+◌, ◌-◌, ◌*◌, ◌/◌, ◌%◌, ◌^◌, ◌<◌, ◌≤◌, Bool, true}
+use Rattle.std.proofs.Common.{◌≡◌, ℕ, zero, suc, ◌+◌, ◌-◌, ◌*◌, ◌/◌, ◌%◌, ◌^◌, ◌<◌, ◌≤◌, Bool, true, false}
 use Rattle.std.proofs.Common.{not, cond, bit_and, leb, List, [], ◌∷◌, ◌++◌, map, length}
-use Rattle.std.proofs.Common.{replicate, take, drop, get_or, subst, refl, sym, ap, ◌∙◌, arith}
+use Rattle.std.proofs.Common.{if◌then◌else◌, replicate, take, drop, get_or, subst, refl, sym, ap, ◌∙◌, arith}
 use Rattle.std.proofs.lemmas.{Bool.{le-leb, Decides.nat_tests}, Grind.common_steps}
 use Rattle.std.proofs.lemmas.{Simd.{trailing_mask_l, mask_l-mod, pick_l_whole}}
 use Rattle.std.specs.List.{range_with_len, prefix_len}
 use lib.{Count.count_trailing_zeros, Lanes.{Each1, chunk, mask_l, pick_l, top, zip2, digits_l, number_l}}
 use Rattle.crx_text.proofs.{LaneBits.{sixteen, no_bit, top_lane}, PrintedDigits.leading_zeros}
-use Rattle.crx_text.specs.FieldTexts.{group_digits}
+use Rattle.crx_text.specs.{FieldTexts.group_digits, declared.field_text.TheConstants.BASES}
 
 -- ---- a group's digits
 
@@ -84,18 +84,28 @@ begin_is v long =
     subst (λ w. get_or w 0 0 ≡ 0 → count_trailing_zeros 64 (mask_l (begin_lanes w) % 2 ^ 64)
     ≡ 1 + leading_zeros (take 9 (drop 1 w))) (sym (sixteen v long)) (begin_explicit (λ i. get_or v i 0))
 
--- blanks, and then what makes digits
-pub base_row : (start : ℕ) → start ≤ 9 → chunk {A = ℕ} 0 16 (take (32 - (16 - start))
-    (drop (16 - start) (replicate 16 32 ++ replicate 16 48))) ≡ replicate start 32 ++ replicate
-    (16 - start) 48
-base_row zero few = refl
-base_row (suc zero) few = refl
-base_row (suc (suc zero)) few = refl
-base_row (suc (suc (suc zero))) few = refl
-base_row (suc (suc (suc (suc zero)))) few = refl
-base_row (suc (suc (suc (suc (suc zero))))) few = refl
-base_row (suc (suc (suc (suc (suc (suc zero)))))) few = refl
-base_row (suc (suc (suc (suc (suc (suc (suc zero))))))) few = refl
-base_row (suc (suc (suc (suc (suc (suc (suc (suc zero)))))))) few = refl
-base_row (suc (suc (suc (suc (suc (suc (suc (suc (suc zero))))))))) few = refl
-base_row (suc (suc (suc (suc (suc (suc (suc (suc (suc (suc start)))))))))) few = absurd (omega arith)
+-- blanks, a sign or one more blank, and then what makes digits
+pub base_row : (is_below : Bool) (start : ℕ) → 1 ≤ start → start ≤ 9 → chunk {A = ℕ} 0 16
+    (take (64 - ((if is_below then 48 else 16) - start)) (drop ((if is_below then 48 else 16) - start) BASES))
+    ≡ replicate (start - 1) 32 ++ (if is_below then 45 else 32) ∷ replicate (16 - start) 48
+base_row false (suc zero) some few = refl
+base_row false (suc (suc zero)) some few = refl
+base_row false (suc (suc (suc zero))) some few = refl
+base_row false (suc (suc (suc (suc zero)))) some few = refl
+base_row false (suc (suc (suc (suc (suc zero))))) some few = refl
+base_row false (suc (suc (suc (suc (suc (suc zero)))))) some few = refl
+base_row false (suc (suc (suc (suc (suc (suc (suc zero))))))) some few = refl
+base_row false (suc (suc (suc (suc (suc (suc (suc (suc zero)))))))) some few = refl
+base_row false (suc (suc (suc (suc (suc (suc (suc (suc (suc zero))))))))) some few = refl
+base_row true (suc zero) some few = refl
+base_row true (suc (suc zero)) some few = refl
+base_row true (suc (suc (suc zero))) some few = refl
+base_row true (suc (suc (suc (suc zero)))) some few = refl
+base_row true (suc (suc (suc (suc (suc zero))))) some few = refl
+base_row true (suc (suc (suc (suc (suc (suc zero)))))) some few = refl
+base_row true (suc (suc (suc (suc (suc (suc (suc zero))))))) some few = refl
+base_row true (suc (suc (suc (suc (suc (suc (suc (suc zero)))))))) some few = refl
+base_row true (suc (suc (suc (suc (suc (suc (suc (suc (suc zero))))))))) some few = refl
+base_row is_below zero some few = absurd (omega (arith, some))
+base_row is_below (suc (suc (suc (suc (suc (suc (suc (suc (suc (suc start)))))))))) some few =
+    absurd (omega (arith, few))

@@ -1,9 +1,8 @@
 -- From the row of text to the text of a size.
 use Rattle.std.proofs.Common.{◌≡◌, ℕ, zero, suc, ◌+◌, ◌-◌, ◌/◌, ◌%◌, ◌^◌, ◌<◌, true, List, [], ◌∷◌}
-use Rattle.std.proofs.Common.{◌++◌, length, replicate, take, drop, refl, ap, ◌∙◌}
+use Rattle.std.proofs.Common.{◌++◌, length, replicate, take, drop, set, get_or, refl, sym, ap, ◌∙◌}
 use Rattle.std.proofs.{Common.{length-append, arith}, lemmas.Bool.{ne_eqb}}
-use Rattle.std.proofs.lemmas.{Grind.common_steps, List.{length-map, length-drop, length-replicate, take_at}}
-use Rattle.std.proofs.lemmas.List.{drop_at}
+use Rattle.std.proofs.lemmas.{Grind.common_steps, List.length-drop}
 use lib.Lanes.{zip2}
 use Rattle.crx_text.proofs.PrintedDigits.{written, are_digits, glyphs, decimal_of_digits, padded_digits}
 use Rattle.crx_text.{proofs.PrintedDigits.{leading_zeros, zeros_few}, specs.meaning.Numbers.size_text}
@@ -100,9 +99,44 @@ module _ (size : ℕ) (small : size < 10 ^ 12) where
     field_text : take 14 cell ≡ replicate start 32 ++ size_text 3 size
     field_text = rw written_row (cut start 14 (size_text 3 size) (48 ∷ 48 ∷ []) text_length)
 
-    pub text_before : take start (take 14 cell) ≡ replicate start 32
-    text_before = ap (take start) field_text ∙ take_at _ (size_text 3 size) start (length-replicate start 32)
+-- ---- a sign in the column before the size
 
-    pub text_written : drop start (take 14 cell) ≡ size_text 3 size
-    text_written =
-        ap (drop start) field_text ∙ drop_at (replicate start 32) _ start (length-replicate start 32)
+-- a sign in place of the last of some blanks
+pub sign_last : (n sign : ℕ) (text : List ℕ) → set (replicate (suc n) 32 ++ text) n sign
+    ≡ replicate n 32 ++ sign ∷ text
+sign_last zero sign text = refl
+sign_last (suc n) sign text = ap (λ t. 32 ∷ t) (sign_last n sign text)
+
+-- what is added to a zero is there as it is
+sum_put : (xs ys : List ℕ) (i sign : ℕ) → get_or xs i 0 ≡ 0 → sign < 256 → plus xs (set ys i sign)
+    ≡ set (plus xs ys) i sign
+sum_put (x ∷ xs) (y ∷ ys) (suc i) sign none small =
+    ap (λ t. (x + y) % 256 ∷ t) (sum_put xs ys i sign none small)
+sum_put xs ys i sign none small = grind (arith, common_steps)
+
+-- the column before the number has none of its digits
+none_before : (ds rest : List ℕ) → get_or (0 ∷ (ds ++ rest)) (leading_zeros ds) 0 ≡ 0
+none_before (zero ∷ e ∷ ds) rest = none_before (e ∷ ds) rest
+none_before (suc d ∷ e ∷ ds) rest = grind (arith, common_steps, ne_eqb)
+none_before (d ∷ []) rest = refl
+none_before [] rest = refl
+
+put_in_front : (n : ℕ) (xs : List ℕ) (i x : ℕ) → take n (set xs i x) ≡ set (take n xs) i x
+put_in_front (suc n) (y ∷ ys) (suc i) x = ap (λ t. y ∷ t) (put_in_front n ys i x)
+put_in_front n xs i x = grind (arith, common_steps)
+
+module _ (size : ℕ) (small : size < 10 ^ 12) (n m sign : ℕ) (byte : sign < 256)
+    (n_is : n ≡ leading_zeros (nine_in size)) (m_is : m ≡ 16 - suc n) where
+  pub signed_text : take 14 (plus (row_of (nine_in size) (three_in size))
+      (replicate n 32 ++ sign ∷ replicate m 48)) ≡ replicate n 32 ++ sign ∷ size_text 3 size
+  signed_text =
+      let row : List ℕ = row_of (nine_in size) (three_in size) in
+      let base : List ℕ = replicate (suc n) 32 ++ replicate (16 - suc n) 48 in
+      let none = ap (λ k. get_or row k 0) n_is
+      ∙ none_before (nine_in size) (254 ∷ (three_in size ++ (0 ∷ 0 ∷ []))) in
+      ap (λ k. take 14 (plus row (replicate n 32 ++ sign ∷ replicate k 48))) m_is
+      ∙ ap (λ t. take 14 (plus row t)) (sym (sign_last n sign (replicate (16 - suc n) 48)))
+      ∙ ap (take 14) (sum_put row base n sign none byte)
+      ∙ put_in_front 14 (plus row base) n sign
+      ∙ ap (λ t. set t n sign) (field_text size small (suc n) (plus row base) (omega (arith, n_is)) refl)
+      ∙ sign_last n sign (size_text 3 size)

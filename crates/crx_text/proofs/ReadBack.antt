@@ -1,11 +1,11 @@
 -- What is printed is read back.
-use Rattle.std.proofs.Common.{true, ℕ, ℤ, pos, negsuc, suc, zero, ◌≡◌, ◌≢◌, ◌+◌, ◌-◌, ◌*◌, ◌<◌}
+use Rattle.std.proofs.Common.{true, ℕ, ℤ, pos, negsuc, suc, zero, ◌≡◌, ◌≢◌, ◌+◌, ◌*◌, ◌<◌}
 use Rattle.std.proofs.Common.{◌≤◌, ◌^◌, List, [], ◌∷◌, ◌++◌, length, get_or, replicate, decimal, Option, Some}
-use Rattle.std.proofs.{Common.{None, arith, refl, ap, ◌∙◌}, Math.Nat.{pow-suc, div-le_self}}
+use Rattle.std.proofs.{Common.{None, arith, refl}, Math.Nat.{pow-suc, div-le_self}}
 use Rattle.std.proofs.lemmas.Fmt.{decimal_is_IsNumeral, digits_decimal, first_decimal, decimal_nonempty}
 use Rattle.std.proofs.lemmas.{Fmt.decimal_digit, Grind.common_steps, List.get_or_at}
 use Rattle.std.proofs.lemmas.Str.Parse.{IsNumeralModel, numerals_by_value}
-use Rattle.std.{proofs.lemmas.Str.Parse.tells_all_ascii_digits, specs.{Char.digit_value, Option.option_map}}
+use Rattle.std.{proofs.lemmas.Str.Parse.tells_all_ascii_digits, specs.{Char.digit_value}}
 use Rattle.std.specs.{Option.ForSome, Str.{all_ascii_digits, Parse.{digits_value, digits_value_after}}}
 use Rattle.crx_text.proofs.Sizes.{size_of_parts, decimal_number_plain, decimal_number_minus, number_of_width}
 use Rattle.crx_text.proofs.Spellings.{fraction_short, size_text_fits}

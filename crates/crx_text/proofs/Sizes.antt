@@ -1,7 +1,7 @@
 -- The spellings of a number without its sign: what reading them asks for.
 use Rattle.std.proofs.Common.{ℤ, pos, neg_ℤ, ◌≡◌, ℕ, ◌+◌, ◌-◌, ◌<◌, ◌≤◌, ◌^◌, Bool, true, false, ◌&&◌, ◌≢◌}
 use Rattle.std.proofs.Common.{if◌then◌else◌, Option, Some, None, List, length, drop, take, get_or}
-use Rattle.std.proofs.{Common.{arith, sym}, Math.Nat.pow-le-pow_right, lemmas.Grind.common_steps}
+use Rattle.std.proofs.{Common.{arith}, Math.Nat.pow-le-pow_right, lemmas.Grind.common_steps}
 use Rattle.std.proofs.lemmas.List.{take_rest}
 use Rattle.std.specs.{Option.option_map, Str.{all_ascii_digits, Parse.{digits_value, digits_value_after}}}
 use Rattle.crx_text.proofs.PowersOfTen.{ten_pow_pos, digits_value_after-append}

@@ -1,6 +1,6 @@
 -- Texts that are written into bytes after others.
 use Rattle.std.proofs.{Common.{sym, ◌∙◌, ap, arith, append_assoc}, Math.Seq.take-append-add}
-use Rattle.std.proofs.lemmas.{Grind.common_steps, List.{drop-take, take-take, drop_at, take_more_set}}
+use Rattle.std.proofs.lemmas.{Grind.common_steps, List.{drop-take, take-take, take_more_set}}
 use Rattle.std.{proofs.lemmas.List.{length-append, length-take-le}, specs.Prelude.{◌≡◌, ◌≤◌, ◌<◌, ℕ, ◌+◌}}
 use Rattle.std.specs.Prelude.{◌-◌, List, [], ◌∷◌, ◌++◌, length, set, take, drop}
 use Rattle.crx_text.{proofs.EndBlanks.{few_kept, take_kept}, specs.meaning.Columns.without_end_blanks}

@@ -5,7 +5,7 @@ ghost use Rattle.std.specs.Option.{option_map};
 ghost use Rattle.std.specs.Result.{result_ok};
 
 use crate::code_digits::{digits_before_blank, row_number, write_signed};
-use crate::digits::{signed, split_minus};
+use crate::digits::{signed, split_minus, split_minus_of_cell};
 use crate::lanes::LANES;
 use crate::number::BadField;
 use crate::text::{Text, TextFull};
@@ -165,7 +165,7 @@ pub fn step_of_length(line: Padded<'_>, at: usize, characters: usize) -> Option<
     ensures short { IfSome result IsShort }
     ensures few { OnSome result (characters < LANES) }
 {
-    let (is_below, digits) = split_minus(&line.padded()[at..]);
+    let (is_below, digits) = split_minus_of_cell(&line.padded()[at..]);
     let (size, count) = row_number(digits)?;
     if count + usize::from(is_below) != characters {
         return None;

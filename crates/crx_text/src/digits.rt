@@ -40,6 +40,19 @@ pub(crate) fn split_minus(text: &[u8]) -> (bool, &[u8])
     }
 }
 
+// What [`split_minus`] gives of a text with a first byte, without asking whether there is one: two
+// instructions less for each cell.
+#[inline(always)]
+pub(crate) fn split_minus_of_cell(text: &[u8]) -> (bool, &[u8])
+    requires some { 0 < length text.now }
+    ensures sign { result.0 ≡ starts_with_minus text.now }
+    ensures rest { result.1.now ≡ without_minus text.now }
+    ensures shorter { length result.1.now + (if result.0 then 1 else 0) ≡ length text.now }
+{
+    let is_below = text[0] == b'-';
+    (is_below, &text[usize::from(is_below)..])
+}
+
 // A number of this size, below zero where it has a minus.
 #[inline(always)]
 pub(crate) fn signed(is_below: bool, size: u64) -> i64

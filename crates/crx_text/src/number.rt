@@ -133,10 +133,7 @@ fn obs_print_row(value: Option<i64>, cell: &mut [u8])
         number_print(value, OBSERVATION_DECIMALS, &mut cell[0..OBSERVATION_WIDTH]);
         return;
     }
-    let start = field_text::size_print(size, cell);
-    if number < 0 {
-        cell[start - 1] = b'-';
-    }
+    field_text::size_print(size, number < 0, cell);
 }
 
 /// Reads a receiver clock offset of 15 columns, in units of 10^-12 seconds; a blank field is

@@ -33,13 +33,14 @@ signed-requires c = search (rules, arith, small_number)
 pub returns-clause-value : goal.returns-clause-value
 returns-clause-value c =
     let p = c.padded.ensures in
-    let minus = c.split_minus-is_below.ensures in
+    let minus = c.split_minus_of_cell-is_below.ensures in
     let read = c.in_ok-size.ensures in
     let same = same_cell _ _ c.args.at p.line p.blank p.room c.requires.within in
     let less : c.args.characters < 16 = grind (arith, common_steps) in
     let bytes = c.padded.result.now in
     let is = step_is (take (length bytes - c.args.at) (drop c.args.at bytes))
-    c.split_minus-is_below.result.1.now c.split_minus-is_below.result.0 c.in_ok-size.size c.in_ok-size.count minus.sign minus.rest read.digits
+    c.split_minus_of_cell-is_below.result.1.now c.split_minus_of_cell-is_below.result.0 c.in_ok-size.size
+    c.in_ok-size.count minus.sign minus.rest read.digits
     read.few.0 read.few.1 (ap (λ n. c.in_ok-size.count + n) (sym c.from.ensures) ∙ c.if-count-from.false
     ∙ c.requires.counted less ∙ ap length (sym same)) in
     grind (arith, common_steps, w64, to_z-of_z, same, is)

@@ -1,11 +1,12 @@
-use Rattle.std.proofs.Common.{◌≡◌, ◌+◌, ◌-◌, ◌/◌, ◌%◌, ◌^◌, ◌≤◌, ◌++◌, ◌∷◌, [], ℕ, List, length, replicate}
+use Rattle.std.proofs.Common.{Bool, true, false, if◌then◌else◌, ◌<◌, length-append, ◌≡◌, ◌+◌, ◌-◌, ◌/◌, ◌%◌, ◌^◌, ◌≤◌, ◌++◌, ◌∷◌, [], ℕ, List, length, replicate}
 use Rattle.std.proofs.{Common.{take, drop, ap, refl, sym, ◌∙◌, arith}, lemmas.Grind.common_steps}
-use Rattle.std.proofs.lemmas.{List.length-take, Simd.{length-chunk, length-zip2, put_chunk_whole}}
+use Rattle.std.proofs.lemmas.{List.length-replicate, Simd.{length-zip2, put_chunk_whole}}
 use lib.{Count.count_trailing_zeros, Lanes.{chunk, mask_l, pick_l}}
 use Rattle.crx_text.proofs.{PrintedDigits.{leading_zeros, zeros_few}, PrintedLanes.{base_row, begin_is}}
 use Rattle.crx_text.proofs.{PrintedLanes.begin_lanes, PrintedTexts.{nine_in, plus, row_of, three_in}}
-use Rattle.crx_text.proofs.PrintedTexts.{text_length, text_before, text_written}
+use Rattle.crx_text.proofs.PrintedTexts.{text_length, signed_text}
 use Rattle.crx_text.specs.{FieldTexts.group_digits, declared.field_text.TheConstants.BASES}
+use Rattle.crx_text.proofs.field_text.size_print.Goals.{Joined-is_below, then-is_below, else-is_below}
 use Rattle.crx_text.proofs.field_text.size_print.Goals as goal
 
 -- the columns of digits, where the number begins in them, and what is added to them
@@ -15,9 +16,6 @@ in_columns digits = pick_l 0 (digits ++ replicate 16 254)
 
 abbrev start_of : List ℕ → ℕ
 start_of columns = count_trailing_zeros 64 (mask_l (begin_lanes columns) % 2 ^ 64)
-
-abbrev bases_at : ℕ → List ℕ
-bases_at start = chunk 0 16 (take (32 - (16 - start)) (drop (16 - start) BASES))
 
 module _ (size : ℕ) (digits : List ℕ) (is : digits ≡ group_digits (size / 10 ^ 6 % 1000 ∷ size / 10 ^ 9
     ∷ size % 1000 ∷ size / 1000 % 1000 ∷ [])) where
@@ -30,26 +28,52 @@ module _ (size : ℕ) (digits : List ℕ) (is : digits ≡ group_digits (size / 
   start_few : start_of (in_columns digits) ≤ 9
   start_few = omega (arith, start_is, zeros_few (nine_in size))
 
+-- what is added to the columns begins with blanks and the sign's column
+first_is : (c : Joined-is_below) → c.if-is_below.first ≡ (if c.args.is_below then 48 else 16)
+first_is c = elim c.if-is_below.branch [
+  | then-is_below w ↦ w.first-is ∙ sym (ap (λ (b : Bool). if b then 48 else 16) w.if-is_below.true)
+  | else-is_below w ↦ w.first-is ∙ sym (ap (λ (b : Bool). if b then 48 else 16) w.if-is_below.false)
+]
+
+first_many : (is_below : Bool) → 16 ≤ (if is_below then 48 else 16)
+first_many true = omega arith
+first_many false = omega arith
+
 pub overflow_sub-text : goal.overflow_sub-text
-overflow_sub-text c = grind (arith, common_steps, start_few)
+overflow_sub-text c =
+    let is = first_is (goal.at.overflow_sub-text c).Joined-is_below in
+    omega (arith, is, first_many c.args.is_below, start_few c.args.size c.digits.result c.digits.ensures)
+
+sign_small : (is_below : Bool) → (if is_below then 45 else 32) < 256
+sign_small true = omega arith
+sign_small false = omega arith
+
+row_length : (n m sign : ℕ) → n + (m + 1) ≡ 16 → length (replicate n 32 ++ sign ∷ replicate m 48) ≡ 16
+row_length n m sign sum = grind (arith, common_steps, sum, length-append, length-replicate)
 
 pub returns : goal.returns
 returns c =
     let size = c.args.size in
     let columns : List ℕ = in_columns c.digits.result in
+    let row = columns_are size c.digits.result c.digits.ensures in
     let start : ℕ = start_of columns in
     let at = start_is size c.digits.result c.digits.ensures in
     let few = start_few size c.digits.result c.digits.ensures in
-    let base : List ℕ = bases_at start in
-    let sixteen : length base ≡ 16 = length-chunk 0 16 (take (32 - (16 - start)) (drop (16 - start) BASES))
-    (omega (arith, length-take (32 - (16 - start)) (drop (16 - start) BASES))) in
+    let some : 1 ≤ start = omega (arith, at) in
+    let first : ℕ = c.if-is_below.first in
+    let is = first_is (goal.at.returns c).Joined-is_below in
+    let sign : ℕ = if c.args.is_below then 45 else 32 in
+    let base : List ℕ = chunk 0 16 (take (64 - (first - start)) (drop (first - start) BASES)) in
+    let base_is = ap (λ (k : ℕ). chunk 0 16 (take (64 - (k - start)) (drop (k - start) BASES))) is
+    ∙ base_row c.args.is_below start some few in
+    let sixteen = ap length base_is ∙ row_length (start - 1) (16 - start) sign (omega (arith, some, few)) in
     let long : length (plus columns base)
     ≡ 16 = length-zip2 (λ a b. (a + b) % 256) columns base (sym sixteen) in
     let cell = put_chunk_whole c.args.cell.now (plus columns base) (c.requires.width ∙ sym long)
-    ∙ (λ k. plus (columns_are size c.digits.result c.digits.ensures k) (base_row start few k)) in
+    ∙ (λ k. plus (row k) (base_is k)) in
     record {
-      start = text_length size c.requires.short start _ at cell;
-      room = omega (arith, at);
-      written = text_written size c.requires.short start _ at cell;
-      before = text_before size c.requires.short start _ at cell;
+      start = text_length size c.requires.short start _ at refl;
+      room = some;
+      written = ap (take 14) cell ∙ signed_text size c.requires.short (start - 1) (16 - start) sign
+          (sign_small c.args.is_below) (omega (arith, at)) (omega (arith, some));
     }

@@ -1,4 +1,4 @@
-use Rattle.std.proofs.{Common.{◌≡◌, eqb, false, arith}, lemmas.{Bool.ne_eqb, Grind.common_steps}}
+use Rattle.std.proofs.{Common.{◌≡◌, eqb, false}, lemmas.{Bool.ne_eqb}}
 use Rattle.crx_text.proofs.LaneWords.{kept_lanes, printable_lanes}
 use Rattle.crx_text.proofs.lanes.with_others.Goals as goal
 

@@ -1,4 +1,4 @@
-use Rattle.std.proofs.{Common.rules, lemmas.Simd.{take_more_put_chunk, length-chunk, length-zip2}}
+use Rattle.std.proofs.{lemmas.Simd.{take_more_put_chunk, length-chunk, length-zip2}}
 use Rattle.crx_text.proofs.LaneTexts.{zip2-chunk}
 use Rattle.crx_text.proofs.lanes.write_lanes.Goals as goal
 

@@ -1,6 +1,6 @@
 use Rattle.std.proofs.Common.{◌+◌, ◌-◌, ◌^◌, ◌<◌, ℕ, length, arith}
-use Rattle.std.proofs.lemmas.{Grind.common_steps, Int.to_z-of_z, List.{length-take, length-drop}}
-use Rattle.crx_text.proofs.{PowersOfTen.more_digits_fit, Sizes.{IsWithin_more, signed_is_within, size_fits}}
+use Rattle.std.proofs.lemmas.{Grind.common_steps, List.{length-take, length-drop}}
+use Rattle.crx_text.proofs.{PowersOfTen.more_digits_fit, Sizes.{signed_is_within, size_fits}}
 use Rattle.crx_text.proofs.number.number_read.Goals as goal
 
 pub digits_read-requires : goal.digits_read-requires

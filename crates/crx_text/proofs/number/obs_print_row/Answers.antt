@@ -1,14 +1,14 @@
 use Rattle.std.proofs.lemmas.Grind.{common_steps}
-use Rattle.std.proofs.Common.{◌≡◌, ◌≤◌, ℕ, suc, List, ◌∷◌, length, take, set, w64, arith}
-use Rattle.std.proofs.{Common.{rules, sym, ap, ◌∙◌}, lemmas.{Int.to_z-of_z, List.take-replicate}}
-use Rattle.std.proofs.lemmas.List.{length-take-le, take-append-le, take_all}
+use Rattle.std.proofs.Common.{◌≡◌, ◌≤◌, ◌-◌, ◌+◌, ℕ, ℤ, pos, zero, suc, Bool, true, false, if◌then◌else◌, Some}
+use Rattle.std.proofs.Common.{List, ◌∷◌, ◌++◌, length, replicate, w64, arith}
+use Rattle.std.proofs.{Common.{rules, ap, sym, refl, ◌∙◌}, lemmas.{Int.to_z-of_z}}
+use Rattle.std.proofs.lemmas.List.{drop_at, length-replicate, length-take-le, take-append-le, take-replicate}
+use Rattle.std.proofs.lemmas.List.{take_all, take_at}
+use Rattle.std.specs.Int.Signed.{lt_z}
 use lib.IntN.{nat_abs}
-use Rattle.crx_text.proofs.Spellings.{printed_number, printed_number_below, abs_within}
+use Rattle.crx_text.proofs.Spellings.{abs_within, printed_number}
+use Rattle.crx_text.specs.meaning.Numbers.{number_text, size_text}
 use Rattle.crx_text.proofs.number.obs_print_row.Goals as goal
-
-put_in_front : (n : ℕ) (xs : List ℕ) (i x : ℕ) → take n (set xs i x) ≡ set (take n xs) i x
-put_in_front (suc n) (y ∷ ys) (suc i) x = ap (λ t. y ∷ t) (put_in_front n ys i x)
-put_in_front n xs i x = grind (arith, common_steps)
 
 pub overflow_cast-size : goal.overflow_cast-size
 overflow_cast-size c =
@@ -25,22 +25,27 @@ returns-then-size-ge1000000 c =
     let long : 14 ≤ length field = omega (arith, same, cut) in
     grind (arith, common_steps, field, cut, same, long, take-append-le 14 field, take_all 14 field)
 
-pub returns-then-number-lt0 : goal.returns-then-number-lt0
-returns-then-number-lt0 c =
-    let printed = c.size_print-start in
-    let start : ℕ = printed.result in
-    let held = to_z-of_z w64 c.in-Some.number (search rules) in
-    let blanks = take-replicate start 14 32 (omega (arith, printed.ensures.start)) in
-    rw c.in-Some.is (put_in_front 14 _ _ 45 ∙ printed_number_below 14 3 start _ _ c.in-Some.number _ held
-    c.if-number-lt0.true c.unsigned_abs-size.ensures.value printed.ensures.room printed.ensures.start
-    printed.ensures.written (printed.ensures.before ∙ sym blanks))
+-- one more blank is before the others as behind them
+blank_more : (n : ℕ) (text : List ℕ) → replicate n 32 ++ 32 ∷ text ≡ replicate (suc n) 32 ++ text
+blank_more zero text = refl
+blank_more (suc n) text = ap (λ t. 32 ∷ t) (blank_more n text)
 
-pub returns-else-number-lt0 : goal.returns-else-number-lt0
-returns-else-number-lt0 c =
-    let printed = c.size_print-start in
-    let start : ℕ = printed.result in
+spelled : (is_below : Bool) (n size : ℕ) (held number : ℤ) → held ≡ number → lt_z held (pos 0) ≡ is_below
+    → size ≡ nat_abs held → suc n + length (size_text 3 size) ≡ 14
+    → replicate n 32 ++ (if is_below then 45 else 32) ∷ size_text 3 size ≡ number_text 14 3 (Some number)
+unfolding number_text
+spelled true n size held number is below abs sum = grind (arith, common_steps, nat_abs)
+spelled false n size held number is positive abs sum =
+    let text = size_text 3 size in
+    let blanks = replicate (suc n) 32 in
+    let long = length-replicate (suc n) 32 in
+    blank_more n text ∙ printed_number 14 3 (suc n) size held number (blanks ++ text) is positive abs sum
+    (drop_at blanks text (suc n) long)
+    (take_at blanks text (suc n) long ∙ sym (take-replicate (suc n) 14 32 (omega (arith, sum))))
+
+pub returns : goal.returns
+returns c =
+    let printed = c.size_print in
     let held = to_z-of_z w64 c.in-Some.number (search rules) in
-    let blanks = take-replicate start 14 32 (omega (arith, printed.ensures.start)) in
-    rw c.in-Some.is (printed_number 14 3 start _ _ c.in-Some.number _
-    held c.if-number-lt0.false c.unsigned_abs-size.ensures.value
-    printed.ensures.start printed.ensures.written (printed.ensures.before ∙ sym blanks))
+    rw c.in-Some.is (printed.ensures.written ∙ spelled _ (printed.result - 1) _ _ c.in-Some.number held refl
+    c.unsigned_abs-size.ensures.value (omega (arith, printed.ensures.start, printed.ensures.room)))
