@@ -11,6 +11,7 @@ import time
 from pathlib import Path
 
 from cases import BAD_INDICATOR, COMPACT_FIVE, DATED, EACH, H, epoch, text
+from window import LONGEST, WINDOW
 
 SECONDS = 20  # in which each output is to be there
 BUFFER = 65536  # bytes that a run over files writes at once
@@ -142,7 +143,7 @@ def calls_over_files(program):
                     subprocess.run(command, cwd=folder, stdin=source, stdout=target, timeout=60)
                 calls = re.findall(r"^(\w+)\((\d?)", trace.read_text(), re.M)
             counts = [sum(call == "write" for call, _ in calls), sum(call == "read" for call, _ in calls), sum("stat" in call for call, _ in calls)]
-            most = [-(-len(whole) // BUFFER) + 1, len(given) // (BUFFER - 8300) + 4, 4]
+            most = [-(-len(whole) // BUFFER) + 1, len(given) // (WINDOW - LONGEST - 2) + 4, 4]
             if any(count > limit for count, limit in zip(counts, most)):
                 wrong.append(f"{' '.join(words)}: writes, reads and questions {counts}, at most {most}")
     return wrong

@@ -7,7 +7,7 @@ from pathlib import Path
 
 from cases import COMPACT_FIVE, DATED, FIVE, H, K, text
 
-WINDOW = 65_536  # bytes that the reader holds at once (crates/crx_lines/src/window.rt)
+WINDOW = 18_432  # bytes that the reader holds at once (crates/crx_lines/src/window.rt)
 LONGEST = 8192  # bytes of a line's content
 SAMPLE = Path(__file__).resolve().parents[2] / "samples/station.rnx"
 SECONDS = 60

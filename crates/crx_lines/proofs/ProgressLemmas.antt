@@ -1,6 +1,6 @@
 -- From one answer of a reader of lines to the next: the lines so far, and the bytes that were given.
-use Rattle.std.proofs.{lemmas.{Grind.common_steps, List.{length_push, map-append}}, Math.Seq.take-append-add}
-use Rattle.std.proofs.{lemmas.List.take_all, Common.{◌≡◌, ◌⊎◌, inr, ℕ, ◌+◌, ◌-◌, ◌<◌, ◌≤◌, Bool, true}}
+use Rattle.std.proofs.{lemmas.{Grind.common_steps, List.{length_push}}, Math.Seq.take-append-add}
+use Rattle.std.proofs.{lemmas.List.take_all, Common.{◌≡◌, ◌⊎◌, ℕ, ◌+◌, ◌-◌, ◌<◌, ◌≤◌, Bool, true}}
 use Rattle.std.proofs.Common.{false, Option, Some, None, Result, Ok, Err, List, [], ◌∷◌, ◌++◌, length, take}
 use Rattle.std.proofs.Common.{map, refl, sym, ap, ◌∙◌, subst, arith, append-nil, length-append, rules}
 use Rattle.crx_lines.specs.{Devices.{with_end, tally_after_line}, Reading.{HasNoFeed, ReaderState}}

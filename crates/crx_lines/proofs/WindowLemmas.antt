@@ -3,7 +3,6 @@ use Rattle.std.proofs.Common.{◌≡◌, ℕ, ◌+◌, ◌-◌, ◌≤◌, ◌<�
 use Rattle.std.proofs.Common.{slice_range, slice_set, arith}
 use Rattle.std.proofs.{Common.{zero, suc, ◌∷◌}, lemmas.Grind.common_steps}
 use Rattle.std.proofs.lemmas.List.{take-append-le, drop-take, drop-drop}
-use Rattle.std.proofs.lemmas.List.{length-take}
 use borrow.Rule.Slice.PartMut.{put_mid}
 
 -- n of the bytes that were read past the end are held too

@@ -13,15 +13,16 @@ use crx_base::padded::PADDING;
 use crx_base::{Fault, Padded};
 use std::alloc::{AllocError, Global};
 
-/// How many bytes are held at once: some hundreds of lines of common files.
-pub(crate) const SIZE: usize = 65536;
-
 /// How many bytes are set to zero at once: the C library sets more of them by an instruction that repeats
 /// itself for each byte.
 const PIECE: usize = 2048;
 
 /// The room that a read finds at least, where something is held: a line's content, CR and LF.
 const LEAST_ROOM: usize = LINE_LIMIT + 2;
+
+/// How many bytes are held at once, 18 KiB: two of the longest lines, in whole pieces, and dozens of common
+/// ones. A run over a small file touches less memory so, and to read more at once is no faster.
+pub(crate) const SIZE: usize = (2 * LEAST_ROOM / PIECE + 1) * PIECE;
 
 /// Where the content of a line that was taken is in the window, and whether LF alone ended the line.
 #[derive(Clone, Copy)]

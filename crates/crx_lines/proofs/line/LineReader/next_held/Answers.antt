@@ -1,4 +1,4 @@
-use Rattle.std.proofs.{Common.{◌≡◌, inr, refl, Option, None, Result, Ok, Err}, lemmas.Result.err_from_is_err_and}
+use Rattle.std.proofs.{Common.{◌≡◌, refl, Option, None, Result, Ok, Err}, lemmas.Result.err_from_is_err_and}
 use Rattle.crx_base.specs.declared.fault.At.{At}
 use Rattle.crx_lines.specs.{declared.line.Line.Line}
 use Rattle.crx_lines.proofs.line.LineReader.next_held.Goals as goal

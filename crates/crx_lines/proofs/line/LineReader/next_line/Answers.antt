@@ -1,4 +1,4 @@
-use Rattle.std.proofs.{Common.{refl, rules}, lemmas.Result.err_from_is_err_and}
+use Rattle.std.proofs.{Common.{refl}, lemmas.Result.err_from_is_err_and}
 use Rattle.crx_lines.proofs.line.LineReader.next_line.Goals as goal
 use Rattle.std.proofs.Common.{arith}
 use Rattle.std.proofs.lemmas.Grind.{common_steps}

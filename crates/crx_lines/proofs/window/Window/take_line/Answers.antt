@@ -1,4 +1,4 @@
-use Rattle.std.proofs.Common.{◌-◌, arith}
+use Rattle.std.proofs.Common.{arith}
 use Rattle.std.proofs.lemmas.{Grind.common_steps, List.{length-take, length-drop}}
 use Rattle.crx_lines.proofs.{ReturnLemmas.{cut-line, last-byte}, WindowLemmas.{passed, untouched}}
 use Rattle.crx_lines.proofs.window.Window.take_line.Goals as goal
