@@ -33,4 +33,5 @@ pub mod PrintedBlocks
 mod ReadingRooms
 mod SatelliteLines
 pub mod Resizing
+pub mod CellsFor
 pub mod placing

@@ -1,4 +1,5 @@
 -- The identifiers of an epoch text, read from left to right.
+use Rattle.crx_compact.proofs.Words.{append-nil}
 use Rattle.crx_compact.proofs.Words.{◌≡◌, ◌<◌, refl, ℕ, suc, ◌+◌, ◌*◌, Bool, true, false, ◌||◌, List}
 use Rattle.crx_compact.proofs.Words.{[], ◌∷◌, ◌++◌, drop, Some, None, Ok, Err, length, All-from_recursion}
 use Rattle.crx_compact.proofs.Words.{bytes_eq, sym, ◌∙◌, ap, arith, get_or, length-map}
@@ -43,7 +44,7 @@ pub record NamedSoFar (types : List Count) (all : List (List ℕ)) (place : ℕ)
 module _ (types : List Count) (all : List (List ℕ)) (place : ℕ) (found : List Satellite)
     (n : NamedSoFar types all place found) where
   pub named-all : drop place all ≡ [] → satellites_named types [] all ≡ Ok found
-  named-all e = cc (n.so_far, e, onto-ok found)
+  named-all e = cc (n.so_far, e, onto-ok found [], append-nil found)
 
   module _ (name : List ℕ) (e : drop place all ≡ name ∷ drop (place + 1) all) where
     at-next : satellites_named types [] all ≡ onto found

@@ -30,9 +30,9 @@ abbrev pub onto : {X : Type 0} → List X → Result (List X) Fault → Result (
 onto [] r = r
 onto (x ∷ xs) r = before_all x (onto xs r)
 
-pub onto-ok : {X : Type 0} (xs : List X) → onto xs (Ok []) ≡ Ok xs
-onto-ok [] = refl
-onto-ok (x ∷ xs) = cc (onto-ok xs)
+pub onto-ok : {X : Type 0} (xs ys : List X) → onto xs (Ok ys) ≡ Ok (xs ++ ys)
+onto-ok [] ys = refl
+onto-ok (x ∷ xs) ys = cc (onto-ok xs ys)
 
 pub onto-err : {X : Type 0} (xs : List X) (fault : Fault) → onto xs (Err fault) ≡ Err fault
 onto-err [] fault = refl

@@ -1,33 +1,33 @@
 -- A satellite's line read in place of what is stored of the satellite.
-use Rattle.std.proofs.Math.Path.{fun_ext}
-use Rattle.crx_compact.proofs.Words.{list_all, ◌≡◌, ◌≤◌, refl, ℕ, ◌*◌, true, false, List, [], length, take}
-use Rattle.crx_compact.proofs.Words.{drop, Option, Result, Ok, Err, ap, arith, length-take-le, Fault}
-use Rattle.crx_compact.proofs.Words.{BadFlags, columns, is_blank, without_end_blanks, patched, at}
-use Rattle.crx_compact.proofs.Words.{begins_epoch, are_marks, cells_of, cells_read, ArcTail, value_at_place}
-use Rattle.crx_compact.proofs.Words.{RowTail, CellsAreRead, row_held_from}
-use Rattle.std.proofs.Math.Seq.{drop-nil}
-use Rattle.crx_compact.proofs.SoundTexts.{first-columns, patched-trimmed}
-use Rattle.crx_compact.proofs.Marks.{columns-left, line-held}
+use Rattle.crx_compact.proofs.Words.{list_all, ◌≡◌, refl, ℕ, ◌*◌, true, false, List, [], length, take, drop}
+use Rattle.crx_compact.proofs.Words.{Option, Result, Ok, Err, ap, arith, Fault, BadFlags, columns, is_blank}
+use Rattle.crx_compact.proofs.Words.{without_end_blanks, patched, begins_epoch, are_marks, cells_of}
+use Rattle.crx_compact.proofs.Words.{cells_read, ArcTail, value_at_place, length-each_place, RowTail}
+use Rattle.crx_compact.proofs.{SoundTexts.{first-columns, patched-trimmed}, Marks.{columns-left, line-held}}
+use Rattle.crx_compact.proofs.Words.{CellsAreRead, row_held_from}
+use Rattle.std.proofs.{Math.Path.fun_ext, Math.Seq.drop-nil}
+use Rattle.crx_compact.specs.Placing.{cells_for}
 
 -- how the line of a satellite of which so many types are stored is read
 abbrev pub stored_read : List ℕ → List (Option ArcTail) → ℕ → List ℕ → List ℕ → Result RowTail Fault
 stored_read indicators arcs count line name =
-    row_held_from (take count arcs) (without_end_blanks (take (2 * count) indicators))
-    (record { name = name; count = length (take count arcs) }) line
+    row_held_from (cells_for count arcs) (without_end_blanks (take (2 * count) indicators))
+    (record { name = name; count = length (cells_for count arcs) }) line
 
 module _ (indicators : List ℕ) (arcs : List (Option ArcTail)) (count : ℕ) (line : List ℕ)
-    (h : count ≤ length arcs) (other : begins_epoch line ≡ false) where
-  counted : (name : List ℕ) → stored_read indicators arcs count line name ≡ row_held_from (take count arcs)
+    (other : begins_epoch line ≡ false) where
+  counted : (name : List ℕ) → stored_read indicators arcs count line name
+      ≡ row_held_from (cells_for count arcs)
       (take (2 * count) indicators) (record { name = name; count = count }) line
-  counted name = grind (arith, length-take-le, fun_ext, patched-trimmed)
+  counted name = grind (arith, length-each_place, fun_ext, patched-trimmed)
 
   pub cells-refused : {fault : Fault}
-      → cells_read (value_at_place (take count arcs)) (cells_of count line) ≡ Err fault
+      → cells_read (value_at_place (cells_for count arcs)) (cells_of count line) ≡ Err fault
       → (name : List ℕ) → stored_read indicators arcs count line name ≡ Err fault
   cells-refused e name = grind (arith, counted)
 
   module _ {at : ℕ} {left : List (Option ArcTail)}
-      (read : CellsAreRead (take count arcs) count line left at) where
+      (read : CellsAreRead (cells_for count arcs) count line left at) where
     pub flags-refused : {fault : Fault} → (are_marks count (drop at line) ≡ false) × (fault ≡ BadFlags)
         → (name : List ℕ) → stored_read indicators arcs count line name ≡ Err fault
     flags-refused e name = grind (arith, counted)
@@ -37,7 +37,7 @@ module _ (indicators : List ℕ) (arcs : List (Option ArcTail)) (count : ℕ) (l
         → (name : List ℕ) → stored_read indicators arcs count line name
         ≡ Ok (record { name = name; flags = without_end_blanks held; cells = left })
     stored-read good held name =
-        let kept = line-held (take count arcs) (take (2 * count) indicators)
+        let kept = line-held (cells_for count arcs) (take (2 * count) indicators)
         (record { name = name; count = count }) line left at _ other read good held in
         cc (counted name, kept)
 

@@ -19,18 +19,20 @@ use Rattle.crx_compact.specs.RowsSoFar.{AreAnnounced, NamesSatellites}
 use Rattle.crx_compact.specs.Steps.{cell_of_tail, flags_of_tail, flags_held, row_line_after}
 use Rattle.crx_compact.specs.Tails.{RowTail, Tail}
 use Rattle.crx_rinex.specs.meaning.Observations.{Row}
+use Rattle.crx_rinex.specs.SatelliteLines.{AreMissingFrom}
 use Rattle.crx_text.specs.meaning.Numbers.{IsValue}
 use Rattle.crx_base.specs.declared.limits.TheConstants.{HEAD_WIDTH, NAME_WIDTH, TYPES_LIMIT}
 use Rattle.crx_header.specs.meaning.Satellites.{is_among, types_of_satellite}
 use Rattle.crx_text.specs.Texts.{patched}
 use Rattle.crx_text.specs.meaning.Columns.{columns, without_end_blanks}
 
--- what is stored of a satellite: its indicators without the blanks at their end, the tail of each cell's arc, and how many types it has
--- room for
+-- what is stored of a satellite: its indicators without the blanks at their end, the tail of each cell's arc, how
+-- many types it has room for, and how many second parts of arcs
 pub record SatelliteTail : Type 0 where
   pub flags : List ℕ
   pub cells : List (Option ArcTail)
   pub room : ℕ
+  pub far_room : ℕ
 
 -- the row of a satellite by its identifier
 abbrev pub row_tail_of : List ℕ → SatelliteTail → RowTail
@@ -44,19 +46,21 @@ row_of_entry entry = row_tail_of entry.0 entry.1
 abbrev pub room_of_entry : List ℕ × SatelliteTail → List ℕ × ℕ
 room_of_entry entry = (entry.0, entry.1.room)
 
--- so many arcs, with all their memory, and so many indicators belong together: two to an arc, for as many types as a system may have
-abbrev pub IndicatorsMatchArcs : ℕ → ℕ → ℕ → ℕ → Type 0
-IndicatorsMatchArcs arcs arcs_memory indicators indicators_memory = (arcs ≤ TYPES_LIMIT) × (indicators ≡ 2 * arcs)
-    × (arcs_memory ≡ arcs) × (indicators_memory ≤ 2 * TYPES_LIMIT)
+-- there are two indicators for each type that there is room for. There is room, and memory for indicators,
+-- for no more types than a system may have
+abbrev pub IndicatorsMatchRoom : ℕ → ℕ → ℕ → Type 0
+IndicatorsMatchRoom room indicators memory = (room ≤ TYPES_LIMIT) × (indicators ≡ 2 * room)
+    × (memory ≤ 2 * TYPES_LIMIT)
 
--- room for so many types was asked for: what is stored stays; after a refusal too there is no less room than before, and never more than that
--- or than was asked for; and there is no refusal where there was as much
+-- room for so many types was asked for: what is stored stays. After a refusal too there is no less room than
+-- before, and never more than that or than was asked for. There is no refusal where there was as much
 pub record AnswersRoom {E : Type 0} (count : ℕ) (old new : SatelliteTail) (answer : Result (Unit {0}) E) : Type 0 where
   pub flags : new.flags ≡ old.flags
   pub cells : new.cells ≡ old.cells
   pub room : OnOk answer (count ≤ new.room)
   pub kept : old.room ≤ new.room
   pub only : (new.room ≤ old.room) ⊎ (new.room ≤ count)
+  pub far_only : (new.far_room ≤ old.far_room) ⊎ (new.far_room ≤ count)
   pub known : count ≤ old.room → IsOk answer
 
 -- indicators of so many types, for which the satellite has room
@@ -65,9 +69,12 @@ pub record FitsFlags (count : ℕ) (flags : List ℕ) (satellite : SatelliteTail
   pub paired : length flags ≡ 2 * count
   pub held : AreHeldFlags flags
 
--- a row of these values and indicators can be written of the satellite
-pub record FitsRow (values : List (Option ℤ)) (flags : List ℕ) (satellite : SatelliteTail) : Type 0 where
+-- a row of these values, of which those behind the first `filled` are missing, and of these indicators can be
+-- written of the satellite
+pub record FitsRow (filled : ℕ) (values : List (Option ℤ)) (flags : List ℕ)
+    (satellite : SatelliteTail) : Type 0 where
   pub ranged : All IsValue values
+  pub missing : AreMissingFrom filled values
   pub few : length values ≤ TYPES_LIMIT
   pub fits : FitsFlags (length values) flags satellite
 
@@ -192,7 +199,7 @@ pub record AnswersReading (line : List ℕ) (old new : SatelliteTail) (answer : 
   pub ok : OnOk answer ((name : List ℕ) → row_read (row_tail_of name old) line ≡ Ok (row_tail_of name new))
   pub err : IfErr answer (λ fault. (name : List ℕ) → row_read (row_tail_of name old) line ≡ Err fault)
   pub sized : length new.cells ≡ length old.cells
-  pub room : new.room ≡ old.room
+  pub room : (new.room ≡ old.room) × (new.far_room ≡ old.far_room)
 
 -- ---- the history
 

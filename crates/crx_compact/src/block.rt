@@ -140,11 +140,12 @@ impl Block {
         &mut self,
         satellite: &mut SatelliteHistory,
         values: &[Option<i64>],
+        filled: usize,
         flags: &[u8],
         scratch: &mut Text,
     )
         requires left { 0 < self.old.left }
-        requires fits { FitsRow values.now flags.now satellite.old }
+        requires fits { FitsRow filled values.now flags.now satellite.old }
         ensures after { satellite.new ≡ satellite_after values.now flags.now satellite.old }
         ensures lines { self.new.lines ≡ self.old.lines
             ++ line_after values.now flags.now satellite.old ∷ [] }
@@ -153,13 +154,13 @@ impl Block {
         use_bytes(&mut self.bytes, self.filled);
         // The place of the bytes and the index are read once: after the line is written they would be read
         // again, by 4 instructions.
-        let filled = self.filled;
+        let start = self.filled;
         let bytes = self.bytes.as_mut_slice();
-        let length = satellite.write_line(values, flags, scratch, bytes, filled);
-        bytes[filled + length] = b'\n';
+        let length = satellite.write_line(values, filled, flags, scratch, bytes, start);
+        bytes[start + length] = b'\n';
         self.lengths[self.count] = length as u16;
         self.count += 1;
-        self.filled = filled + (length + 1);
+        self.filled = start + (length + 1);
     }
 
     /// Puts the printed line of the row that a satellite shows, of this identifier, after the others.

@@ -1,21 +1,24 @@
 //! The cells of a satellite line: values to codes and back, each after its arc.
 
-ghost use Rattle.std.specs.Prelude.{All, ◌≡◌, ◌≤◌, ◌<◌, ◌+◌, ◌*◌, None, Ok, Err, drop, length, take, IfOk, IfErr, IfSome, IfNone, OnSome, Some, Option};
+ghost use Rattle.std.specs.Prelude.{All, ◌≡◌, ◌≤◌, ◌<◌, ◌+◌, ◌*◌, [], max, None, Ok, Err, drop, take, length, slice_index_or, slice_set, IfOk, IfErr, IfSome, IfNone, OnSome, Some, Option, vec_capacity};
 ghost use Rattle.crx_text.specs.meaning.Numbers.{IsValue};
-ghost use Rattle.crx_base.specs.declared.limits.TheConstants.{OBSERVATION_WIDTH};
+ghost use Rattle.crx_base.specs.declared.limits.TheConstants.{LINE_LIMIT, OBSERVATION_WIDTH};
 ghost use Rattle.crx_base.specs.Padded.{line_in};
+ghost use Rattle.crx_compact.specs.Arcs.{whole_arc, whole_arcs};
 ghost use Rattle.crx_compact.specs.ArcSteps.{arc_of_code, value_of_code};
 ghost use Rattle.crx_text.specs.Codes.{IsShort};
 ghost use Rattle.crx_compact.specs.declared.cells.TheConstants.{CELL_ROOM};
 ghost use Rattle.crx_compact.specs.Cells.{AnswersCell, AreCellsWritten, value_at_place, CellsAreRead, IsCellWritten, MayReadCell};
+ghost use Rattle.crx_compact.specs.Placing.{cells_for};
+ghost use Rattle.crx_rinex.specs.SatelliteLines.{AreMissingFrom};
 ghost use Rattle.crx_compact.specs.meaning.Cells.{cells_of, cells_read};
 ghost use Rattle.crx_base.specs.declared.fault.Fault.TheVariants.{BadField};
 ghost use Rattle.crx_text.specs.declared.code.Code.TheVariants.{Missing, Step};
 
-use crate::arc::ObsArc;
-use crx_base::limits::DIGITS_LIMIT;
+use crate::arc::{Far, Near};
+use crx_base::limits::{DIGITS_LIMIT, OBSERVATION_WIDTH};
 use crx_base::{Fault, Padded};
-use crx_text::{Code, cell_length, code_before_blank, step_of_length, write_cell};
+use crx_text::{Code, cell_length, code_before_blank, put_blanks, step_of_length, write_cell};
 
 /// The room for a cell in a satellite line: a code with its order, `&` and minus, and three bytes more, since
 /// digits are written four at a time. The cell's blank is one of the three.
@@ -25,12 +28,19 @@ pub const CELL_ROOM: usize = DIGITS_LIMIT + 6;
 /// arc goes on. It is called for the few values that [`write_value_fast`] doesn't write itself.
 #[cold]
 #[inline(never)]
-fn write_value(arc: &mut ObsArc, value: i64, bytes: &mut [u8], at: usize) -> usize
+fn write_value(
+    near: &mut Near<OBSERVATION_WIDTH>,
+    far: &mut Far,
+    value: i64,
+    bytes: &mut [u8],
+    at: usize,
+) -> usize
     requires value { IsValue (Some value) }
     requires room { at + CELL_ROOM ≤ length bytes.old }
-    ensures { IsCellWritten (Some value) arc.old arc.new bytes.old at bytes.new result }
+    ensures { IsCellWritten (Some value) (whole_arc near.old far.old) (whole_arc near.new far.new)
+        bytes.old at bytes.new result }
 {
-    let code = arc.push(Some(value));
+    let code = near.push(far, Some(value));
     write_cell(bytes, at, code)
 }
 
@@ -38,75 +48,145 @@ fn write_value(arc: &mut ObsArc, value: i64, bytes: &mut [u8], at: usize) -> usi
 /// of order 3 as their code: these two are written here, without a call and without asking which code it is,
 /// and only the others by a call.
 #[inline(always)]
-fn write_value_fast(arc: &mut ObsArc, value: Option<i64>, bytes: &mut [u8], at: usize) -> usize
+fn write_value_fast(
+    near: &mut Near<OBSERVATION_WIDTH>,
+    far: &mut [Far],
+    index: usize,
+    value: Option<i64>,
+    bytes: &mut [u8],
+    at: usize,
+) -> usize
     requires value { IsValue value }
+    requires within { index < length far.old }
     requires room { at + CELL_ROOM ≤ length bytes.old }
-    ensures { IsCellWritten value arc.old arc.new bytes.old at bytes.new result }
+    ensures written { IsCellWritten value (whole_arc near.old (slice_index_or far.old index []))
+        (whole_arc near.new (slice_index_or far.new index [])) bytes.old at bytes.new result }
+    ensures others { far.new ≡ slice_set far.old index (slice_index_or far.new index []) }
 {
     let Some(present) = value else {
-        arc.end();
+        near.end();
         return write_cell(bytes, at, Code::Missing);
     };
-    match arc.push_third(present) {
+    match near.push_third(present) {
         Some(difference) => write_cell(bytes, at, Code::Step(difference)),
-        None => write_value(arc, present, bytes, at),
+        None => write_value(near, &mut far[index], present, bytes, at),
     }
 }
 
-/// Writes the codes of the next values of some arcs, each followed by a blank, from an index on, gives the
-/// index after them, and the arcs go on. Each value fits its columns, and there are [`CELL_ROOM`] bytes for
-/// each. Arcs behind those of the values stay. Part of its callers, as a call takes up to 23 instructions for
-/// each line.
+/// Adds second parts of arcs, up to those of so many types, for which there is memory.
+#[cold]
+#[inline(never)]
+fn keep_far(far: &mut Vec<Far>, count: usize)
+    requires memory { count ≤ vec_capacity far.old }
+    ensures kept { take (length far.old.items) far.new.items ≡ far.old.items }
+    ensures many { length far.new.items ≡ max count (length far.old.items) }
+    ensures memory { vec_capacity far.new ≡ vec_capacity far.old }
+{
+    while far.len() < count {
+        far.push_reserved(Far::new());
+    }
+}
+
+/// Has the arcs of the first so many types be there, for which there is memory: any others are over, and new
+/// ones have no values.
+#[cold]
+#[inline(never)]
+fn keep_arcs(near: &mut Vec<Near<OBSERVATION_WIDTH>>, far: &mut Vec<Far>, count: usize)
+    requires memory { (count ≤ vec_capacity near.old) × (count ≤ vec_capacity far.old) }
+    requires apart { length near.old.items ≤ length far.old.items }
+    ensures kept { whole_arcs near.new.items far.new.items
+        ≡ cells_for count (whole_arcs near.old.items far.old.items) }
+    ensures counted { (length near.new.items ≡ count) × (count ≤ length far.new.items) }
+    ensures memory { (vec_capacity near.new ≡ vec_capacity near.old)
+        × (vec_capacity far.new ≡ vec_capacity far.old) }
+{
+    keep_far(far, count);
+    near.truncate(count);
+    while near.len() < count {
+        near.push_reserved(Near::new());
+    }
+}
+
+/// Writes the codes of the next values of some types, each followed by a blank, from an index on, gives the
+/// index after them, and the arcs go on. Each value fits its columns, the first `filled` may be there, all
+/// others are missing, and there are [`CELL_ROOM`] bytes for each. A type behind the arcs that are stored has
+/// one that is over. Part of its callers, as a call takes up to 23 instructions for each line.
 #[inline(always)]
 pub(crate) fn write_cells(
-    arcs: &mut [ObsArc],
+    near: &mut Vec<Near<OBSERVATION_WIDTH>>,
+    far: &mut Vec<Far>,
     values: &[Option<i64>],
+    filled: usize,
     bytes: &mut [u8],
     at: usize,
 ) -> usize
     requires values { All IsValue values.now }
-    requires fitting { length values.now ≤ length arcs.old }
+    requires missing { AreMissingFrom filled values.now }
+    requires memory { (length values.now ≤ vec_capacity near.old)
+        × (length values.now ≤ vec_capacity far.old) }
+    requires apart { length near.old.items ≤ length far.old.items }
+    requires few { length values.now ≤ LINE_LIMIT }
     requires room { at + CELL_ROOM * length values.now ≤ length bytes.old }
-    ensures { AreCellsWritten values.now (take (length values.now) arcs.old) (take (length values.now) arcs.new)
-        bytes.old at bytes.new result }
+    ensures written { AreCellsWritten values.now (whole_arcs near.old.items far.old.items)
+        (cells_for (length values.now) (whole_arcs near.new.items far.new.items)) bytes.old at bytes.new
+        result }
+    ensures arcs { (length near.new.items ≡ filled) × (filled ≤ length far.new.items) }
+    ensures memory { (vec_capacity near.new ≡ vec_capacity near.old)
+        × (vec_capacity far.new ≡ vec_capacity far.old) }
 {
-    let mut end = at;
-    for index in 0..values.len() {
-        end = write_value_fast(&mut arcs[index], values[index], bytes, end);
+    if near.len() != filled {
+        keep_arcs(near, far, filled);
     }
-    end
+    let near = near.as_mut_slice();
+    let far = far.as_mut_slice();
+    let there = &values[..filled];
+    let mut end = at;
+    for index in 0..there.len() {
+        end = write_value_fast(&mut near[index], far, index, there[index], bytes, end);
+    }
+    let blanks = end + (values.len() - filled);
+    put_blanks(&mut bytes[end..blanks]);
+    blanks
 }
 
 /// Reads the cell that a text begins with, whatever its code is: the arc at a place goes on by it. It gives
 /// the index after the cell and its blank, and is called for the few cells that [`read_cell_fast`] doesn't
 /// read.
 ///
-/// `BadField` comes where the cell is no code, `NoArc` and `OutOfRange` come as by [`ObsArc::apply`].
+/// `BadField` comes where the cell is no code, `NoArc` and `OutOfRange` come as by [`Near::apply`].
 #[inline(never)]
-fn read_cell(arcs: &mut [ObsArc], index: usize, text: &[u8]) -> Result<usize, Fault>
-    requires within { index < length arcs.old }
-    ensures { AnswersCell index text.now arcs.old arcs.new result }
+fn read_cell(
+    near: &mut [Near<OBSERVATION_WIDTH>],
+    far: &mut [Far],
+    index: usize,
+    text: &[u8],
+) -> Result<usize, Fault>
+    requires within { index < length near.old }
+    requires apart { index < length far.old }
+    ensures { AnswersCell index text.now (whole_arcs near.old far.old) (whole_arcs near.new far.new) result }
 {
     let Ok((code, length)) = code_before_blank(text) else {
         return Err(Fault::BadField);
     };
-    arcs[index].apply(code)?;
+    near[index].apply(&mut far[index], code)?;
     Ok(length)
 }
 
 /// The value that a difference gives, after which the arc goes on; `None` where the value has a fault, and
 /// then the arc is as it was. It is called for the few differences that aren't of order 3, or whose value
-/// doesn't fit. In the loop over the cells the place for the answer of [`ObsArc::apply`] would be cleared for
+/// doesn't fit. In the loop over the cells the place for the answer of [`Near::apply`] would be cleared for
 /// each cell.
 #[inline(never)]
-fn apply_step(arc: &mut ObsArc, number: i64) -> Option<i64>
+fn apply_step(near: &mut Near<OBSERVATION_WIDTH>, far: &mut Far, number: i64) -> Option<i64>
     requires short { IsShort number }
     ensures value { IfSome result
-        (λ value. value_of_code OBSERVATION_WIDTH (Step number) arc.old ≡ Ok (Some value)) }
-    ensures arc { OnSome result (arc.new ≡ arc_of_code (Step number) arc.old) }
-    ensures none { IfNone result (arc.new ≡ arc.old) }
+        (λ value. value_of_code OBSERVATION_WIDTH (Step number) (whole_arc near.old far.old) ≡ Ok
+        (Some value)) }
+    ensures arc { OnSome result (whole_arc near.new far.new ≡ arc_of_code (Step number)
+        (whole_arc near.old far.old)) }
+    ensures none { IfNone result (whole_arc near.new far.new ≡ whole_arc near.old far.old) }
 {
-    match arc.apply(Code::Step(number)) {
+    match near.apply(far, Code::Step(number)) {
         Ok(Some(value)) => Some(value),
         _ => None,
     }
@@ -121,51 +201,75 @@ fn apply_step(arc: &mut ObsArc, number: i64) -> Option<i64>
 /// The blank behind the line makes the last cell one like the others. This saves some 7 percent of the time
 /// of expanding lines of four types, and two mispredicted branches a line.
 #[inline(always)]
-fn read_cell_fast(arcs: &mut [ObsArc], index: usize, line: Padded<'_>, at: usize) -> Option<usize>
-    requires within { index < length arcs.old }
+fn read_cell_fast(
+    near: &mut [Near<OBSERVATION_WIDTH>],
+    far: &mut [Far],
+    index: usize,
+    line: Padded<'_>,
+    at: usize,
+) -> Option<usize>
+    requires within { index < length near.old }
+    requires apart { index < length far.old }
     requires before { at ≤ length (line_in line) }
-    ensures { MayReadCell index (drop at (line_in line.entry)) arcs.old arcs.new result }
+    ensures { MayReadCell index (drop at (line_in line.entry)) (whole_arcs near.old far.old)
+        (whole_arcs near.new far.new) result }
 {
     let characters = cell_length(line, at);
     let taken = characters + usize::from(at + characters < line.len());
+    let near = &mut near[index];
     if characters == 0 {
-        arcs[index].end();
+        near.end();
         return Some(taken);
     }
     let number = step_of_length(line, at, characters)?;
-    if arcs[index].apply_third(number).is_some() {
+    if near.apply_third(number).is_some() {
         return Some(taken);
     }
-    apply_step(&mut arcs[index], number)?;
+    apply_step(near, &mut far[index], number)?;
     Some(taken)
 }
 
-/// Reads a cell of a line for each of the first so many arcs, which go on by them, and gives the index at
-/// which the marks begin.
+/// Reads a cell of a line for each of so many types, whose arcs go on by them, and gives the index at which
+/// the marks begin. A type behind the arcs that are stored has one that is over. No more arcs are stored
+/// after the line than it has bytes, since each cell takes one, but for empty ones at its end.
 ///
 /// The first cell with a fault decides: `BadField` where its text is no code, then `NoArc` and `OutOfRange`
-/// as by [`ObsArc::apply`]. The arcs before it have gone on then.
+/// as by [`Near::apply`]. The arcs before it have gone on then.
 ///
 /// The calls for the few other cells are in the loop: a loop without calls, meant to keep all in registers,
 /// took more instructions (.2 a byte of RINEX, bench/README.md).
 #[inline(always)]
 pub(crate) fn read_cells(
-    arcs: &mut [ObsArc],
+    near: &mut Vec<Near<OBSERVATION_WIDTH>>,
+    far: &mut Vec<Far>,
     count: usize,
     line: Padded<'_>,
 ) -> Result<usize, Fault>
-    requires fitting { count ≤ length arcs.old }
-    ensures ok { IfOk result (λ at. CellsAreRead (take count arcs.old) count (line_in line.entry)
-        (take count arcs.new) at) }
-    ensures err { IfErr result (λ fault. cells_read (value_at_place (take count arcs.old))
+    requires memory { (count ≤ vec_capacity near.old) × (count ≤ vec_capacity far.old) }
+    requires apart { length near.old.items ≤ length far.old.items }
+    ensures ok { IfOk result (λ at. CellsAreRead (cells_for count
+        (whole_arcs near.old.items far.old.items)) count
+        (line_in line.entry) (cells_for count (whole_arcs near.new.items far.new.items)) at) }
+    ensures err { IfErr result (λ fault.
+        cells_read (value_at_place (cells_for count (whole_arcs near.old.items far.old.items)))
         (cells_of count (line_in line.entry)) ≡ Err fault) }
+    ensures arcs { (length near.new.items ≤ count) × (length near.new.items ≤ length far.new.items) }
+    ensures reached { length near.new.items ≤ length (line_in line.entry) }
+    ensures memory { (vec_capacity near.new ≡ vec_capacity near.old)
+        × (vec_capacity far.new ≡ vec_capacity far.old) }
 {
+    let reached = count.min(line.len());
+    if near.len() != reached {
+        keep_arcs(near, far, reached);
+    }
+    let near = near.as_mut_slice();
+    let far = far.as_mut_slice();
     let mut at = 0;
-    for index in 0..count {
-        match read_cell_fast(arcs, index, line, at) {
+    for index in 0..near.len() {
+        match read_cell_fast(near, far, index, line, at) {
             Some(length) => at += length,
             None => {
-                let length = read_cell(arcs, index, &line.line()[at..])?;
+                let length = read_cell(near, far, index, &line.line()[at..])?;
                 at += length;
             }
         }

@@ -154,6 +154,7 @@ impl Encoder {
         match self.history.write_row(
             row.name(),
             row.values(),
+            row.filled(),
             row.flags(),
             &mut self.scratch,
             &mut self.made,

@@ -8,6 +8,7 @@ ghost use Rattle.crx_base.specs.declared.limits.TheConstants.{HEAD_WIDTH, LINE_L
 ghost use Rattle.crx_header.specs.meaning.EpochColumns.{begins_epoch, epoch_count};
 ghost use Rattle.crx_rinex.specs.Epochs.{is_full_epoch};
 ghost use Rattle.crx_rinex.specs.meaning.Observations.{Row};
+ghost use Rattle.crx_rinex.specs.SatelliteLines.{AreMissingFrom};
 ghost use Rattle.crx_header.specs.meaning.Satellites.{types_of_satellite};
 ghost use Rattle.crx_compact.specs.ArcSteps.{shown_value};
 ghost use Rattle.crx_compact.specs.EpochLinesRead.{AnswersEpochLine, AnswersSatellites, history_cleared};
@@ -128,8 +129,16 @@ impl History {
         self.begin_rows(in_full);
         let mut index = 0;
         while let Some(row) = epoch.row(index) {
-            self.write_row(&row.name(), row.values(), row.flags(), scratch, lines)
-                .unwrap();
+            let values = row.values();
+            self.write_row(
+                &row.name(),
+                values,
+                values.len(),
+                row.flags(),
+                scratch,
+                lines,
+            )
+            .unwrap();
             index += 1;
         }
         self.end_rows(epoch.head(), scratch, lines);
@@ -148,18 +157,21 @@ impl History {
         self.satellites.begin();
     }
 
-    /// Writes the compact line of the next row of an epoch after others. `false` comes where the epoch has a
-    /// row of the satellite already, and then nothing changes; what `AllocError` leaves means nothing.
+    /// Writes the compact line of the next row of an epoch after others; `filled` of its values may be there,
+    /// the first ones. `false` comes where the epoch has a row of the satellite already, and then nothing
+    /// changes; what `AllocError` leaves means nothing.
     #[inline(always)]
     pub(crate) fn write_row(
         &mut self,
         name: &[u8; NAME_WIDTH],
         values: &[Option<i64>],
+        filled: usize,
         flags: &[u8],
         scratch: &mut Text,
         lines: &mut Block,
     ) -> Result<bool, AllocError>
         requires sound { IsSoundRow (row_of_parts name.now values.now flags.now) }
+        requires missing { AreMissingFrom filled values.now }
         requires left { 0 < lines.old.left }
         ensures written { (after : Tail) (rows : List Row) → AreRowsWritten after rows self.old lines.old.lines
             → AnswersWriting after rows (row_of_parts name.now values.now flags.now) self.old lines.old
@@ -179,7 +191,7 @@ impl History {
         }
         let last = self.satellites.placed() - 1;
         let satellite = self.satellites.entry_mut(last).unwrap();
-        lines.put_row(satellite, values, flags, scratch);
+        lines.put_row(satellite, values, filled, flags, scratch);
         Ok(true)
     }
 
@@ -243,6 +255,7 @@ impl History {
     ///
     /// `Truncated` comes where the line begins another epoch, `BadClock` where it is no code, then `NoArc`
     /// and `OutOfRange` as by [`ClockArc::apply`].
+    #[inline(never)]
     pub(crate) fn read_clock(&mut self, line: &[u8]) -> Result<(), Fault>
         ensures ok { OnOk result
             (HasClock (tail_of_history self.old) line.now (tail_of_history self.old) (tail_of_history self.new)) }
@@ -335,18 +348,28 @@ impl History {
         ensures printed { IsPrinted count (tail_of_history self.now) lines.new }
     {
         if count == 0 {
-            lines.clear();
-            // Most epochs have no clock offset: their columns are put as they are.
-            let Some(_) = self.clock.value() else {
-                lines.put(end_trimmed(&self.text[..self.length], 1, HEAD_WIDTH));
-                return;
-            };
-            print_head(&self.head(), scratch);
-            lines.put(scratch.bytes());
+            self.print_first_line(lines, scratch);
             return;
         }
         let (name, satellite) = self.satellites.entry(count - 1);
         lines.put_printed(name, satellite);
+    }
+
+    /// Prints the first line of the epoch, in place of all lines. It is no part of its caller, since its
+    /// locals would be set to zero at each line of a satellite (13 instructions).
+    #[inline(never)]
+    fn print_first_line(&self, lines: &mut Block, scratch: &mut Text)
+        requires announced { IsAnnounced self.now }
+        ensures printed { IsPrinted 0 (tail_of_history self.now) lines.new }
+    {
+        lines.clear();
+        // Most epochs have no clock offset: their columns are put as they are.
+        let Some(_) = self.clock.value() else {
+            lines.put(end_trimmed(&self.text[..self.length], 1, HEAD_WIDTH));
+            return;
+        };
+        print_head(&self.head(), scratch);
+        lines.put(scratch.bytes());
     }
 }
 

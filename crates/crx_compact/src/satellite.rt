@@ -1,13 +1,14 @@
 //! What is stored of a satellite: its indicators and the arcs of its cells, changed in place by each of its
 //! lines. Hatanaka's Compact RINEX 3.0, satellite lines.
 
-ghost use Rattle.std.specs.Prelude.{◌≡◌, ◌≤◌, ◌<◌, ◌+◌, ◌-◌, ◌*◌, [], Ok, Err, true, false, length, take, IfOk, IsTrue, ◌↔◌, vec_capacity};
-ghost use Rattle.crx_text.specs.meaning.Columns.{without_end_blanks};
+ghost use Rattle.std.specs.Prelude.{◌≡◌, ◌≤◌, ◌<◌, ◌+◌, ◌-◌, ◌*◌, ◌++◌, [], Ok, Err, None, true, false, drop, length, replicate, take, IfOk, IsTrue, ◌↔◌, vec_capacity};
+ghost use Rattle.crx_text.specs.meaning.Columns.{columns, without_end_blanks};
 ghost use Rattle.crx_base.specs.declared.limits.TheConstants.{CELL_WIDTH, LINE_LIMIT, NAME_WIDTH, TYPES_LIMIT};
 ghost use Rattle.crx_header.specs.meaning.EpochColumns.{begins_epoch};
 ghost use Rattle.crx_header.specs.meaning.ObservationTypes.{IsAllowedCount};
 ghost use Rattle.crx_header.specs.meaning.Satellites.{is_identifier};
 ghost use Rattle.crx_rinex.specs.meaning.Printing.{printed_row};
+ghost use Rattle.crx_text.specs.meaning.PrintedCells.{printed_cells};
 ghost use Rattle.crx_base.specs.Padded.{line_in};
 ghost use Rattle.crx_compact.specs.declared.cells.TheConstants.{CELL_ROOM};
 ghost use Rattle.crx_compact.specs.HeldRows.{AreHeldFlags};
@@ -15,58 +16,68 @@ ghost use Rattle.crx_compact.specs.Blocks.{IsLinePut};
 ghost use Rattle.crx_compact.specs.Placing.{AnswersMarks, AnswersReading, AnswersRoom, FitsFlags, FitsRow, IsMarked, resized, row_tail_of, satellite_after, line_after};
 ghost use Rattle.crx_compact.specs.ShownRows.{shown_row};
 
-use crate::arc::ObsArc;
+use crate::arc::{Far, Near};
 use crate::cells::{read_cells, write_cells};
 use crate::same::is_same_text;
-use crx_base::limits::{CELL_WIDTH, NAME_WIDTH};
+use crx_base::limits::{CELL_WIDTH, NAME_WIDTH, OBSERVATION_WIDTH};
 use crx_base::{Fault, Padded};
 use crx_header::{after_columns, all_blank, put_identifier};
 use crx_rinex::{SatRow, put_flags};
 use crx_text::block::put_text;
 use crx_text::difference::{append_difference, patch_bytes};
-use crx_text::{Text, copy_text, obs_print_cell, trim_end};
+use crx_text::{Text, copy_text, obs_print_cell, put_blanks, trim_end};
 use std::alloc::{AllocError, Global};
 use std::marker::Model;
 
-/// What is stored of a satellite: two indicators and an arc for each of its types.
+/// What is stored of a satellite: two indicators for each of its types, and the arcs of the first ones.
 #[derive(Drop)]
 pub struct SatelliteHistory {
-    /// Two for each arc.
+    /// Two for each type that there is room for. Those behind its types mean nothing.
     indicators: Vec<u8>,
-    arcs: Vec<ObsArc>,
-    /// How many types it has. What is stored after these is of earlier epochs, and means nothing; its memory
-    /// is used again.
+    /// The first parts of the first types' arcs. All arcs behind them are over, so that a line costs what it
+    /// has, and not what its types cost. There is memory for as many as there is room for types.
+    near: Vec<Near<OBSERVATION_WIDTH>>,
+    /// The second parts of these arcs, and of others that there were, with memory for as many or more.
+    far: Vec<Far>,
+    /// How many types it has.
     count: usize,
 }
 
 impl Model for SatelliteHistory {
     ghost use Rattle.std.specs.Prelude.{◌≤◌, ◌*◌, length, take, vec_capacity};
+    ghost use Rattle.crx_base.specs.declared.limits.TheConstants.{TYPES_LIMIT};
     ghost use Rattle.crx_text.specs.meaning.Columns.{without_end_blanks};
+    ghost use Rattle.crx_compact.specs.Arcs.{whole_arcs};
     ghost use Rattle.crx_compact.specs.HeldRows.{AreHeldFlags};
-    ghost use Rattle.crx_compact.specs.Placing.{IndicatorsMatchArcs, SatelliteTail};
+    ghost use Rattle.crx_compact.specs.Placing.{IndicatorsMatchRoom, SatelliteTail, cells_for};
 
     ghost Value = { SatelliteTail };
 
     ghost view = { λ satellite. record {
       flags = without_end_blanks (take (2 * satellite.count) satellite.indicators.items);
-      cells = take satellite.count satellite.arcs.items;
-      room = length satellite.arcs.items;
+      cells = cells_for satellite.count (whole_arcs satellite.near.items satellite.far.items);
+      room = vec_capacity satellite.near;
+      far_room = vec_capacity satellite.far;
     } };
 
     ghost invariant = { λ satellite. AreHeldFlags (take (2 * satellite.count) satellite.indicators.items)
-        × (satellite.count ≤ length satellite.arcs.items)
-        × IndicatorsMatchArcs (length satellite.arcs.items) (vec_capacity satellite.arcs)
-        (length satellite.indicators.items) (vec_capacity satellite.indicators) };
+        × (length satellite.near.items ≤ satellite.count) × (satellite.count ≤ vec_capacity satellite.near)
+        × IndicatorsMatchRoom (vec_capacity satellite.near) (length satellite.indicators.items)
+        (vec_capacity satellite.indicators)
+        × (length satellite.near.items ≤ length satellite.far.items)
+        × (vec_capacity satellite.near ≤ vec_capacity satellite.far)
+        × (vec_capacity satellite.far ≤ TYPES_LIMIT) };
 }
 
 impl SatelliteHistory {
     /// Nothing.
     pub(crate) fn new(alloc: Global) -> SatelliteHistory
-        ensures empty { result ≡ record { flags = []; cells = []; room = 0 } }
+        ensures empty { result ≡ record { flags = []; cells = []; room = 0; far_room = 0 } }
     {
         SatelliteHistory {
             indicators: Vec::new(alloc),
-            arcs: Vec::new(alloc),
+            near: Vec::new(alloc),
+            far: Vec::new(alloc),
             count: 0,
         }
     }
@@ -88,7 +99,7 @@ impl SatelliteHistory {
     pub(crate) fn has_room(&self, count: usize) -> bool
         ensures value { IsTrue result ↔ (count ≤ self.now.room) }
     {
-        count <= self.arcs.len()
+        count <= self.near.capacity()
     }
 
     /// Asks for room for so many types, where there is less, and makes no more. All memory is asked for
@@ -97,18 +108,17 @@ impl SatelliteHistory {
         requires allowed { count ≤ TYPES_LIMIT }
         ensures { AnswersRoom count self.old self.new result }
     {
-        if count <= self.arcs.len() {
+        let room = self.near.capacity();
+        if count <= room {
             return Ok(());
         }
-        let more = count - self.arcs.len();
-        self.indicators.reserve_exact(2 * more)?;
-        self.arcs.reserve_exact(more)?;
+        self.indicators.reserve_exact(2 * (count - room))?;
+        self.far
+            .reserve_exact(count.saturating_sub(self.far.len()))?;
+        self.near.reserve_exact(count - self.near.len())?;
         let indicators = &mut self.indicators;
-        let arcs = &mut self.arcs;
-        while arcs.len() < count {
+        while indicators.len() < 2 * count {
             indicators.push_reserved(b' ');
-            indicators.push_reserved(b' ');
-            arcs.push_reserved(ObsArc::new());
         }
         Ok(())
     }
@@ -120,19 +130,13 @@ impl SatelliteHistory {
         requires room { count ≤ self.old.room }
         ensures resized { self.new ≡ resized count self.old }
     {
-        if count <= self.count {
-            self.count = count;
+        let from = self.count;
+        self.count = count;
+        if count <= from {
+            self.near.truncate(count);
             return;
         }
-        let from = self.count;
-        let indicators = self.indicators.as_mut_slice();
-        let arcs = self.arcs.as_mut_slice();
-        for index in from..count {
-            indicators[2 * index] = b' ';
-            indicators[2 * index + 1] = b' ';
-            arcs[index].end();
-        }
-        self.count = count;
+        put_blanks(&mut self.indicators[2 * from..2 * count]);
     }
 
     /// Replaces the indicators by those of a row, and makes it have as many types as the row. Gives the
@@ -164,25 +168,26 @@ impl SatelliteHistory {
         put_first(&mut self.indicators, flags);
     }
 
-    /// Writes the compact line of a row from an index on, in place of bytes. What is stored is that after the
-    /// row. Gives the line's length.
+    /// Writes the compact line of a row from an index on, in place of bytes; `filled` of the values may be
+    /// there, the first ones. What is stored is that after the row. Gives the line's length.
     #[inline(always)]
     pub(crate) fn write_line(
         &mut self,
         values: &[Option<i64>],
+        filled: usize,
         flags: &[u8],
         scratch: &mut Text,
         bytes: &mut [u8],
         at: usize,
     ) -> usize
-        requires fits { FitsRow values.now flags.now self.old }
+        requires fits { FitsRow filled values.now flags.now self.old }
         requires room { at + (CELL_ROOM * length values.now + 2 * TYPES_LIMIT) < length bytes.old }
         ensures after { self.new ≡ satellite_after values.now flags.now self.old }
         ensures put { IsLinePut (line_after values.now flags.now self.old)
             (CELL_ROOM * length values.now + 2 * TYPES_LIMIT) at bytes.old bytes.new result }
     {
         let marks = self.mark(values.len(), flags, scratch);
-        let end = write_cells(&mut self.arcs, values, bytes, at);
+        let end = write_cells(&mut self.near, &mut self.far, values, filled, bytes, at);
         let end = put_text(bytes, end, marks);
         trim_end(&bytes[at..end]).len()
     }
@@ -191,8 +196,8 @@ impl SatelliteHistory {
     /// line's row. The line begins no epoch.
     ///
     /// The first cell with a fault decides: `BadField` where its text is no code, then `NoArc` and
-    /// `OutOfRange` as by [`ObsArc::apply`]; then `BadFlags` where the marks hold a character outside 32 to
-    /// 126, or anything but blanks past two for each type.
+    /// `OutOfRange` as by [`ObsArc::apply`](crate::ObsArc::apply). Then `BadFlags` comes where the marks hold
+    /// a character outside 32 to 126, or anything but blanks past two for each type.
     #[inline(always)]
     pub(crate) fn read(&mut self, line: Padded<'_>, scratch: &mut Text) -> Result<(), Fault>
         requires short { length (line_in line) ≤ LINE_LIMIT }
@@ -200,7 +205,7 @@ impl SatelliteHistory {
         requires allowed { IsAllowedCount (length self.old.cells) }
         ensures { AnswersReading (line_in line.entry) self.old self.new result }
     {
-        let at = read_cells(&mut self.arcs, self.count, line)?;
+        let at = read_cells(&mut self.near, &mut self.far, self.count, line)?;
         let marks = &line.line()[at..];
         if marks.is_empty() {
             return Ok(());
@@ -219,7 +224,11 @@ impl SatelliteHistory {
             return Err(AllocError);
         };
         for index in 0..count {
-            row.set(index, self.arcs[index].value());
+            let value = match self.near.get(index) {
+                Some(arc) => arc.value(),
+                None => None,
+            };
+            row.set(index, value);
         }
         row.set_flags(&self.indicators[..2 * count]);
         Ok(row)
@@ -235,16 +244,37 @@ impl SatelliteHistory {
     {
         put_identifier(bytes, at, name);
         let count = self.count;
-        let arcs = &self.arcs[..count];
         let flags = &self.indicators[..2 * count];
+        let arcs = self.near.as_slice();
         // Both indicators of a cell are there: they become one load and one store.
-        for index in 0..count {
+        for index in 0..arcs.len() {
             let place = at + NAME_WIDTH + CELL_WIDTH * index;
             obs_print_cell(arcs[index].value(), flags, 2 * index, bytes, place);
+        }
+        if arcs.len() < count {
+            print_missing(arcs.len(), count, flags, bytes, at + NAME_WIDTH);
         }
         // Of this length the compiler knows that it isn't below 3: [`trim_end`] doesn't test it again.
         let length = NAME_WIDTH + CELL_WIDTH * count;
         trim_end(&bytes[at..at + length]).len()
+    }
+}
+
+/// Prints the cells from one on up to so many, whose values are missing, behind those before them, of which
+/// the first begins at an index.
+#[cold]
+#[inline(never)]
+fn print_missing(first: usize, count: usize, flags: &[u8], bytes: &mut [u8], at: usize)
+    requires paired { length flags.now ≡ 2 * count }
+    requires within { first ≤ count }
+    requires room { at + CELL_WIDTH * count < length bytes.old }
+    ensures put { take (at + CELL_WIDTH * count) bytes.new ≡ take (at + CELL_WIDTH * first) bytes.old
+        ++ printed_cells (drop first (replicate count None)) (drop (2 * first) (columns flags.now 1
+        (2 * count))) }
+    ensures long { length bytes.new ≡ length bytes.old }
+{
+    for index in first..count {
+        obs_print_cell(None, flags, 2 * index, bytes, at + CELL_WIDTH * index);
     }
 }
 

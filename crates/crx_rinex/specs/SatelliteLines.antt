@@ -27,6 +27,10 @@ with_flags row flags = record row { flags = flags ++ replicate (2 * length row.v
 abbrev pub ArePaired : List (Option ℤ) → List ℕ → Type 0
 ArePaired values flags = (length flags ≡ 2 * length values) × (length values ≤ TYPES_LIMIT)
 
+-- the values from one on are missing
+abbrev pub AreMissingFrom : ℕ → List (Option ℤ) → Type 0
+AreMissingFrom first values = (first ≤ length values) × (drop first values ≡ replicate (length values - first) None)
+
 -- the cells from one on have no value, and blank indicators
 pub record AreEmptyFrom (first : ℕ) (values : List (Option ℤ)) (flags : List ℕ) : Type 0 where
   pub pairs : ArePaired values flags

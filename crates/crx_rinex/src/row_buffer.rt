@@ -7,7 +7,7 @@ ghost use Rattle.crx_text.specs.meaning.Columns.{columns};
 ghost use Rattle.crx_text.specs.meaning.Numbers.{observation_of};
 ghost use Rattle.crx_rinex.specs.meaning.Observations.{observations_of};
 ghost use Rattle.crx_rinex.specs.meaning.Printing.{printed_row};
-ghost use Rattle.crx_rinex.specs.SatelliteLines.{blank_row, row_by_cells, AreCellsRead, AreEmptyFrom, AreFirstRead, ArePaired, KeepsEmptyFrom};
+ghost use Rattle.crx_rinex.specs.SatelliteLines.{blank_row, row_by_cells, AreCellsRead, AreEmptyFrom, AreFirstRead, AreMissingFrom, ArePaired, KeepsEmptyFrom};
 ghost use Rattle.crx_rinex.specs.meaning.SatelliteLines.{field, row_of, IsSoundRow};
 
 use crate::satellite_row::print_row;
@@ -113,6 +113,14 @@ impl RowBuffer {
         ensures sound { IsSoundRow self.now }
     {
         &self.values[..self.count]
+    }
+
+    /// How many of the first values may be there: those behind them are missing.
+    #[inline(always)]
+    pub fn filled(&self) -> usize
+        ensures missing { AreMissingFrom result self.now.values }
+    {
+        self.filled
     }
 
     /// The indicators, two for each type: loss of lock and signal strength.

@@ -1,6 +1,6 @@
 -- The lines that are read as an epoch are ones that some writer may write for it.
 use Rattle.crx_compact.proofs.Words.{◌≡◌, refl, ℕ, zero, suc, List, [], ◌∷◌, ◌++◌, Bool, true, false, Option}
-use Rattle.crx_compact.proofs.Words.{Some, None, map, length, arith, ap, sym, ◌∙◌, ◌*◌, ◌+◌, ◌-◌, ◌≤◌}
+use Rattle.crx_compact.proofs.Words.{Some, None, map, length, arith, ap, sym, ◌∙◌, ◌*◌, ◌+◌, ◌≤◌}
 use Rattle.crx_compact.proofs.Words.{AllByRecursion, option_map, flat_map, if◌then◌else◌, length-append, same_Some, each_place, named}
 use Rattle.crx_compact.proofs.Words.{Done, rules, by_position}
 use Rattle.crx_compact.proofs.Words.{Count, Row, ReadRow, Satellite, IsWholeEpoch, types_of_satellite}

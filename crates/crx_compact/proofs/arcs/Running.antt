@@ -6,18 +6,17 @@ use Rattle.crx_compact.proofs.Words.{ints, common_steps, IsWithin, IsShort, Step
 use Rattle.crx_compact.proofs.Words.{value_of_code, arc_of_code, ◌+ℤ◌, ◌-ℤ◌, w64, to_z-of_z}
 use Rattle.crx_compact.proofs.Words.{drop-set-lt, differences_after, onto_sum, differences_by, highest}
 use Rattle.crx_compact.proofs.{Words.{in_range}, arcs.Bounds.ten-more}
-use Rattle.std.proofs.Common.{FitsSigned, to_z, of_z}
-use Rattle.std.proofs.{lemmas.List.{drop_all, length-take, take_all}, Math.Nat.pow-le-pow_right}
-use Rattle.crx_compact.specs.Arcs.{IsBelow, AreBelow, value_bound, kept_tail, IsArcInRange, IsNewestWithin}
+use Rattle.std.proofs.Common.{FitsSigned, to_z, of_z, append-nil}
+use borrow.Rule.Slice.PartMut.{put_mid}
+use Rattle.std.proofs.{Math.Nat.add-zero, Common.subst}
+use Rattle.std.specs.Prelude.{◌↔◌}
+use Rattle.std.proofs.{lemmas.List.{drop_all, length-take, length-take-le, take_all, take_at, take-append-drop}, Math.Nat.pow-le-pow_right}
+use Rattle.crx_compact.specs.Arcs.{IsBelow, AreBelow, value_bound, kept_tail, IsArcInRange, IsNewestWithin, whole_arc}
+use Rattle.crx_compact.specs.Arcs.{order_bound}
 use Rattle.crx_compact.specs.meaning.Differences.{newest}
 use Rattle.crx_compact.proofs.PlaceByPlace.{from-place}
 
 -- ---- size
-
--- how large a difference of an order may be
-abbrev pub order_bound : ℕ → ℕ
-order_bound zero = value_bound
-order_bound (suc k) = order_bound k + order_bound k
 
 order-bound-is : (k : ℕ) → order_bound k ≡ value_bound * 2 ^ k
 order-bound-is zero = omega arith
@@ -199,7 +198,7 @@ lower-below order count last ds e h =
 
 -- the same of an arc of order 3 that has all of its differences
 module _ (width order count : ℕ) (ds : List ℤ) (third : (order ≡ 3) × (count ≡ 4))
-    (kept : IsArcInRange width order count (take count ds)) (long : length ds ≡ 10) where
+    (kept : IsArcInRange width order count (take count ds)) (long : 3 < length ds) where
   pub third-last : 3 ≡ min order count
   third-last = omega (arith, third.0, third.1)
 
@@ -208,7 +207,7 @@ module _ (width order count : ℕ) (ds : List ℤ) (third : (order ≡ 3) × (co
 
   pub onto-third-kept : (number : ℤ) → IsShort number → OntoThird number ds
   onto-third-kept number h = onto-third number ds
-      (omega (arith, long)) (grind (arith, h)) (lower-below order count 3 ds third-last kept.below)
+      long (grind (arith, h)) (lower-below order count 3 ds third-last kept.below)
 
 some-kept : (order : ℕ) (value : ℤ) (ds : List ℤ) → Some
     (record { order = order; differences = differences_after value ds })
@@ -261,7 +260,7 @@ pub record StepsOn (width order count last : ℕ) (number value : ℤ) (ds : Lis
       ≡ arc_of_code (Step number) (kept_tail order (take count ds))
 
 pub stepped : (width order count last : ℕ) (number value : ℤ) (ds : List ℤ) → last ≡ min order count
-    → 0 < count → length ds ≡ 10 → value ≡ newest (differences_by (to_z w64 (of_z w64 number)) (take last ds))
+    → 0 < count → 0 < length ds → value ≡ newest (differences_by (to_z w64 (of_z w64 number)) (take last ds))
     → FitsSigned w64 number → StepsOn width order count last number value ds
 stepped width order count last number value ds e h l v f =
     grind (arith, common_steps, same-bits, lower-taken, some-kept, by-after)
@@ -279,3 +278,113 @@ highest-short width order count last value ds e k h = highest-below 0 (differenc
     (omega (arith, length-after value (take last ds), length-take last ds, k.order_within))
     (after-below value_bound value
     (take last ds) (within-below width value k.few_columns h) (lower-below order count last ds e k.below))
+
+-- ---- in two parts
+
+-- a difference further on
+next-order : (k n : ℕ) (xs : List ℤ) → AreBelow (order_bound (k + suc n)) xs
+    → AreBelow (order_bound (suc k + n)) xs
+next-order k n xs h =
+    let same : k + suc n ≡ suc k + n = omega arith in
+    subst (λ m. AreBelow (order_bound m) xs) same h
+
+below-append : (k : ℕ) (xs ys : List ℤ) → AreBelow (order_bound k) xs
+    → AreBelow (order_bound (k + length xs)) ys → AreBelow (order_bound k) (xs ++ ys)
+below-append k [] ys h hs = rw (add-zero k) at hs
+below-append k (x ∷ xs) ys h hs = (h.0, below-append (suc k) xs ys h.1 (next-order k (length xs) ys hs))
+
+below-drop : (k n : ℕ) (xs : List ℤ) → AreBelow (order_bound k) xs
+    → AreBelow (order_bound (k + n)) (drop n xs)
+below-drop k zero xs h = rw (add-zero k) h
+below-drop k (suc n) [] h = tt
+below-drop k (suc n) (x ∷ xs) h =
+    let same : suc k + n ≡ k + suc n = omega arith in
+    subst (λ m. AreBelow (order_bound m) (drop n xs)) same (below-drop (suc k) n xs h.1)
+
+-- the second part is as small after a next value
+pub far-kept : (order : ℕ) (value : ℤ) (near far all : List ℤ) → length near ≡ 4 → 4 ≤ order → order ≤ 9
+    → length all ≡ 10 → AreBelow value_bound (take order (near ++ far)) → AreBelow (order_bound 4) far
+    → IsBelow value_bound value
+    → take (order + 1) all ≡ differences_after value (take order (near ++ far))
+    → drop (order + 1) all ≡ drop (order + 1) (near ++ far) → AreBelow (order_bound 4) (drop 4 all)
+far-kept order value near far all four many few long below h f after rest =
+    let first : take 4 (take order (near ++ far)) ≡ near =
+    let small : min 4 order ≡ 4 = omega (arith, many) in
+    cc (take-take 4 order (near ++ far), small, take_at near far 4 four) in
+    let near_below = rw first at (take-below value_bound 4 (take order (near ++ far)) below) in
+    let before = below-append 0 near far near_below (rw four h) in
+    let front = rw (← after) at (after-below value_bound value (take order (near ++ far)) f below) in
+    let behind = rw (← rest) at (below-drop 0 (order + 1) (near ++ far) before) in
+    let count : length (take (order + 1) all) ≡ order + 1 = length-take-le (order + 1) all (omega arith) in
+    below-drop 0 4 all (rw (take-append-drop (order + 1) all) at
+    (below-append 0 (take (order + 1) all) (drop (order + 1) all) front (rw count behind)))
+
+-- the differences of both parts
+pub take-both : (n : ℕ) (xs ys : List ℤ) → take n xs ++ take (n - length xs) ys ≡ take n (xs ++ ys)
+take-both zero xs ys = grind arith
+take-both (suc n) [] ys =
+    let same : suc n - 0 ≡ suc n = omega arith in
+    ap (λ m. take {A = ℤ} m ys) same
+take-both (suc n) (x ∷ xs) ys = grind (arith, take-both n xs ys)
+
+below-both : (k n : ℕ) (xs ys : List ℤ) → AreBelow (order_bound k) (take n xs)
+    → AreBelow (order_bound (k + length xs)) ys → AreBelow (order_bound k) (take n (xs ++ ys))
+below-both k zero xs ys h hs = tt
+below-both k (suc n) [] ys h hs = take-below (order_bound k) (suc n) ys (rw (add-zero k) at hs)
+below-both k (suc n) (x ∷ xs) ys h hs =
+    (h.0, below-both (suc k) n xs ys h.1 (next-order k (length xs) ys hs))
+
+below-first : (bound n : ℕ) (xs ys : List ℤ) → AreBelow bound (take n (xs ++ ys)) → AreBelow bound (take n xs)
+below-first bound (suc n) (x ∷ xs) ys h = (h.0, below-first (bound + bound) n xs ys h.1)
+below-first bound zero xs ys h = tt
+below-first bound (suc n) [] ys h = tt
+
+newest-both : (width n : ℕ) (d : ℤ) (ds ys : List ℤ) → IsNewestWithin width (take n (d ∷ ds))
+    ↔ IsNewestWithin width (take n (d ∷ ds ++ ys))
+newest-both width zero d ds ys = ((λ h. h), (λ h. h))
+newest-both width (suc n) d ds ys = ((λ h. h), (λ h. h))
+
+-- what is true of an arc, by its parts, and of its first part
+pub both-kept : (width order count : ℕ) (near far : List ℤ) → length near ≡ 4 → AreBelow (order_bound 4) far
+    → IsArcInRange width order count (take count near)
+    → IsArcInRange width order count (take count (near ++ far))
+both-kept width order count (d ∷ ds) far four h k = record {
+  few_columns = k.few_columns;
+  order_within = k.order_within;
+  counted = k.counted;
+  below = below-both 0 count (d ∷ ds) far k.below (rw four h);
+  newest = (newest-both width count d ds far).0 k.newest;
+}
+both-kept width order count [] far four h k = absurd (omega (arith, four))
+
+pub near-kept : (width order count : ℕ) (near far : List ℤ) → length near ≡ 4
+    → IsArcInRange width order count (take count (near ++ far))
+    → IsArcInRange width order count (take count near)
+near-kept width order count (d ∷ ds) far four k = record {
+  few_columns = k.few_columns;
+  order_within = k.order_within;
+  counted = k.counted;
+  below = below-first value_bound count (d ∷ ds) far k.below;
+  newest = (newest-both width count d ds far).1 k.newest;
+}
+near-kept width order count [] far four k = absurd (omega (arith, four))
+
+pub two-put : (near far rest : List ℤ) → length near ≡ 4 → length rest ≡ 6
+    → put_mid 4 6 (near ++ rest) far ≡ near ++ far
+two-put (a ∷ b ∷ c ∷ d ∷ []) far (e ∷ f ∷ g ∷ h ∷ i ∷ j ∷ []) four six =
+    ap (λ (xs : List ℤ). a ∷ b ∷ c ∷ d ∷ xs) (append-nil far)
+two-put near far rest four six = absurd (omega (arith, four, six))
+
+pub both-arc : (order count : ℕ) (near far : List ℤ) → length near ≡ 4
+    → whole_arc (record { order = order; count = count; differences = take count near }) far
+    ≡ kept_tail order (take count (near ++ far))
+both-arc order count near far four =
+    ap (kept_tail order) (subst (λ n. take count near ++ take (count - n) far ≡ take count (near ++ far)) four
+    (take-both count near far))
+
+-- it has no second part
+pub third-arc : (order count : ℕ) (ds far : List ℤ) → count ≡ 4
+    → whole_arc (record { order = order; count = count; differences = ds }) far ≡ kept_tail order ds
+third-arc order count ds far four =
+    let none : take (count - 4) far ≡ [] = rw four refl in
+    rw none (ap (kept_tail order) (append-nil ds))

@@ -1,7 +1,7 @@
 -- One entry of the map gets another value.
 use Rattle.std.proofs.Common.{◌≡◌, ℕ, suc, ◌<◌, ◌≤◌, List, ◌∷◌, length, set, slice_get}
 use Rattle.std.proofs.Common.{Some, sym, ◌∙◌, arith, length-set, Bool, true, false}
-use Rattle.std.proofs.{Common.{IsTrue, ◌↔◌, cond, map, rules}, lemmas.Slice.Eq.bytes_eq-Decides}
+use Rattle.std.proofs.{Common.{IsTrue, ◌↔◌, map, rules}, lemmas.Slice.Eq.bytes_eq-Decides}
 use Rattle.std.proofs.lemmas.Bool.{cond-true, false≢true}
 use Rattle.std.proofs.{lemmas.List.get_or-set_same, lemmas.Grind.common_steps}
 use Rattle.std.proofs.{lemmas.Map.Entries.hash_map_get_place, lemmas.Option.{same_Some, slice_get_read}}

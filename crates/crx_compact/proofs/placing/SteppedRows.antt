@@ -1,8 +1,9 @@
 -- What is stored of one satellite among those that have come changes: its row, and no other one.
-use Rattle.crx_compact.proofs.Words.{◌≡◌, ℕ, zero, suc, ◌-◌, ◌<◌, ◌≤◌, List, [], ◌∷◌, ◌++◌, length, map, take}
-use Rattle.crx_compact.proofs.Words.{slice_get, drop, Option, Some, None, refl, ap, sym, ◌∙◌, arith, slice_set}
+use Rattle.crx_compact.proofs.CellsFor.{cell-there, each_place-below}
+use Rattle.crx_compact.proofs.Words.{◌≡◌, ℕ, suc, ◌-◌, ◌<◌, ◌≤◌, List, [], ◌∷◌, ◌++◌, length, map, take}
+use Rattle.crx_compact.proofs.Words.{slice_get, drop, Option, Some, ap, sym, ◌∙◌, arith, slice_set}
 use Rattle.crx_compact.proofs.Words.{slice_index_or, bytes_eq, length-map, length-take-le, same_Some, subst}
-use Rattle.crx_compact.proofs.Words.{slice_get-map, index-each_place, each_place, ArcTail}
+use Rattle.crx_compact.proofs.Words.{slice_get-map, ArcTail}
 use Rattle.crx_compact.proofs.Words.{HasRoom, PlacedRows, RowTail, row_or_blank, HasCome}
 use Rattle.crx_compact.proofs.{ComeRows.come-name, placing.Found.at-seam}
 use Rattle.crx_compact.proofs.placing.Orders.{set-in_order, there-in_order}
@@ -130,18 +131,6 @@ come-stored name place before come satellite has last stored =
     }
 
 -- ---- a row that is written
-
-pub each_place-below : {X : Type 0} (n : ℕ) (f g : ℕ → X) → ((k : ℕ) → k < n → f k ≡ g k)
-    → each_place n f ≡ each_place n g
-each_place-below zero f g h = refl
-each_place-below (suc n) f g h = cc (
-  h 0 (omega arith),
-  each_place-below n (λ i. f (suc i)) (λ i. g (suc i)) (λ k within. grind (arith, common_steps, k)),
-)
-
-cell-there : (n k : ℕ) (cells : List (Option ArcTail)) → k < n
-    → slice_index_or (cells_for n cells) k None ≡ slice_index_or cells k None
-cell-there n k cells within = index-each_place n k _ None (λ past. absurd (omega (arith, within, past)))
 
 -- as many types as a row has are made first
 pub arcs-marked : (cells : List (Option ArcTail)) (values : List (Option ℤ))

@@ -14,7 +14,7 @@ use Rattle.crx_compact.proofs.SoundTexts.{same-cut}
 use Rattle.crx_compact.proofs.{CellsRead.{cells-within, shown-code}, PlaceByPlace.at-take}
 use Rattle.crx_compact.proofs.{Characters.at-by_position, soundness.Soundness.{AreReadCells, RowFacts}}
 use Rattle.crx_compact.proofs.Marks.{cell-by_kept, cells-count, columns-held, row-by_tail, texts-count}
-use Rattle.crx_compact.proofs.placing.SteppedRows.{each_place-below}
+use Rattle.crx_compact.proofs.CellsFor.{each_place-below}
 use Rattle.crx_compact.specs.HeldRows.{row_after}
 
 -- ---- the row that an epoch line leaves

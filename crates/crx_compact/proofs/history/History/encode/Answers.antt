@@ -11,6 +11,7 @@ use borrow.Author.Count.{falls}
 use Rattle.crx_compact.specs.{Written.IsRowWritten}
 use Rattle.crx_compact.proofs.history.History.encode.Goals as goal
 use Rattle.std.proofs.lemmas.Grind.{common_steps}
+use Rattle.crx_compact.proofs.CellsFor.{all-there}
 
 pub loop-wanting-preserved : goal.loop-wanting-preserved
 loop-wanting-preserved c =
@@ -70,10 +71,10 @@ unwrap-requires c =
     let rooms = c.loop-row.self.satellites.rooms in
     let here = sym c.in-Some-row.ensures.value in
     c.write_row.ensures.prepared.known (subst (λ (name : List ℕ). HasRoom name
-    (length c.values-in-Some-row.result.now) rooms) (sym
+    (length c.values-values.result.now) rooms) (sym
     c.name-in-Some-row.ensures.value) (subst (λ (values : List (Option ℤ)). HasRoom row.name (length values)
     rooms)
-    (sym c.values-in-Some-row.ensures.value) (all-at (λ (r : Row). HasRoom r.name (length r.values) rooms)
+    (sym c.values-values.ensures.value) (all-at (λ (r : Row). HasRoom r.name (length r.values) rooms)
     c.args.epoch.now.rows c.loop-row.index row c.loop-row.invariant.room here)))
 
 pub overflow_add-index : goal.overflow_add-index
@@ -90,10 +91,10 @@ loop-row-preserved c =
     let row : Row = c.in-Some-row.row.now in
     let here = sym c.in-Some-row.ensures.value in
     let so_far : List Row = take index rows in
-    let put : Row = row_of_parts c.name-in-Some-row.result c.values-in-Some-row.result.now c.flags.result.now
+    let put : Row = row_of_parts c.name-in-Some-row.result c.values-values.result.now c.flags.result.now
     in
     let parts : put ≡ row =
-    (λ j. row_of_parts (c.name-in-Some-row.ensures.value j) (c.values-in-Some-row.ensures.value j)
+    (λ j. row_of_parts (c.name-in-Some-row.ensures.value j) (c.values-values.ensures.value j)
     (c.flags.ensures.value j)) in
     let after : Tail = if c.args.in_full then no_tail else tail_of_history c.args.self.now in
     let written = IfOk-at_ok (IsRowWritten after so_far put c.loop-row.self c.loop-row.lines c.write_row.new.self c.write_row.new.lines)
@@ -119,3 +120,6 @@ end_rows-requires-clause-counted c =
 
 pub returns-clause-written : goal.returns-clause-written
 returns-clause-written c = search (rules, no_tail, tail_of_history, taken_all, by_ok, is_ok)
+
+pub write_row-requires-clause-missing : goal.write_row-requires-clause-missing
+write_row-requires-clause-missing c = all-there c.values-values.result.now

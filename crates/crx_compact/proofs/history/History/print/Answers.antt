@@ -1,46 +1,11 @@
-use Rattle.crx_compact.proofs.Words.{◌≡◌, ◌≤◌, ◌+◌, ◌-◌, sym, ap, subst, ◌∙◌, arith, ℕ, List, length, take}
-use Rattle.crx_compact.proofs.Words.{columns, HEAD_WIDTH}
-use Rattle.crx_compact.proofs.Words.{OpenHistory, few_kept, length-columns, printed_head, shown_value}
-use Rattle.crx_compact.proofs.Words.{Some, slice_get, tail_of_history, without_end_blanks}
+use Rattle.crx_compact.proofs.Words.{◌≡◌, ◌+◌, ◌-◌, sym, ap, subst, ◌∙◌, arith}
+use Rattle.crx_compact.proofs.Words.{OpenHistory}
+use Rattle.crx_compact.proofs.Words.{Some, slice_get, tail_of_history}
 use Rattle.crx_compact.proofs.reading.Announced.{rows-allowed, rows-few}
-use Rattle.crx_compact.proofs.{PrintedBlocks.{head-printed, row-printed}, RowByRow.{all-at}, Words.rules}
+use Rattle.crx_compact.proofs.{PrintedBlocks.{row-printed}, RowByRow.{all-at}}
 use Rattle.crx_compact.specs.{Placing.{HasAllowedCount, row_tail_of}, PrintedBlocks.IsPrinted}
-use Rattle.crx_text.proofs.Blanks.{end_blanks-more}
-use Rattle.crx_text.specs.meaning.Numbers as numbers
 use Rattle.crx_compact.proofs.history.History.print.Goals.{After-entry}
 use Rattle.crx_compact.proofs.history.History.print.Goals as goal
-use Rattle.std.proofs.lemmas.Grind.{common_steps}
-
--- the columns without their end blanks are no more than the columns
-few : (text line : List ℕ) → line ≡ without_end_blanks (columns text 1 HEAD_WIDTH) → length line ≤ 41
-few text line is = omega (
-  arith,
-  ap length is,
-  few_kept (columns text 1 HEAD_WIDTH),
-  length-columns text 1 HEAD_WIDTH,
-)
-
-pub put-requires-clause-short : goal.put-requires-clause-short
-put-requires-clause-short c =
-    omega (
-      arith,
-      few (take c.self.inside.length c.self.inside.text) c.end_trimmed.result.now
-          c.end_trimmed.ensures.value,
-    )
-
-pub returns-in_default : goal.returns-in_default
-unfolding numbers.number_text
-returns-in_default c =
-    let clock = ap (λ (h : OpenHistory). shown_value h.clock) (sym c.self.view_is)
-    ∙ sym c.in_default.ensures.value in
-    let line = c.end_trimmed.ensures.value ∙ ap (λ (h : OpenHistory). without_end_blanks (columns h.text 1
-    HEAD_WIDTH)) c.self.view_is
-    ∙ sym (end_blanks-more (columns c.args.self.now.text 1 HEAD_WIDTH) 15)
-    ∙ ap (printed_head (columns c.args.self.now.text 1 HEAD_WIDTH)) (sym clock) in
-    grind (arith, common_steps, line, head-printed c.args.count (tail_of_history c.args.self.now))
-
-pub returns-then-count-eq0 : goal.returns-then-count-eq0
-returns-then-count-eq0 c = record { printed = search (rules, head-printed) }
 
 pub put_printed-requires-clause-left : goal.put_printed-requires-clause-left
 put_printed-requires-clause-left c =

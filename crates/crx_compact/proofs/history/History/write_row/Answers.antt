@@ -2,7 +2,7 @@ use Rattle.crx_compact.proofs.Words.{rules, ◌≡◌, ◌-◌, List, length, no
 use Rattle.crx_compact.proofs.Words.{sym, ◌∙◌, refl, subst, false≢true, has_satellite, PlacedRows, Row}
 use Rattle.crx_compact.proofs.Words.{HasRoom, KeepsRooms, OpenHistory, row_of_parts, arith}
 use Rattle.crx_compact.proofs.Words.{Tail, AreRowsWritten}
-use Rattle.crx_compact.proofs.{Results.from_some, Writing.{come-already, no-row, written-next}}
+use Rattle.crx_compact.proofs.{Writing.{come-already, no-row, written-next}}
 use Rattle.crx_compact.proofs.{placing.Placed.placed-asked}
 use Rattle.crx_compact.proofs.placing.SteppedRows.{IsLastStored, come-stored, last-within}
 use Rattle.crx_compact.specs.{Placing.{HasCome, IsPlaced, SatelliteTail}, contracts.history.History.the_view}
@@ -69,6 +69,7 @@ put_row-requires-clause-fits c =
     let sound = c.requires.sound in
     record {
       ranged = sound.ranged;
+      missing = c.requires.missing;
       few = omega (arith, sound.counted);
       fits = record {
         room = (stored at.After-unwrap-satellite (placed.come c.if-not-is_new.false)).room _

@@ -1,9 +1,9 @@
-use Rattle.crx_compact.proofs.Words.{rules, length-each_place, few_kept, length-take-le, take_at, ◌≡◌, ◌*◌, ap, sym, ◌∙◌}
-use Rattle.crx_compact.proofs.Words.{arith, drop, length, subst, take}
-use Rattle.crx_compact.proofs.{wayback.Standing.difference-length, SoundTexts.before-trimmed}
+use Rattle.crx_compact.proofs.Words.{rules, few_kept, take_at, ◌≡◌, ◌*◌, ap, sym, ◌∙◌, arith, drop, length}
+use Rattle.crx_compact.proofs.satellite.SatelliteHistory.change_indicators.Goals.{After-put_first}
+use Rattle.crx_compact.proofs.{Words.{length-each_place, subst, take}, wayback.Standing.difference-length}
+use Rattle.crx_compact.proofs.SoundTexts.{before-trimmed}
 use Rattle.std.proofs.lemmas.List.{length-take}
 use Rattle.crx_compact.specs.{HeldRows.AreHeldFlags, Placing.SatelliteTail}
-use Rattle.crx_compact.proofs.satellite.SatelliteHistory.change_indicators.Goals.{After-put_first}
 use Rattle.crx_compact.proofs.satellite.SatelliteHistory.change_indicators.Goals as goal
 
 -- the row's indicators are put
@@ -12,7 +12,7 @@ put c =
     let inside = c.self-2.inside in
     let cells = ap (λ (t : SatelliteTail). length t.cells) (c.self-2.view_is ∙ c.resize.ensures.resized) in
     let many : length c.args.flags.now ≡ 2 * inside.count =
-    omega (arith, cells, length-each_place, length-take-le inside.count inside.arcs.items c.self-2.invariant.1, c.requires.fits.paired) in
+    omega (arith, cells, length-each_place, c.requires.fits.paired) in
     ap (λ n. take n c.put_first.new.bytes) (sym many) ∙ c.put_first.ensures
 
 pub invariant_of-self : goal.invariant_of-self
@@ -23,7 +23,11 @@ invariant_of-self c =
     rw (take_at bytes (drop (length bytes) old.items) old.len (omega arith)) (
       subst AreHeldFlags (sym (put (goal.at.invariant_of-self c).After-put_first)) c.requires.fits.held,
       kept.1,
-      (kept.2.0, omega (arith, kept.2.1), kept.2.2, kept.2.3),
+      kept.2,
+      (kept.3.0, omega (arith, kept.3.1), kept.3.2),
+      kept.4,
+      kept.5,
+      kept.6,
     )
 
 pub returns : goal.returns

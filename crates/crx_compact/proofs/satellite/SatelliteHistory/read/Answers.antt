@@ -1,8 +1,10 @@
 use Rattle.crx_compact.proofs.SatelliteLines.{cells-refused, flags-refused, indicators-left, no-marks}
 use Rattle.crx_compact.proofs.Words.{arith, common_steps, rules, length-take-le, take_at, err_from_is_err_and}
-use Rattle.crx_compact.proofs.{Marks.{none-there, on-both}, SatelliteLines.stored-read}
-use Rattle.std.proofs.{lemmas.List.take_rest, lemmas.Result.IfErr-weaker}
+use Rattle.crx_compact.proofs.{SatelliteLines.stored-read, Marks.{none-there, on-both}}
+use Rattle.crx_compact.proofs.Words.{length-each_place}
+use Rattle.std.proofs.{lemmas.Result.IfErr-weaker, lemmas.List.take_rest}
 use Rattle.crx_base.specs.Padded.{line_in}
+use Rattle.crx_compact.specs.Arcs.{whole_arcs}
 use Rattle.crx_compact.proofs.satellite.SatelliteHistory.read.Goals as goal
 
 pub returns-in_err-at : goal.returns-in_err-at
@@ -10,16 +12,17 @@ returns-in_err-at c =
     let p = err_from_is_err_and c.from_residual.result c.from_residual.ensures.1 in
     rw (p.1, p.2, ← c.self.view_is) (record {
       ok = tt;
-      err = cells-refused c.self.inside.indicators.items c.self.inside.arcs.items
-          c.self.inside.count (line_in c.args.line) c.self.invariant.1 c.requires.other
-          (rw (c.deref_mut.ensures.value) at c.in_err-at.ensures.err);
-      sized = search (rules, length-take-le, take_at);
+      err = cells-refused c.self.inside.indicators.items (whole_arcs c.self.inside.near.items
+          c.self.inside.far.items)
+          c.self.inside.count (line_in c.args.line) c.requires.other c.in_err-at.ensures.err;
+      sized = search (rules, length-each_place);
       room = grind (arith, common_steps);
     })
 
 pub returns-then-is_empty : goal.returns-then-is_empty
 returns-then-is_empty c =
-    search (rules, take_rest, none-there, take_at, stored-read, no-marks, indicators-left, length-take-le)
+    let empty = no-marks c.self.inside.count in
+    search (rules, take_rest, none-there, stored-read, indicators-left, length-take-le, length-each_place)
 
 pub returns : goal.returns
 returns c =
@@ -30,8 +33,9 @@ returns c =
       ok = search (rules, take_rest, take_at, on-both, stored-read);
       err = rw (← c.self.view_is) (
           IfErr-weaker c.patch_indicators.result _ _ (λ fault. flags-refused c.self.inside.indicators.items
-          c.self.inside.arcs.items c.self.inside.count (line_in c.args.line) c.self.invariant.1
-          c.requires.other (rw (c.deref_mut.ensures.value) at c.in_ok-at.ensures.ok)) refused);
-      sized = search (rules, length-take-le, take_at);
+          (whole_arcs c.self.inside.near.items c.self.inside.far.items) c.self.inside.count
+          (line_in c.args.line)
+          c.requires.other c.in_ok-at.ensures.ok) refused);
+      sized = search (rules, length-each_place);
       room = grind (arith, common_steps);
     }

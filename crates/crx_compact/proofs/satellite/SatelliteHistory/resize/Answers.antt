@@ -1,53 +1,56 @@
-use Rattle.std.proofs.Common.{rules, ◌≡◌, ◌<◌, ◌+◌, ◌-◌, ◌*◌, ◌++◌, List, ℕ, drop}
-use Rattle.std.proofs.Common.{length, replicate, set, take, ap, arith}
-use Rattle.std.proofs.lemmas.List.{length-set, length-take, replicate_more, take_at, take_more_set}
-use Rattle.crx_compact.specs.Placing.{SatelliteTail}
+use Rattle.crx_compact.proofs.Words.{rules, length, ◌≤◌, ◌≡◌, ◌++◌, arith, common_steps, ◌*◌, ◌-◌, take, replicate}
 use Rattle.crx_compact.proofs.Resizing.{fewer-held, fewer-types, more-held, more-types}
+use Rattle.crx_compact.proofs.satellite.SatelliteHistory.resize.Goals.{After-put_blanks}
+use borrow.Rule.Slice.PartMut.{put_mid}
+use Rattle.crx_compact.proofs.{CellsFor.blanks-put, Words.take_at}
+use Rattle.std.proofs.lemmas.List.{length-take}
+use Rattle.std.specs.Prelude.{vec_capacity}
+use Rattle.crx_compact.specs.Arcs.{whole_arcs}
+use Rattle.crx_compact.proofs.arcs.Parts.{arcs-first, length-arcs}
 use Rattle.crx_compact.proofs.satellite.SatelliteHistory.resize.Goals as goal
-use Rattle.std.proofs.lemmas.Grind.{common_steps}
 
 pub invariant_of-self : goal.invariant_of-self
 invariant_of-self c =
-    let inside = c.self.inside in (
-      fewer-held inside.indicators.items (2 * inside.count) (2 * c.args.count) (omega arith)
-          c.self.invariant.0,
-      omega arith,
-      c.self.invariant.2,
-    )
+    let i = c.self.inside in
+    let held = fewer-held i.indicators.items (2 * i.count) (2 * c.args.count)
+    (omega arith) c.self.invariant.0 in
+    grind (arith, common_steps, length-take)
 
-pub returns-then-count-self : goal.returns-then-count-self
-returns-then-count-self c =
-    record {
-      resized = rw (← c.self.view_is) (
-          search (rules, fewer-types, c.if-count-self.true, c.self.invariant.1));
-    }
+pub returns-then-count-from : goal.returns-then-count-from
+returns-then-count-from c =
+    let i = c.self.inside in
+    let few : length (whole_arcs i.near.items i.far.items) ≤ i.count =
+    rw (length-arcs i.near.items i.far.items) c.self.invariant.1 in
+    let fewer = fewer-types i.indicators.items (whole_arcs i.near.items i.far.items)
+    (whole_arcs c.truncate.new.self.items i.far.items) i.count c.args.count _ _
+    (omega arith) few (rw (c.truncate.ensures.items) (arcs-first i.near.items i.far.items c.args.count)) in
+    record { resized = rw (← c.self.view_is, c.truncate.ensures.capacity) fewer }
 
--- two more indicators are blank
-two-blank : (xs old : List ℕ) (i k m : ℕ) → 2 * i + 1 < length xs → take (2 * i) xs ≡ old ++ replicate k 32
-    → m ≡ k + 2
-    → take (2 * (i + 1)) (set (set xs (2 * i) 32) (2 * i + 1) 32) ≡ old ++ replicate m 32
-two-blank xs old i k m within so_far more =
-    grind (arith, common_steps, take_more_set, length-set, replicate_more)
-
-pub loop-index-preserved : goal.loop-index-preserved
-loop-index-preserved c = grind (arith, common_steps, two-blank, take_more_set, replicate_more)
+-- the new indicators are blank
+put : (c : After-put_blanks) → take (2 * c.args.count) (put_mid (2 * c.self.inside.count)
+    (2 * c.args.count - 2 * c.self.inside.count) c.deref_mut.result.now c.put_blanks.new.text)
+    ≡ take (2 * c.self.inside.count) c.self.inside.indicators.items
+    ++ replicate (2 * c.args.count - 2 * c.self.inside.count) 32
+put c = grind (arith, common_steps, blanks-put)
 
 pub invariant_of-self-2 : goal.invariant_of-self-2
 invariant_of-self-2 c =
-    let inside = c.self.inside in
-    let indicators = c.loop-index.indicators in
-    let arcs = c.loop-index.arcs in
-    let held = ap (λ (t : SatelliteTail). t.room) c.self.view_is in
-    let first = take_at indicators (drop (length indicators) inside.indicators.items) inside.indicators.len
-    (omega arith) in
-    rw (first, take_at arcs (drop (length arcs) inside.arcs.items) inside.arcs.len (omega arith)) (
-      more-held (take (2 * inside.count) inside.indicators.items) (take (2 * c.args.count) indicators)
-          (2 * c.args.count - 2 * inside.count)
-          (search (rules, c.loop-index.invariant.indicators))
-          (omega (arith, length-take (2 * c.args.count) indicators)) c.self.invariant.0,
-      omega arith,
-      (omega (arith, c.self.invariant.2), omega (arith, c.self.invariant.2), omega (arith, c.self.invariant.2), c.self.invariant.2.3),
-    )
+    let i = c.self.inside in
+    let put = put (goal.at.invariant_of-self-2 c).After-put_blanks in
+    let bytes = put_mid (2 * i.count) (2 * c.args.count - 2 * i.count) c.deref_mut.result.now
+    c.put_blanks.new.text in
+    let few = length-take (2 * c.args.count) bytes in
+    let held = more-held (take (2 * i.count) i.indicators.items) (take (2 * c.args.count) bytes)
+    (2 * c.args.count - 2 * i.count) put (omega (arith, few)) c.self.invariant.0 in
+    grind (arith, common_steps, take_at, length-take)
 
 pub returns : goal.returns
-returns c = search (rules, take_at, more-types)
+returns c =
+    let i = c.self.inside in
+    let put = put (goal.at.returns c).After-put_blanks in
+    let few : length (whole_arcs i.near.items i.far.items) ≤ i.count =
+    rw (length-arcs i.near.items i.far.items) c.self.invariant.1 in
+    let more = more-types i.indicators.items _ (whole_arcs i.near.items i.far.items) i.count c.args.count
+    (vec_capacity i.near) (vec_capacity i.far)
+    (omega arith) few put in
+    search (rules, take_at, more)

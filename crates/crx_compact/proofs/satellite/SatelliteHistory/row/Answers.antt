@@ -1,24 +1,41 @@
-use Rattle.std.proofs.lemmas.Option.{slice_get_read}
-use Rattle.std.proofs.{lemmas.Grind.common_steps, lemmas.List.{get_or-take, length-take-le, take-take}}
-use Rattle.std.proofs.Common.{◌≡◌, List, ℕ, Option, length, refl, slice_index_or, sym, arith, ap, ◌∙◌}
+use Rattle.std.proofs.Common.{◌≡◌, ℕ, length, length-append, arith, ap, ◌∙◌, None, get_or, []}
+use Rattle.std.proofs.{lemmas.List.{length-map, length-take-le, length-replicate}, lemmas.Grind.common_steps}
+use Rattle.std.proofs.lemmas.Option.{slice_get-get_or}
 use Rattle.crx_rinex.specs.SatelliteLines.{with_value}
-use Rattle.crx_compact.specs.{ArcTails.ArcTail, Placing.SatelliteTail}
-use Rattle.crx_compact.proofs.{ShownRows.{row-all, row-more}, SoundTexts.columns-trimmed}
+use Rattle.crx_compact.proofs.{CellsFor.{cell-there, length-cells}, ShownRows.{row-all, row-more}}
+use Rattle.crx_compact.proofs.{SoundTexts.columns-trimmed, Words.length-each_place}
+use Rattle.crx_compact.specs.ArcSteps.{shown_value}
+use Rattle.crx_compact.proofs.arcs.Parts.{arc-there, length-arcs}
 use Rattle.crx_compact.proofs.satellite.SatelliteHistory.row.Goals as goal
+use Rattle.crx_compact.proofs.satellite.SatelliteHistory.row.Goals.{in-Some, in-None}
+
+pub set-requires-clause-within : goal.set-requires-clause-within
+set-requires-clause-within c =
+    grind (arith, common_steps, length-append, length-map, length-take-le, length-replicate, length-cells)
+
+pub set_flags-requires-clause-fitting : goal.set_flags-requires-clause-fitting
+set_flags-requires-clause-fitting c =
+    grind (arith, common_steps, length-append, length-map, length-take-le, length-replicate, length-cells)
 
 pub loop-index-preserved : goal.loop-index-preserved
 loop-index-preserved c =
-    let inside = c.self.inside in
     let place : ℕ = c.loop-index.index in
-    let less = c.loop-index-test.true in
-    let own = ap (λ (t : SatelliteTail). t.cells) c.self.view_is in
-    let many : length c.args.self.now.cells ≡ inside.count = ap length (sym own) ∙ length-take-le inside.count
-    inside.arcs.items c.self.invariant.1 in
-    c.set.ensures.value ∙ ap (with_value c.loop-index.row place) c.value.ensures.value ∙ row-more _ _
-    c.args.self.now.cells inside.count place c.loop-index.row c.index.result.now c.loop-index.invariant
-    (slice_get_read c.args.self.now.cells _ place c.index.result.now refl (omega (arith, less, many))
-    (c.index.ensures ∙ sym (get_or-take inside.count inside.arcs.items place c.index.result.now less) ∙ ap (λ
-    (cs : List (Option ArcTail)). slice_index_or cs place c.index.result.now) own)) many
+    let many : length c.args.self.now.cells ≡ c.self.inside.count =
+    grind (arith, common_steps, length-each_place) in
+    let value : c.match-get.value ≡ shown_value (get_or c.args.self.now.cells place None) =
+    elim c.match-get.branch [
+      | in-Some w ↦ grind (
+        arith,
+        common_steps,
+        cell-there,
+        arc-there c.deref.result.now c.self.inside.far.items place w.in-Some.arc.now,
+        w.value-value.ensures.value (get_or c.self.inside.far.items place []),
+      )
+      | in-None w ↦ grind (arith, common_steps, cell-there, length-arcs)
+    ] in
+    c.set.ensures.value ∙ ap (with_value c.loop-index.row place) value ∙ row-more _ _
+    c.args.self.now.cells c.self.inside.count place c.loop-index.row _ c.loop-index.invariant
+    (slice_get-get_or c.args.self.now.cells place None (omega (arith, many, c.loop-index-test.true))) many
 
 pub returns : goal.returns
-returns c = record { ok = grind (arith, common_steps, length-take-le, take-take, row-all, columns-trimmed) }
+returns c = grind (arith, common_steps, row-all, columns-trimmed, length-each_place)

@@ -1,32 +1,36 @@
-use Rattle.crx_compact.proofs.Words.{rules, ◌≡◌, ◌∙◌, ap, length, length-each_place, length-take-le}
-use Rattle.crx_compact.proofs.Words.{take, take_at}
+use Rattle.crx_compact.proofs.Words.{rules, List, Option, ArcTail, ◌≡◌, ◌∙◌, ap, length, length-each_place, arith, common_steps}
+use Rattle.crx_compact.proofs.satellite.SatelliteHistory.write_line.Goals.{After-self}
 use Rattle.crx_compact.proofs.placing.SteppedRows.{arcs-marked, codes-marked}
 use Rattle.crx_compact.specs.Placing.{SatelliteTail, cells_for}
+use Rattle.crx_compact.specs.Cells.{codes_of_cells}
 use Rattle.crx_text.proofs.WrittenTexts.{line-written}
-use Rattle.crx_compact.proofs.satellite.SatelliteHistory.write_line.Goals.{After-self}
+use Rattle.crx_compact.specs.Arcs.{whole_arcs}
 use Rattle.crx_compact.proofs.satellite.SatelliteHistory.write_line.Goals as goal
-use Rattle.std.proofs.Common.{arith}
 
 -- it has as many types as the row
-marked : (c : After-self) → (take c.self.inside.count c.self.inside.arcs.items
-    ≡ cells_for (length c.args.values.now) c.args.self.now.cells) × (c.self.inside.count ≡ length
-    c.args.values.now)
+marked : (c : After-self) → (cells_for (length c.args.values.now)
+    (whole_arcs c.self.inside.near.items c.self.inside.far.items)
+    ≡ cells_for (length c.args.values.now) c.args.self.now.cells)
+    × (c.self.inside.count ≡ length c.args.values.now)
 marked c =
-    grind (
-      arith,
-      length-take-le c.self.inside.count c.self.inside.arcs.items c.self.invariant.1,
-      length-each_place,
-    )
+    let cells = ap (λ (t : SatelliteTail). t.cells) (c.self.view_is ∙ c.mark-marks.ensures.marked) in
+    let many = ap length cells in
+    grind (arith, length-each_place)
 
 pub returns-clause-after : goal.returns-clause-after
 returns-clause-after c =
-    let is = c.self.view_is ∙ c.mark-marks.ensures.marked in
-    let flags = ap (λ (s : SatelliteTail). s.flags) is in
-    let room = ap (λ (s : SatelliteTail). s.room) is in
     let marked = marked (goal.at.returns-clause-after c).After-self in
-    search (rules, flags, marked.0, marked.1, room, c.write_cells-end.ensures.arcs, arcs-marked, take_at)
+    grind (arith, common_steps, arcs-marked)
 
 pub returns-clause-put : goal.returns-clause-put
 returns-clause-put c =
     let marked = marked (goal.at.returns-clause-put c).After-self in
-    search (rules, marked.0, marked.1, codes-marked, line-written, length-take-le)
+    let cells = c.write_cells-end.ensures.written in
+    let codes = ap (λ (cs : List (Option ArcTail)). codes_of_cells cs c.args.values.now) marked.0 in
+    search (rules, cells, codes, codes-marked, line-written)
+
+pub invariant_of-self : goal.invariant_of-self
+invariant_of-self c =
+    let marked = marked (goal.at.invariant_of-self c).After-self in
+    let few = c.requires.fits.missing.0 in
+    grind (arith, common_steps)

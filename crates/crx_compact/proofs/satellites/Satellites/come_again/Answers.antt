@@ -2,8 +2,8 @@ use Rattle.std.proofs.Common.{ap, sym, subst, arith, drop, map, take, All, ℕ, 
 use Rattle.std.proofs.Common.{◌≤◌, ◌∙◌, option_map, slice_get}
 use Rattle.std.specs.Map.Iter.{deref_pair}
 use borrow.Author.Count.{below_more}
-use Rattle.crx_compact.specs.{Entries.{KeepsTypes, in_order, placed_rows}, HeldRows.IsAwaitedSatellite}
-use Rattle.crx_compact.specs.{Placing.{padded, row_of_entry, row_tail_of, satellite_of}}
+use Rattle.crx_compact.specs.{Entries.{KeepsTypes, in_order}, HeldRows.IsAwaitedSatellite}
+use Rattle.crx_compact.specs.{Placing.{row_of_entry, satellite_of}}
 use Rattle.crx_compact.proofs.placing.{Again.{come-again, named-before, none-placed, typed-named}}
 use Rattle.crx_compact.proofs.placing.{SteppedRows.rows-counted}
 use Rattle.crx_compact.proofs.placing.Orders.{length-in_order, there-in_order}

@@ -1,5 +1,5 @@
 use Rattle.std.proofs.Common.{rules, ◌≤◌, arith, subst, sym, ◌∙◌}
-use Rattle.std.proofs.{lemmas.Option.{same_Some, slice_get_within}, lemmas.Result.on_ok_weaker}
+use Rattle.std.proofs.{lemmas.Option.{same_Some, slice_get_within}}
 use Rattle.indexmap.specs.{Layout.length-set_value_at}
 use Rattle.crx_compact.proofs.placing.EntryChanges.{has-room, room-there, rooms-changed}
 use Rattle.crx_compact.proofs.placing.Prepared.{front-same, none-lost, range-same, rows-before, rows-same}

@@ -1,9 +1,9 @@
 use Rattle.crx_compact.proofs.arcs.Running.{ToThird, after-three, goes-on, goes-on-kept}
-use Rattle.crx_compact.proofs.Words.{rules, ◌≡◌, min, take, sym, ap, subst, ◌∙◌, arith, ℕ, Step}
-use Rattle.crx_compact.proofs.arcs.Running.{highest-short, same-bits, third-last, to-third-kept}
-use Rattle.crx_compact.proofs.{arc.Arc.push_third.Given.Over, arc.Arc.push_third.Goals.Else-not-is_third}
-use Rattle.crx_compact.specs.{ArcSteps.highest, Arcs.{IsArcInRange}}
-use Rattle.crx_compact.proofs.arc.Arc.push_third.Goals as goal
+use Rattle.crx_compact.proofs.Words.{rules, Some, ◌≡◌, min, take, sym, ap, subst, ◌∙◌, arith, ℕ, Step}
+use Rattle.crx_compact.proofs.arcs.Running.{highest-short, same-bits, third-last, to-third-kept, third-arc}
+use Rattle.crx_compact.proofs.{arc.Near.push_third.Given.Over, arc.Near.push_third.Goals.Else-not-is_third}
+use Rattle.crx_compact.specs.{ArcSteps.highest, Arcs.{IsArcInRange, kept_tail}, ArcSteps.arc_of_value}
+use Rattle.crx_compact.proofs.arc.Near.push_third.Goals as goal
 
 to : (g : Over) (c : Else-not-is_third g) → ToThird c.args.value c.self.inside.differences
 to g c = to-third-kept _ _ _ _ (search rules) c.self.invariant (search rules) c.args.value c.requires
@@ -51,11 +51,20 @@ returns g c =
     let three = after-three ds c.args.value (search rules) in
     let on = goes-on order c.self.inside.count 3 c.args.value ds (last g at) (omega (arith, third.1))
     (search rules) in
+    let put =
+    simp (same-bits, fits, t.zeroth_before, t.first_before, t.second_before, t.first, t.second, t.third)
+    at c.put_four.ensures in
+    let arc : kept_tail order (take c.self.inside.count c.put_four.new.differences)
+    ≡ arc_of_value (Some c.args.value) (kept_tail order (take c.self.inside.count ds)) =
+    cc (third.1, put, three, on.tail) in
     rw (← c.self.view_is) (simp
     (same-bits, fits, t.zeroth_before, t.first_before, t.second_before, t.first, t.second, t.third) (record {
-      code = sym (ap Step (sym (ap highest three)) ∙ on.code);
+      code = λ far. rw (third-arc order c.self.inside.count (take c.self.inside.count ds) far third.1)
+          (sym (ap Step (sym (ap highest three)) ∙ on.code));
       short = rw (← (ap highest three)) (highest-short _ order c.self.inside.count 3 _ _ (last g at)
           c.self.invariant c.requires);
-      arc = search rules;
+      arc = λ far. third-arc order c.self.inside.count _ far third.1 ∙ arc
+          ∙ ap (arc_of_value (Some c.args.value))
+          (sym (third-arc order c.self.inside.count (take c.self.inside.count ds) far third.1));
       none = tt;
     }))

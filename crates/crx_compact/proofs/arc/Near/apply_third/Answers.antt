@@ -1,12 +1,13 @@
 use Rattle.std.proofs.lemmas.Grind.{common_steps}
-use Rattle.std.proofs.Common.{rules, ◌≡◌, min, take, sym, ap, subst, ◌∙◌, arith, refl, ℕ}
-use Rattle.crx_compact.specs.{meaning.Differences.newest, Arcs.{IsArcInRange}}
-use Rattle.crx_compact.specs.ArcSteps.{differences_after}
+use Rattle.std.proofs.Common.{refl, rules, ◌≡◌, min, take, sym, ap, subst, ◌∙◌, arith, ℕ}
+use Rattle.crx_compact.specs.{meaning.Differences.newest, Arcs.{IsArcInRange, kept_tail}}
+use Rattle.crx_compact.specs.ArcSteps.{arc_of_code, differences_after}
+use Rattle.crx_text.specs.declared.code.Code.TheVariants.{Step}
 use Rattle.crx_compact.proofs.arcs.Running.{OntoThird, by-after, goes-on-kept}
 use Rattle.crx_compact.proofs.arcs.Bounds.{within-is}
-use Rattle.crx_compact.proofs.arcs.Running.{onto-third-kept, same-bits, third-last}
-use Rattle.crx_compact.proofs.{arc.Arc.apply_third.Given.Over, arc.Arc.apply_third.Goals.Else-not-is_third}
-use Rattle.crx_compact.proofs.arc.Arc.apply_third.Goals as goal
+use Rattle.crx_compact.proofs.arcs.Running.{onto-third-kept, same-bits, third-last, third-arc}
+use Rattle.crx_compact.proofs.{arc.Near.apply_third.Given.Over, arc.Near.apply_third.Goals.Else-not-is_third}
+use Rattle.crx_compact.proofs.arc.Near.apply_third.Goals as goal
 
 onto : (g : Over) (c : Else-not-is_third g) → OntoThird c.args.number c.self.inside.differences
 onto g c = onto-third-kept _ _ _ _ (search rules) c.self.invariant (search rules) c.args.number c.requires
@@ -45,10 +46,25 @@ invariant_of-self g c =
 pub returns-then-not-is_within-clause-none : goal.returns-then-not-is_within-clause-none
 returns-then-not-is_within-clause-none g c =
     let o = onto g (goal.at.returns-then-not-is_within-clause-none g c).Else-not-is_third in
-    (refl, λ has. search rules)
+    let third = c.is_third.ensures.third.0 c.if-not-is_third.false in
+    rw (← c.self.view_is) (
+      refl,
+      λ has far. rw (third-arc c.self.inside.order c.self.inside.count
+          (take c.self.inside.count c.self.inside.differences) far third.1) (search rules),
+    )
 
 pub returns : goal.returns
 returns g c =
-    let at = (goal.at.returns g c).Else-not-is_third in
-    let o = onto g at in
-    search (rules, same-bits, by-after)
+    let o = onto g (goal.at.returns g c).Else-not-is_third in
+    let third = c.is_third.ensures.third.0 c.if-not-is_third.false in
+    let order = c.self.inside.order in
+    let count = c.self.inside.count in
+    let ds = take count c.self.inside.differences in
+    let arc : kept_tail order (take count c.put_four.new.differences)
+    ≡ arc_of_code (Step c.args.number) (kept_tail order ds) = search (rules, same-bits, by-after) in
+    rw (← c.self.view_is) (record {
+      value = λ far. rw (third-arc order count ds far third.1) (search (rules, same-bits));
+      arc = λ far. third-arc order count _ far third.1 ∙ arc
+          ∙ ap (arc_of_code (Step c.args.number)) (sym (third-arc order count ds far third.1));
+      none = tt;
+    })
