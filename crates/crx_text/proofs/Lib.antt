@@ -13,6 +13,7 @@ pub mod EachPlace
 pub mod CellNumbers
 pub mod CodeReads
 pub mod CodeTexts
+pub mod DigitCounts
 pub mod DigitPairs
 pub mod DigitRows
 pub mod GroupHalves

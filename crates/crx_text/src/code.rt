@@ -4,7 +4,7 @@ ghost use Rattle.std.specs.Prelude.{◌≡◌, ◌+◌, ◌<◌, ◌≤◌, [], 
 ghost use Rattle.std.specs.Option.{option_map};
 ghost use Rattle.std.specs.Result.{result_ok};
 
-use crate::code_digits::{digits_before_blank, row_number, write_signed};
+use crate::code_digits::{FEW, digits_before_blank, row_number, write_signed};
 use crate::digits::{signed, split_minus, split_minus_of_cell};
 use crate::lanes::LANES;
 use crate::number::BadField;
@@ -166,10 +166,12 @@ pub fn step_of_length(line: Padded<'_>, at: usize, characters: usize) -> Option<
     ensures few { OnSome result (characters < LANES) }
 {
     let (is_below, digits) = split_minus_of_cell(&line.padded()[at..]);
-    let (size, count) = row_number(digits)?;
-    if count + usize::from(is_below) != characters {
+    // A minus without a character, which isn't there, would be too many digits.
+    let count = characters.wrapping_sub(usize::from(is_below));
+    if count == 0 || count > FEW {
         return None;
     }
+    let size = row_number(digits, count)?;
     Some(signed(is_below, size))
 }
 

@@ -6,6 +6,7 @@ ghost use Rattle.crx_base.specs.declared.limits.TheConstants.{CELL_WIDTH, OBSERV
 ghost use Rattle.crx_text.specs.FieldTexts.{group_digits};
 ghost use Rattle.crx_text.specs.meaning.Numbers.{size_text};
 
+use crx_base::limits::OBSERVATION_WIDTH;
 use std::simd::prelude::*;
 
 // The digits of the groups of three of a size, of its upper half and of its lower half, in each the lower
@@ -32,9 +33,6 @@ fn digits(size: u64) -> u8x16
     (groups + parts * u32x4::splat(256 - 10)).to_le_bytes()
 }
 
-// The least byte at which a column begins the number: the one before the point does at any digit.
-const LEAST: [u8; 16] = [1, 1, 1, 1, 1, 1, 1, 1, 1, 0, 1, 1, 1, 1, 1, 1];
-
 // Blanks, and what makes a digit of a number below 10; and then the same with a minus before the digits.
 const BASES: [u8; 64] = [
     32, 32, 32, 32, 32, 32, 32, 32, 32, 32, 32, 32, 32, 32, 32, 32, 48, 48, 48, 48, 48, 48, 48, 48,
@@ -42,10 +40,45 @@ const BASES: [u8; 64] = [
     48, 48, 48, 48, 48, 48, 48, 48, 48, 48, 48, 48, 48, 48, 48, 48,
 ];
 
+// A digit, as `COUNTS` counts them: more than any size.
+const DIGIT: u64 = 1 << 48;
+
+// How many of 64 bits are zeros before those of twice the greatest size and one.
+const LEAST_ZEROS: usize = 23;
+
+// How many digits sizes are printed with, from those of the most bits on: each row is for a bit less. Where
+// the longer ones of a row have a digit more, it is counted, less the least of these.
+#[rattlefmt::skip]
+static COUNTS: [u64; 41] = [
+    13 * DIGIT - 1_000_000_000_000,
+    12 * DIGIT, 12 * DIGIT, 12 * DIGIT - 100_000_000_000,
+    11 * DIGIT, 11 * DIGIT, 11 * DIGIT - 10_000_000_000,
+    10 * DIGIT, 10 * DIGIT, 10 * DIGIT, 10 * DIGIT - 1_000_000_000,
+    9 * DIGIT, 9 * DIGIT, 9 * DIGIT - 100_000_000,
+    8 * DIGIT, 8 * DIGIT, 8 * DIGIT - 10_000_000,
+    7 * DIGIT, 7 * DIGIT, 7 * DIGIT, 7 * DIGIT - 1_000_000,
+    6 * DIGIT, 6 * DIGIT, 6 * DIGIT - 100_000,
+    5 * DIGIT, 5 * DIGIT, 5 * DIGIT - 10_000,
+    4 * DIGIT, 4 * DIGIT, 4 * DIGIT, 4 * DIGIT, 4 * DIGIT, 4 * DIGIT, 4 * DIGIT,
+    4 * DIGIT, 4 * DIGIT, 4 * DIGIT, 4 * DIGIT, 4 * DIGIT, 4 * DIGIT, 4 * DIGIT,
+];
+
+// How many digits a size is printed with: there are four at least, since one is before the point. The lowest
+// bit is set, so that nobody asks whether there is one.
+#[inline(always)]
+fn count_digits(size: u64) -> usize
+    requires short { size < 10 ^ 12 }
+    ensures counted { result + 1 ≡ length (size_text OBSERVATION_DECIMALS size) }
+{
+    let zeros = (2 * size + 1).leading_zeros() as usize;
+    ((size + COUNTS[zeros - LEAST_ZEROS]) / DIGIT) as usize
+}
+
 /// Prints a size, and a minus where there is one, right justified into the first columns of a cell, with
 /// blanks before it, and answers the index where the size begins. The two columns of the cell's indicators
-/// are overwritten. A minus can't be foretold, so no branch asks for it: that saves a third of a mispredicted
-/// branch for each line of four types, and more than one for each of 16 to 20.
+/// are overwritten. A minus can't be foretold, so no branch asks for it. Where the number begins is counted
+/// beside its digits, and not looked for in them, so that it is known before they are: a processor waits less
+/// for each cell, which saves some 3 percent of the time of expanding.
 #[inline(always)]
 pub(crate) fn size_print(size: u64, is_below: bool, cell: &mut [u8]) -> usize
     requires short { size < 10 ^ 12 }
@@ -60,8 +93,7 @@ pub(crate) fn size_print(size: u64, is_below: bool, cell: &mut [u8]) -> usize
         u8x16::splat(254),
         [3, 6, 5, 4, 2, 1, 0, 14, 13, 12, 16, 10, 9, 8, 3, 3],
     );
-    let begins = columns.simd_ge(u8x16::from_array(LEAST)).to_bitmask();
-    let start = begins.trailing_zeros() as usize;
+    let start = OBSERVATION_WIDTH - 1 - count_digits(size);
     let first = if is_below { 48 } else { 16 };
     let text = columns + u8x16::from_slice(&BASES[first - start..]);
     text.copy_to_slice(cell);

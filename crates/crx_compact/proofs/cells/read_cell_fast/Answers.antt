@@ -66,18 +66,18 @@ returns-then-characters-eq0 c =
 
 pub returns-then-is_some : goal.returns-then-is_some
 returns-then-is_some c =
-    let counted = c.cell_length-characters.ensures.value c.in_ok-number.ensures.few in
+    let counted = c.cell_length-characters.ensures.value c.in-Some.ensures.few in
     let next = taken _ _ _ _ _ c.requires.before counted c.len.ensures.value c.from.ensures in
-    let fits : SFits w64 c.in_ok-number.number = search rules in
+    let fits : SFits w64 c.in-Some.number = search rules in
     rw (arcs-set-near c.args.near.now c.args.far.now c.args.index c.apply_third.new.self c.requires.within
     c.requires.apart) (record {
-      some = stepped _ c.args.index _ c.in_ok-number.number
-          (to_z w64 (of_z w64 c.in_ok-number.number)) c.apply_third.result
+      some = stepped _ c.args.index _ c.in-Some.number
+          (to_z w64 (of_z w64 c.in-Some.number)) c.apply_third.result
           (slice_index_or c.args.near.now c.args.index c.index-near-index.result) c.apply_third.new.self
           (slice_index_or c.args.far.now c.args.index []) _
           c.apply_third.ensures.value c.apply_third.ensures.arc
           (arc-there c.args.near.now c.args.far.now c.args.index c.index-near-index.result c.requires.within)
-          (to_z-of_z w64 _ fits) c.if-is_some.ensures c.in_ok-number.ensures.value next.0 next.1;
+          (to_z-of_z w64 _ fits) c.if-is_some.ensures c.in-Some.ensures.value next.0 next.1;
       none = tt;
     })
 
@@ -97,7 +97,7 @@ returns-in_err-apply_step c =
 
 pub returns : goal.returns
 returns c =
-    let counted = c.cell_length-characters.ensures.value c.in_ok-number.ensures.few in
+    let counted = c.cell_length-characters.ensures.value c.in-Some.ensures.few in
     let next = taken _ _ _ _ _ c.requires.before counted c.len.ensures.value c.from.ensures in
     let same = same (goal.at.returns c).After-apply_step in
     let left = arcs-set c.args.near.now c.args.far.now c.args.index c.apply_step.new.near c.apply_step.new.far

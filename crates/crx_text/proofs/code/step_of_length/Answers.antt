@@ -1,4 +1,4 @@
-use Rattle.std.proofs.Common.{arith, ◌≡◌, ◌+◌, ◌-◌, ◌<◌, ◌≤◌, ℕ, List, Bool, Some, length, take, drop, w64}
+use Rattle.std.proofs.Common.{arith, ◌≡◌, ◌+◌, ◌-◌, ◌%◌, ◌^◌, ◌<◌, ◌≤◌, ℕ, List, Bool, Some, length, take, drop, w64}
 use Rattle.std.proofs.{Common.{ap, sym, ◌∙◌}, lemmas.{Grind.common_steps, Int.to_z-of_z}}
 use Rattle.std.specs.{Str.Parse.starts_with_minus}
 use Rattle.crx_text.proofs.CellNumbers.{coded_number-cell}
@@ -30,19 +30,28 @@ step_is text digits is_below size count sign rest first some few whole =
 pub signed-requires : goal.signed-requires
 signed-requires c = search (rules, arith, small_number)
 
+-- the digits of a cell are all but its minus
+counted : (characters below count : ℕ) → characters < 2 ^ 64 → below ≤ 1 → count ≤ 6
+    → count ≡ (characters + (2 ^ 64 - below)) % 2 ^ 64 → count + below ≡ characters
+counted characters below count fits one few is = omega (arith, fits, one, few, is)
+
 pub returns-clause-value : goal.returns-clause-value
 returns-clause-value c =
     let p = c.padded.ensures in
     let minus = c.split_minus_of_cell-is_below.ensures in
-    let read = c.in_ok-size.ensures in
     let same = same_cell _ _ c.args.at p.line p.blank p.room c.requires.within in
-    let less : c.args.characters < 16 = grind (arith, common_steps) in
     let bytes = c.padded.result.now in
+    let below : ℕ = bool_byte c.split_minus_of_cell-is_below.result.0 in
+    let count : ℕ = (c.args.characters + (2 ^ 64 - c.from.result)) % 2 ^ 64 in
+    let few : count ≤ 6 = c.if-count-gt-FEW.false in
+    let one : below ≤ 1 = grind (arith, common_steps, bool_byte) in
+    let fits : c.args.characters < 2 ^ 64 = search rules in
+    let whole = counted c.args.characters below count fits one few
+    (ap (λ n. (c.args.characters + (2 ^ 64 - n)) % 2 ^ 64) c.from.ensures) in
     let is = step_is (take (length bytes - c.args.at) (drop c.args.at bytes))
     c.split_minus_of_cell-is_below.result.1.now c.split_minus_of_cell-is_below.result.0 c.in_ok-size.size
-    c.in_ok-size.count minus.sign minus.rest read.digits
-    read.few.0 read.few.1 (ap (λ n. c.in_ok-size.count + n) (sym c.from.ensures) ∙ c.if-count-from.false
-    ∙ c.requires.counted less ∙ ap length (sym same)) in
+    count minus.sign minus.rest c.in_ok-size.ensures.digits (omega (arith, c.if-count-eq0.false)) few
+    (whole ∙ c.requires.counted (omega (arith, whole, one, few)) ∙ ap length (sym same)) in
     grind (arith, common_steps, w64, to_z-of_z, same, is)
 
 pub returns-clause-short : goal.returns-clause-short

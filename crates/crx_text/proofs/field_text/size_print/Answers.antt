@@ -1,11 +1,11 @@
 use Rattle.std.proofs.Common.{Bool, true, false, if◌then◌else◌, ◌<◌, length-append, ◌≡◌, ◌+◌, ◌-◌, ◌/◌, ◌%◌, ◌^◌, ◌≤◌, ◌++◌, ◌∷◌, [], ℕ, List, length, replicate}
 use Rattle.std.proofs.{Common.{take, drop, ap, refl, sym, ◌∙◌, arith}, lemmas.Grind.common_steps}
 use Rattle.std.proofs.lemmas.{List.length-replicate, Simd.{length-zip2, put_chunk_whole}}
-use lib.{Count.count_trailing_zeros, Lanes.{chunk, mask_l, pick_l}}
-use Rattle.crx_text.proofs.{PrintedDigits.{leading_zeros, zeros_few}, PrintedLanes.{base_row, begin_is}}
-use Rattle.crx_text.proofs.{PrintedLanes.begin_lanes, PrintedTexts.{nine_in, plus, row_of, three_in}}
+use lib.Lanes.{chunk, pick_l}
+use Rattle.crx_text.proofs.{PrintedDigits.{leading_zeros, zeros_few}, PrintedLanes.{base_row}}
+use Rattle.crx_text.proofs.PrintedTexts.{nine_in, plus, row_of, three_in}
 use Rattle.crx_text.proofs.PrintedTexts.{text_length, signed_text}
-use Rattle.crx_text.specs.{FieldTexts.group_digits, declared.field_text.TheConstants.BASES}
+use Rattle.crx_text.specs.{FieldTexts.group_digits, meaning.Numbers.size_text, declared.field_text.TheConstants.BASES}
 use Rattle.crx_text.proofs.field_text.size_print.Goals.{Joined-is_below, then-is_below, else-is_below}
 use Rattle.crx_text.proofs.field_text.size_print.Goals as goal
 
@@ -14,18 +14,24 @@ abbrev in_columns : List ℕ → List ℕ
 in_columns digits = pick_l 0 (digits ++ replicate 16 254)
     (3 ∷ 6 ∷ 5 ∷ 4 ∷ 2 ∷ 1 ∷ 0 ∷ 14 ∷ 13 ∷ 12 ∷ 16 ∷ 10 ∷ 9 ∷ 8 ∷ 3 ∷ 3 ∷ [])
 
-abbrev start_of : List ℕ → ℕ
-start_of columns = count_trailing_zeros 64 (mask_l (begin_lanes columns) % 2 ^ 64)
-
 module _ (size : ℕ) (digits : List ℕ) (is : digits ≡ group_digits (size / 10 ^ 6 % 1000 ∷ size / 10 ^ 9
     ∷ size % 1000 ∷ size / 1000 % 1000 ∷ [])) where
   columns_are : in_columns digits ≡ row_of (nine_in size) (three_in size)
   columns_are = ap in_columns is
 
-  start_is : start_of (in_columns digits) ≡ 1 + leading_zeros (nine_in size)
-  start_is = ap start_of columns_are ∙ begin_is (row_of (nine_in size) (three_in size)) refl refl
+-- the column after the zeros before the number, and the one of the sign
+module _ (size count : ℕ) (short : size < 10 ^ 12) (counted : count + 1 ≡ length (size_text 3 size)) where
+  start_is : 14 - 1 - count ≡ 1 + leading_zeros (nine_in size)
+  start_is =
+      let zeros : ℕ = leading_zeros (nine_in size) in
+      omega (arith, counted, text_length size short (1 + zeros) _ refl refl, zeros_few (nine_in size))
 
-  start_few : start_of (in_columns digits) ≤ 9
+  count_few : count ≤ 12
+  count_few =
+      let zeros : ℕ = leading_zeros (nine_in size) in
+      omega (arith, counted, text_length size short (1 + zeros) _ refl refl)
+
+  start_few : 14 - 1 - count ≤ 9
   start_few = omega (arith, start_is, zeros_few (nine_in size))
 
 -- what is added to the columns begins with blanks and the sign's column
@@ -42,7 +48,17 @@ first_many false = omega arith
 pub overflow_sub-text : goal.overflow_sub-text
 overflow_sub-text c =
     let is = first_is (goal.at.overflow_sub-text c).Joined-is_below in
-    omega (arith, is, first_many c.args.is_below, start_few c.args.size c.digits.result c.digits.ensures)
+    omega (
+      arith,
+      is,
+      first_many c.args.is_below,
+      start_few c.args.size _ c.requires.short
+          c.count_digits.ensures.counted,
+    )
+
+pub overflow_sub-start-2 : goal.overflow_sub-start-2
+overflow_sub-start-2 c =
+    omega (arith, count_few c.args.size _ c.requires.short c.count_digits.ensures.counted)
 
 sign_small : (is_below : Bool) → (if is_below then 45 else 32) < 256
 sign_small true = omega arith
@@ -56,9 +72,10 @@ returns c =
     let size = c.args.size in
     let columns : List ℕ = in_columns c.digits.result in
     let row = columns_are size c.digits.result c.digits.ensures in
-    let start : ℕ = start_of columns in
-    let at = start_is size c.digits.result c.digits.ensures in
-    let few = start_few size c.digits.result c.digits.ensures in
+    let counted = c.count_digits.ensures.counted in
+    let start : ℕ = 14 - 1 - c.count_digits.result in
+    let at = start_is size c.count_digits.result c.requires.short counted in
+    let few = start_few size c.count_digits.result c.requires.short counted in
     let some : 1 ≤ start = omega (arith, at) in
     let first : ℕ = c.if-is_below.first in
     let is = first_is (goal.at.returns c).Joined-is_below in
