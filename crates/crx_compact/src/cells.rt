@@ -25,22 +25,27 @@ use crx_text::{Code, cell_length, code_before_blank, put_blanks, step_of_length,
 pub const CELL_ROOM: usize = DIGITS_LIMIT + 6;
 
 /// Writes the code of an arc's next value and a blank from an index on, gives the index after them, and the
-/// arc goes on. It is called for the few values that [`write_value_fast`] doesn't write itself.
+/// arc goes on. It is called for the few values that [`write_value_fast`] doesn't write itself. It is given
+/// all second parts and an index, since a loop that had the second part of each value would count on its
+/// place.
 #[cold]
 #[inline(never)]
 fn write_value(
     near: &mut Near<OBSERVATION_WIDTH>,
-    far: &mut Far,
+    far: &mut [Far],
+    index: usize,
     value: i64,
     bytes: &mut [u8],
     at: usize,
 ) -> usize
     requires value { IsValue (Some value) }
+    requires within { index < length far.old }
     requires room { at + CELL_ROOM ≤ length bytes.old }
-    ensures { IsCellWritten (Some value) (whole_arc near.old far.old) (whole_arc near.new far.new)
-        bytes.old at bytes.new result }
+    ensures written { IsCellWritten (Some value) (whole_arc near.old (slice_index_or far.old index []))
+        (whole_arc near.new (slice_index_or far.new index [])) bytes.old at bytes.new result }
+    ensures others { far.new ≡ slice_set far.old index (slice_index_or far.new index []) }
 {
-    let code = near.push(far, Some(value));
+    let code = near.push(&mut far[index], Some(value));
     write_cell(bytes, at, code)
 }
 
@@ -69,7 +74,7 @@ fn write_value_fast(
     };
     match near.push_third(present) {
         Some(difference) => write_cell(bytes, at, Code::Step(difference)),
-        None => write_value(near, &mut far[index], present, bytes, at),
+        None => write_value(near, far, index, present, bytes, at),
     }
 }
 

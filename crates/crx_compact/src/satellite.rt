@@ -1,7 +1,7 @@
 //! What is stored of a satellite: its indicators and the arcs of its cells, changed in place by each of its
 //! lines. Hatanaka's Compact RINEX 3.0, satellite lines.
 
-ghost use Rattle.std.specs.Prelude.{◌≡◌, ◌≤◌, ◌<◌, ◌+◌, ◌-◌, ◌*◌, ◌++◌, [], Ok, Err, None, true, false, drop, length, replicate, take, IfOk, IsTrue, ◌↔◌, vec_capacity};
+ghost use Rattle.std.specs.Prelude.{◌≡◌, ◌≤◌, ◌<◌, ◌+◌, ◌-◌, ◌*◌, ◌++◌, [], Ok, Err, None, true, false, drop, length, replicate, take, IfOk, IsTrue, ◌↔◌, if◌then◌else◌, vec_capacity};
 ghost use Rattle.crx_text.specs.meaning.Columns.{columns, without_end_blanks};
 ghost use Rattle.crx_base.specs.declared.limits.TheConstants.{CELL_WIDTH, LINE_LIMIT, NAME_WIDTH, TYPES_LIMIT};
 ghost use Rattle.crx_header.specs.meaning.EpochColumns.{begins_epoch};
@@ -139,20 +139,19 @@ impl SatelliteHistory {
         put_blanks(&mut self.indicators[2 * from..2 * count]);
     }
 
-    /// Replaces the indicators by those of a row, and makes it have as many types as the row. Gives the
-    /// difference of the indicators before and the row's: mostly they stay, and it is empty; else it is
-    /// written into a text.
+    /// Replaces the indicators by those of a row, and makes it have as many types as the row. `false` says
+    /// that they stay, as they mostly do; else the difference of those before and the row's is in the text.
     #[inline(always)]
-    fn mark<'a>(&mut self, count: usize, flags: &[u8], scratch: &'a mut Text) -> &'a [u8]
+    fn mark(&mut self, count: usize, flags: &[u8], scratch: &mut Text) -> bool
         requires fits { FitsFlags count flags.now self.old }
-        ensures { IsMarked count flags.now self.old self.new result.now }
+        ensures { IsMarked count flags.now self.old self.new (if result then scratch.new else []) }
     {
         if is_same_text(flags, &self.indicators[..2 * self.count]) {
-            return &[];
+            return false;
         }
         scratch.clear();
         self.change_indicators(count, flags, scratch);
-        scratch.bytes()
+        true
     }
 
     /// Does what [`SatelliteHistory::mark`] does, where the indicators change, and the text is empty.
@@ -186,9 +185,11 @@ impl SatelliteHistory {
         ensures put { IsLinePut (line_after values.now flags.now self.old)
             (CELL_ROOM * length values.now + 2 * TYPES_LIMIT) at bytes.old bytes.new result }
     {
-        let marks = self.mark(values.len(), flags, scratch);
-        let end = write_cells(&mut self.near, &mut self.far, values, filled, bytes, at);
-        let end = put_text(bytes, end, marks);
+        let has_marks = self.mark(values.len(), flags, scratch);
+        let mut end = write_cells(&mut self.near, &mut self.far, values, filled, bytes, at);
+        if has_marks {
+            end = put_text(bytes, end, scratch.bytes());
+        }
         trim_end(&bytes[at..end]).len()
     }
 

@@ -13,7 +13,7 @@ marked : (c : After-self) → (cells_for (length c.args.values.now)
     ≡ cells_for (length c.args.values.now) c.args.self.now.cells)
     × (c.self.inside.count ≡ length c.args.values.now)
 marked c =
-    let cells = ap (λ (t : SatelliteTail). t.cells) (c.self.view_is ∙ c.mark-marks.ensures.marked) in
+    let cells = ap (λ (t : SatelliteTail). t.cells) (c.self.view_is ∙ c.mark-has_marks.ensures.marked) in
     let many = ap length cells in
     grind (arith, length-each_place)
 
