@@ -1,31 +1,12 @@
 -- Texts are the same where their two ends are, which meet: compared as lanes.
-use Rattle.crx_compact.proofs.Words.{true, ℕ, ◌≡◌, ◌+◌, ◌-◌, ◌*◌, ◌%◌, ◌^◌, ◌≤◌, Bool, not, cond}
-use Rattle.crx_compact.proofs.Words.{nat_eq, eqb, List, [], ◌∷◌, length, take, drop, map, w8, refl, sym, ◌∙◌}
+use Rattle.crx_compact.proofs.Words.{true, ℕ, ◌≡◌, ◌+◌, ◌-◌, ◌≤◌}
+use Rattle.crx_compact.proofs.Words.{nat_eq, List, [], ◌∷◌, length, take, drop, w8, refl, sym, ◌∙◌}
 use Rattle.crx_compact.proofs.Words.{arith, ◌≢◌, MatchBool, length-drop, length-take-le, take_all}
-use Rattle.crx_compact.proofs.Words.{length-chunk, length-zip2, mask_l-mod, tops_compared, common_steps}
+use Rattle.crx_compact.proofs.Words.{length-chunk, tops_compared, common_steps}
 use Rattle.std.proofs.Math.Seq.{take-take}
-use Rattle.std.proofs.{lemmas.Bool.Decides.{nat_tests, Decides-eqb}, lemmas.List.take-append-drop}
-use lib.Lanes.{chunk, mask_l, top, zip2}
-
-abbrev differs : ℕ → ℕ → Bool
-differs a b = not (eqb a b)
-
--- the lanes of two rows that differ, as vectors are compared
-abbrev pub others : List ℕ → List ℕ → ℕ
-others xs ys = mask_l (map (top 7) (zip2 (λ a b. cond (differs a b) 255 0) xs ys)) % 2 ^ 64
-
-first_same : (a b m : ℕ) → cond (differs a b) 1 0 + 2 * m ≡ 0 → (a ≡ b) × (m ≡ 0)
-first_same a b m e = grind (arith, nat_tests)
-
-none_differ : (xs ys : List ℕ) → length ys ≡ length xs → mask_l (zip2 differs xs ys) ≡ 0 → xs ≡ ys
-none_differ (x ∷ xs) (y ∷ ys) long none = grind (arith, common_steps, first_same, none_differ xs ys)
-none_differ xs ys long none = grind (arith, common_steps)
-
-same_rows : (xs ys : List ℕ) → length ys ≡ length xs → length xs ≤ 64 → others xs ys ≡ 0 → xs ≡ ys
-same_rows xs ys long few same =
-    let lanes = zip2 differs xs ys in
-    let few_lanes = mask_l-mod lanes 64 (omega (arith, length-zip2 differs xs ys (sym long))) in
-    none_differ xs ys long (cc (tops_compared w8 differs xs ys))
+use Rattle.std.proofs.{lemmas.Bool.Decides.{Decides-eqb}, lemmas.List.take-append-drop}
+use Rattle.crx_text.proofs.LaneBits.{differs, others, same_rows}
+use lib.Lanes.{chunk, mask_l, zip2}
 
 none_within : (xs : List ℕ) → mask_l (zip2 differs xs xs) ≡ 0
 none_within [] = refl

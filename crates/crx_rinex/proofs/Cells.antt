@@ -3,7 +3,7 @@ use Rattle.std.proofs.Common.{◌≡◌, inl, inr, ℕ, ℤ, ◌+◌, ◌-◌, �
 use Rattle.std.proofs.Common.{◌++◌, Option}
 use Rattle.std.proofs.Common.{Some, None, length, take, drop, replicate, get_or, map, refl, ap, sym, ◌∙◌}
 use Rattle.std.proofs.Common.{arith, subst}
-use Rattle.std.proofs.{Common.{suc, zero, Bool, true, cond, nat_lt, Err, MatchBool, append_assoc, append-nil}}
+use Rattle.std.proofs.{Common.{suc, zero, Bool, true, cond, nat_lt, Err, MatchBool, append-nil}}
 use Rattle.std.proofs.{lemmas.Bool.{and_from, cases_lt, le-ltb, lt-ltb}, Math.{Bool.and-true, Seq.take-add}}
 use Rattle.std.proofs.lemmas.{Grind.common_steps, List.{take_more_set, length-set, take_at, take-append-le}}
 use Rattle.std.proofs.lemmas.List.{drop_all, drop-drop, drop-replicate, drop-set, drop-set-lt, drop-take}

@@ -2,7 +2,7 @@
 use Rattle.std.proofs.Common.{◌≡◌, ℕ, ◌≤◌, Bool, false, List, [], ◌∷◌, ◌++◌, length, map, ◌||◌, refl}
 use Rattle.std.proofs.Common.{ap, ◌∙◌, arith, Option, None, unwrap_or, cond, leb}
 use Rattle.std.proofs.lemmas.{Bool.{cases_Bool, leb-true, eqb-false}, Grind.common_steps, List.length_push}
-use Rattle.std.proofs.lemmas.{List.{map-append, Elements.All-push}, Slice.Eq.bytes_eq-Decides}
+use Rattle.std.proofs.lemmas.{List.{Elements.All-push}, Slice.Eq.bytes_eq-Decides}
 use Rattle.std.specs.{List.list_any, Option.option_and_then, Str.bytes_eq}
 use Rattle.crx_base.specs.declared.limits.TheConstants.{SATELLITES_LIMIT}
 use Rattle.crx_header.proofs.Apart.{apart-push, other_way}

@@ -1,7 +1,7 @@
 -- What is read of an observation epoch is sound.
 use Rattle.std.proofs.Common.{rules, ◌≡◌, ℕ, ℤ, ◌+◌, ◌*◌, ◌≤◌, zero, suc, Bool, true, false, not, cond, List}
 use Rattle.std.proofs.Common.{[], ◌∷◌, length, drop, Option, Some, None, IfSome, unwrap_or, Result}
-use Rattle.std.proofs.{Common.{Ok, Err, refl, ap, subst, ◌∙◌, arith}, lemmas.Bool.and_from}
+use Rattle.std.proofs.{Common.{Ok, Err, refl, subst, arith}, lemmas.Bool.and_from}
 use Rattle.std.proofs.lemmas.{Grind.common_steps, List.{length_push, length-append}}
 use Rattle.std.proofs.lemmas.{List.Elements.{All-push}}
 use Rattle.std.{proofs.lemmas.Option.none-some, specs.{List.{list_all, AllByRecursion}, Prelude.{⊤, All}}}

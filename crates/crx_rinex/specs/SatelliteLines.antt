@@ -1,6 +1,6 @@
 -- Beside meaning/SatelliteLines: what code and proofs see of it.
 use Rattle.std.specs.Prelude.{ℕ, ℤ, ◌≡◌, ◌≤◌, ◌+◌, ◌*◌, ◌-◌, ◌<◌, All, List, ◌++◌, Option, None, Some}
-use Rattle.std.specs.Prelude.{Result, Ok, true}
+use Rattle.std.specs.Prelude.{Bool, Result, Ok, true}
 use Rattle.std.specs.Prelude.{length, replicate, slice_set, take, drop}
 use Rattle.std.specs.List.{list_all}
 use Rattle.crx_text.specs.meaning.Columns.{columns, is_blank}
@@ -51,6 +51,10 @@ pub record AreCellsRead (count : ℕ) (line : List ℕ) (values : List (Option �
   pub values_read : values_in count line ≡ Some (take count values)
   pub flags_read : take (2 * count) flags ≡ flags_in count line
   pub ranged : All IsValue (take count values)
+
+-- if they were seen to be so, the indicators of the first so many cells may all be there
+abbrev pub AreSeen : Bool → ℕ → List ℕ → Type 0
+AreSeen is_seen count flags = is_seen ≡ true → list_all is_kept (take (2 * count) flags) ≡ true
 
 -- the first so many of m cells of a line are read, the line reaches no other, and nothing is after the
 -- last of the m

@@ -1,13 +1,15 @@
 //! The row of the satellite line that was read last, in memory that is used again. RINEX 3.05, table A3.
 
-ghost use Rattle.std.specs.Prelude.{ℕ, List, None, ◌≡◌, ◌≤◌, ◌<◌, ◌*◌, ◌+◌, ◌-◌, ◌/◌, codes, length, max, take, Ok, Err, OnOk, IfErr, IfSome, MatchBool};
+ghost use Rattle.std.specs.Prelude.{ℕ, List, None, ◌≡◌, ◌≤◌, ◌<◌, ◌*◌, ◌+◌, ◌-◌, ◌/◌, codes, length, max, take, Ok, Err, OnOk, IfErr, IfSome, MatchOption, Bool, true, ◌&&◌};
+ghost use Rattle.std.specs.List.{list_all};
+ghost use Rattle.crx_text.specs.meaning.Texts.{is_kept};
 ghost use Rattle.crx_base.specs.Padded.{line_in};
 ghost use Rattle.crx_base.specs.declared.limits.TheConstants.{CELL_WIDTH, NAME_WIDTH, TYPES_LIMIT};
 ghost use Rattle.crx_text.specs.meaning.Columns.{columns};
 ghost use Rattle.crx_text.specs.meaning.Numbers.{observation_of};
 ghost use Rattle.crx_rinex.specs.meaning.Observations.{observations_of};
 ghost use Rattle.crx_rinex.specs.meaning.Printing.{printed_row};
-ghost use Rattle.crx_rinex.specs.SatelliteLines.{blank_row, row_by_cells, AreCellsRead, AreEmptyFrom, AreFirstRead, AreMissingFrom, ArePaired, KeepsEmptyFrom};
+ghost use Rattle.crx_rinex.specs.SatelliteLines.{blank_row, row_by_cells, AreCellsRead, AreEmptyFrom, AreFirstRead, AreMissingFrom, ArePaired, AreSeen, KeepsEmptyFrom};
 ghost use Rattle.crx_rinex.specs.meaning.SatelliteLines.{field, row_of, IsSoundRow};
 
 use crate::satellite_row::print_row;
@@ -76,9 +78,9 @@ impl RowBuffer {
         };
         let fault = match read_first_cells(line, count, &mut self.values, &mut self.flags) {
             None => Fault::BadField,
-            Some(reached) => {
+            Some((reached, is_seen)) => {
                 empty_cells(reached, self.filled, &mut self.values, &mut self.flags);
-                if all_kept(&self.flags[..2 * reached]) {
+                if are_kept(is_seen, &self.flags[..2 * reached]) {
                     self.name = identifier(line.line(), 1);
                     self.count = count;
                     self.filled = reached;
@@ -159,58 +161,76 @@ impl RowBuffer {
     }
 }
 
+/// Whether indicators may all be there. Those that were seen to be so, as their cells were read, aren't
+/// looked at again: a look at many bytes waits until all are stored (some instructions a line less, too).
+#[inline(always)]
+fn are_kept(is_seen: bool, flags: &[u8]) -> bool
+    requires { is_seen ≡ true → list_all is_kept flags.now ≡ true }
+    ensures { result ≡ list_all is_kept flags.now }
+{
+    is_seen || all_kept(flags)
+}
+
 /// Reads as many of the cells as the line reaches, and gives how many: the whole ones, and the one that the
-/// line's end cuts. Where all are whole it looks at what is after the last. `None` comes where a field is
-/// neither blank nor a number, or where something is after the last cell.
+/// line's end cuts. Beside that it gives whether all their indicators were seen to be ones that may be there.
+/// Where all are whole it looks at what is after the last. `None` comes where a field is neither blank nor a
+/// number, or where something is after the last cell.
 #[inline(always)]
 fn read_first_cells(
     line: Padded<'_>,
     count: usize,
     values: &mut [Option<i64>],
     flags: &mut [u8],
-) -> Option<usize>
+) -> Option<(usize, bool)>
     requires paired { ArePaired values.old flags.old }
     requires within { count ≤ length values.old }
-    ensures read { IfSome result (λ first. AreFirstRead first count (line_in line.entry) values.new flags.new) }
-    ensures others { IfSome result (λ first. KeepsEmptyFrom first values.old flags.old values.new flags.new) }
+    ensures read { IfSome result (λ all. AreFirstRead all.0 count (line_in line.entry) values.new flags.new
+        × AreSeen all.1 all.0 flags.new) }
+    ensures others { IfSome result (λ all. KeepsEmptyFrom all.0 values.old flags.old values.new flags.new) }
     ensures refused { result ≡ None → row_by_cells count (line_in line.entry) ≡ Err Fault.BadField }
 {
     let whole = count.min(line.len().saturating_sub(NAME_WIDTH) / CELL_WIDTH);
+    let mut is_seen = true;
     for k in 0..whole {
         let cell = u8x16::from_slice(&line.padded()[CELL_WIDTH * k + NAME_WIDTH..]);
-        if !read_cell(cell, k, values, flags) {
-            return None;
+        if !read_cell(cell, k, values, flags)? {
+            is_seen = false;
         }
     }
     if whole == count {
         if all_blank(after_columns(line.line(), CELL_WIDTH * count + NAME_WIDTH)) {
-            return Some(whole);
+            return Some((whole, is_seen));
         }
         return None;
     }
-    if read_cell(cut_columns(line), whole, values, flags) {
-        return Some(whole + 1);
-    }
-    None
+    let is_last_seen = read_cell(cut_columns(line), whole, values, flags)?;
+    Some((whole + 1, is_seen & is_last_seen))
 }
 
-/// Puts the value and the indicators of a cell's columns at the cell's place. `false` comes where its field
-/// is neither blank nor a number. The two indicators are one store.
+/// Puts the value and the indicators of a cell's columns at the cell's place, and gives whether these two
+/// were seen to be ones that may be there, as [`obs_read_cell`] does. So all up to them were, where those
+/// before were. `None` comes where its field is neither blank nor a number. The two indicators are one store.
 #[inline(always)]
-pub(crate) fn read_cell(cell: u8x16, k: usize, values: &mut [Option<i64>], flags: &mut [u8]) -> bool
+pub(crate) fn read_cell(
+    cell: u8x16,
+    k: usize,
+    values: &mut [Option<i64>],
+    flags: &mut [u8],
+) -> Option<bool>
     requires within { k < length values.old }
     requires paired { ArePaired values.old flags.old }
     ensures read { (line : List ℕ) → AreCellsRead k line values.old flags.old
         → cell ≡ columns line (CELL_WIDTH * k + NAME_WIDTH + 1) CELL_WIDTH
-        → MatchBool result (AreCellsRead (k + 1) line values.new flags.new) (observation_of (field line k) ≡ None) }
+        → MatchOption result (observation_of (field line k) ≡ None)
+        (λ _. AreCellsRead (k + 1) line values.new flags.new) }
+    ensures seen { IfSome result (λ is_seen. (before : Bool) → AreSeen before k flags.old
+        → AreSeen (before && is_seen) (k + 1) flags.new) }
     ensures others { KeepsEmptyFrom (k + 1) values.old flags.old values.new flags.new }
 {
-    if !obs_read_cell(cell, &mut values[k]) {
-        return false;
-    }
+    let is_seen = obs_read_cell(cell, &mut values[k])?;
     cell.extract::<OBSERVATION_WIDTH, 2>()
         .copy_to_slice(&mut flags[2 * k..]);
-    true
+    Some(is_seen)
 }
 
 /// The columns after those of the last whole cell: the ones that are behind the line's end are blank.

@@ -73,9 +73,9 @@ impl SatRow {
         let marks = flags.as_mut_slice();
         for k in 0..m {
             let cell = u8x16::from_array(padded(line, CELL_WIDTH * k + NAME_WIDTH + 1));
-            if !read_cell(cell, k, read, marks) {
+            let Some(_) = read_cell(cell, k, read, marks) else {
                 return Err(Fault::BadField);
-            }
+            };
         }
         if !all_blank(after_columns(line, CELL_WIDTH * m + NAME_WIDTH)) {
             return Err(Fault::BadField);

@@ -1,9 +1,10 @@
 -- Rows of lanes: from a list of known length to its elements, and from a mask to each lane.
 use Rattle.std.proofs.Common.{take, ◌≡◌, ℕ, ◌-◌, ◌%◌, ◌^◌, Bool}
-use Rattle.std.proofs.Common.{not, cond, nat_eq, eqb, bit_and, List, [], ◌∷◌, map, length}
+use Rattle.std.proofs.Common.{not, cond, nat_eq, eqb, bit_and, List, [], ◌∷◌, map, length, ◌+◌, ◌*◌, ◌≤◌, w8}
 use Rattle.std.proofs.{Common.{replicate, refl, sym, arith}, Math.Nat.{pow-suc, one-le-pow}}
 use Rattle.std.proofs.{lemmas.{Grind.common_steps}}
-use Rattle.std.proofs.lemmas.{List.length-take-le, Simd.pick_l_whole}
+use Rattle.std.proofs.lemmas.{Bool.Decides.nat_tests}
+use Rattle.std.proofs.lemmas.Simd.{length-zip2, mask_l-mod, pick_l_whole, tops_compared}
 use Rattle.std.specs.List.{range_with_len, list_all, list_any}
 use lib.Lanes.{pick_l, mask_l, top, zip2}
 
@@ -32,10 +33,27 @@ pub some_of_field : (byte : ℕ) (xs : List ℕ) → length xs ≡ 16 → not (n
     16383) 0) ≡ list_any (λ c. eqb c byte) (take 14 xs)
 some_of_field byte xs long = grind (arith, common_steps, not, nat_eq, no_bit, eqb, list_any)
 
-pub each_of_field : (byte : ℕ) (xs : List ℕ) → length xs ≡ 16
-    → nat_eq (bit_and (mask_l (map (top 7) (zip2 (λ a b. cond (eqb a b) 255 0) xs (replicate 16 byte))) % 2 ^
-    64) 16383) 16383 ≡ list_all (λ c. eqb c byte) (take 14 xs)
-each_of_field = grind (arith, common_steps, fourteen, length-take-le, nat_eq, all_bits)
+-- ---- two rows that are compared
+
+abbrev pub differs : ℕ → ℕ → Bool
+differs a b = not (eqb a b)
+
+-- the lanes of two rows that differ, as vectors are compared
+abbrev pub others : List ℕ → List ℕ → ℕ
+others xs ys = mask_l (map (top 7) (zip2 (λ a b. cond (differs a b) 255 0) xs ys)) % 2 ^ 64
+
+first_same : (a b m : ℕ) → cond (differs a b) 1 0 + 2 * m ≡ 0 → (a ≡ b) × (m ≡ 0)
+first_same a b m e = grind (arith, nat_tests)
+
+none_differ : (xs ys : List ℕ) → length ys ≡ length xs → mask_l (zip2 differs xs ys) ≡ 0 → xs ≡ ys
+none_differ (x ∷ xs) (y ∷ ys) long none = grind (arith, common_steps, first_same, none_differ xs ys)
+none_differ xs ys long none = grind (arith, common_steps)
+
+pub same_rows : (xs ys : List ℕ) → length ys ≡ length xs → length xs ≤ 64 → others xs ys ≡ 0 → xs ≡ ys
+same_rows xs ys long few same =
+    let lanes = zip2 differs xs ys in
+    let few_lanes = mask_l-mod lanes 64 (omega (arith, length-zip2 differs xs ys (sym long))) in
+    none_differ xs ys long (cc (tops_compared w8 differs xs ys))
 
 -- ---- the lanes of masks, which are 255 or 0
 

@@ -1,8 +1,8 @@
 -- What plain columns spell.
 use Rattle.std.proofs.Common.{rules, ◌≡◌, ◌≢◌, ℕ, ℤ, pos, ◌+◌, ◌-◌, ◌*◌, true, false, ◌||◌, eqb, Some}
-use Rattle.std.proofs.Common.{None, List, [], ◌∷◌, ◌++◌, map, take, length, get_or, subst, refl, sym, ap, ◌∙◌}
+use Rattle.std.proofs.Common.{List, [], ◌∷◌, ◌++◌, map, take, length, get_or, subst, refl, sym, ap, ◌∙◌}
 use Rattle.std.proofs.{Common.{eqb-true, arith}, lemmas.Bool.{and_parts, or_cases}}
-use Rattle.std.{proofs.lemmas.{Grind.common_steps}, specs.{Char.is_ascii_digit, List.list_all}}
+use Rattle.std.{proofs.lemmas.{Grind.common_steps}, specs.{Char.is_ascii_digit}}
 use Rattle.std.specs.{List.{list_any, range_with_len}, Option.option_map, Str.all_ascii_digits}
 use Rattle.std.specs.Str.Parse.{digits_value_after}
 use Rattle.crx_text.proofs.PowersOfTen.{digits_before, digits_value_after-append}
@@ -11,17 +11,6 @@ use Rattle.crx_text.specs.meaning.Numbers.{missing_or_number, signed_number, siz
 use Rattle.crx_text.proofs.ReadBack.{digits_behind, size_of_pieces, without_first_blanks-text}
 use Rattle.crx_text.proofs.Sizes.{missing_or_number_text, number_of_width, decimal_number_plain}
 use Rattle.crx_text.{proofs.LaneBits.fourteen, specs.meaning.Columns.without_first_blanks}
-
--- ---- blank columns
-
-all_blank : (xs ys : List ℕ) → list_all (λ c. eqb c 32) (xs ++ ys) ≡ true → without_first_blanks xs ≡ []
-all_blank [] ys all = refl
-all_blank (x ∷ xs) ys all = grind (arith, common_steps, all_blank xs ys)
-
-pub blank_number : (width decimals : ℕ) (field ys : List ℕ)
-    → length field ≡ width → list_all (λ c. eqb c 32) (field ++ ys) ≡ true
-    → number_of width decimals field ≡ Some None
-blank_number width decimals field ys long all = search (rules, number_of_width, missing_or_number, all_blank)
 
 -- ---- digits
 

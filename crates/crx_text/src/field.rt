@@ -1,5 +1,5 @@
-//! An observation's 14 columns in one row of lanes: blanks, perhaps a minus, digits, and the point
-//! in column 11. That is how nearly every field is written.
+//! A cell's 16 columns in one row of lanes: an observation's 14, with blanks, perhaps a minus, digits, and
+//! the point in column 11, and two indicators. That is how nearly every cell is written.
 
 ghost use Rattle.std.specs.Prelude.{take, ◌≡◌, ◌==◌, ◌+◌, ◌*◌, ◌^◌, ◌<◌, slice_index, IsTrue};
 ghost use Rattle.std.specs.List.{list_any};
@@ -12,29 +12,35 @@ ghost use Rattle.crx_text.specs.meaning.Numbers.{signed_number};
 use crate::digits::signed;
 use std::simd::prelude::*;
 
-/// The lanes of a field's columns among 16; what is in the others doesn't count.
-pub(crate) const FIELD: u64 = 0x3fff;
+// The lanes of a field's columns among 16.
+const FIELD: u64 = 0x3fff;
 
 // The first byte of what a column may have beside blanks and a minus: a digit, or the point.
-const FIRST: [u8; 16] = [45, 48, 48, 48, 48, 48, 48, 48, 48, 48, 46, 48, 48, 48, 0, 0];
+const FIRST: [u8; 16] = [
+    45, 48, 48, 48, 48, 48, 48, 48, 48, 48, 46, 48, 48, 48, 48, 48,
+];
 
-// How far from that one on it may be; the first column has no digit, but a minus, and the lanes after the
-// field may have anything.
-const MOST: [u8; 16] = [0, 9, 9, 9, 9, 9, 9, 9, 9, 9, 0, 9, 9, 9, 255, 255];
+// How far from that one on it may be; the first column has no digit, but a minus.
+const MOST: [u8; 16] = [0, 9, 9, 9, 9, 9, 9, 9, 9, 9, 0, 9, 9, 9, 9, 9];
 
-/// Whether the columns are plain.
+// What has to be before a blank or a minus: a blank. [`is_plain`] puts 0 before columns 11 to 16, so that of
+// these only the last two, the indicators, may be either.
+const BEFORE: [u8; 16] = [32, 32, 32, 32, 32, 32, 32, 32, 32, 32, 32, 32, 32, 32, 0, 0];
+
+/// `true` comes only where the columns are plain, and the indicators are digits, blanks or minuses, as they
+/// mostly are; `false` says nothing. To look at the indicators too takes no instruction more.
 #[inline(always)]
 pub(crate) fn is_plain(columns: u8x16) -> bool
     ensures { IsTrue result → IsPlain columns }
 {
-    let blank = u8x16::splat(b' ');
     let before = columns.shuffle(
         u8x16::splat(0),
         [0, 0, 1, 2, 3, 4, 5, 6, 7, 8, 16, 16, 16, 16, 16, 16],
     );
     let others = (columns - u8x16::from_array(FIRST)).saturating_sub(u8x16::from_array(MOST));
-    let prefix = columns.simd_eq(blank) | columns.simd_eq(u8x16::splat(b'-'));
-    let refused = (before.simd_eq(blank) & prefix).select(u8x16::splat(0), others);
+    let prefix = columns.simd_eq(u8x16::splat(b' ')) | columns.simd_eq(u8x16::splat(b'-'));
+    let allowed = before.simd_eq(u8x16::from_array(BEFORE)) & prefix;
+    let refused = allowed.select(u8x16::splat(0), others);
     refused.reduce_or() == 0
 }
 

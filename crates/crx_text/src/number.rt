@@ -1,7 +1,8 @@
 //! Numbers in columns: observations in format F14.3 and receiver clock offsets in format F15.12
 //! (RINEX 3.05, table A3). They are read leniently and printed in one spelling.
 
-ghost use Rattle.std.specs.Prelude.{slice_index, ◌≡◌, ◌+◌, ◌-◌, ◌*◌, ◌<◌, ◌≤◌, ◌^◌, ◌%◌, ◌++◌, ◌∷◌, [], Option, length, take, drop, decimal, IfOk, IfSome, MatchBool, None, Some};
+ghost use Rattle.std.specs.Prelude.{slice_index, ◌≡◌, ◌+◌, ◌-◌, ◌*◌, ◌<◌, ◌≤◌, ◌^◌, ◌%◌, ◌++◌, ◌∷◌, [], Option, length, take, drop, decimal, IfOk, IfSome, MatchBool, None, Some, IfNone, MatchOption, OnSome, true};
+ghost use Rattle.std.specs.List.{list_all};
 ghost use Rattle.std.specs.Bool.{OnFalse, OnTrue};
 ghost use Rattle.std.specs.Option.{ForSome};
 ghost use Rattle.std.specs.Result.{result_ok};
@@ -9,10 +10,10 @@ ghost use Rattle.crx_text.specs.declared.digits.TheConstants.{WIDEST};
 ghost use Rattle.crx_base.specs.declared.limits.TheConstants.{CELL_WIDTH, OBSERVATION_WIDTH, CLOCK_WIDTH};
 ghost use Rattle.crx_text.specs.meaning.Numbers.{IsWithin, number_of, observation_of, clock_of, number_text, observation_text, clock_text, size_text, zero_padded};
 ghost use Rattle.crx_text.specs.Numbers.{IsObservation, IsClock};
+ghost use Rattle.crx_text.specs.meaning.Texts.{is_kept};
 
 use crate::columns::trim_start;
 use crate::digits::{WIDEST, digits_read, signed, split_minus};
-use crate::field::FIELD;
 use crate::text::Text;
 use crate::{field, field_text};
 use crx_base::limits::{
@@ -38,26 +39,31 @@ pub fn obs_read(field: &[u8]) -> Result<Option<i64>, BadField>
 }
 
 /// Reads the observation of a cell, whose field has two indicators after it, into a place, as [`obs_read`]
-/// reads the field. `false` comes where that is `BadField`, and then the place stays as it was. The
-/// spellings that files have are read by lanes; few fields are blank, so that is tested after them. A result
-/// that holds a value beside a mark of its own is set to zero before each call, and copied after it.
+/// reads the field. `None` comes where that is `BadField`, and then the place stays as it was. `Some(true)`
+/// says that [`all_kept`](crate::all_kept) is true of the indicators, `Some(false)` nothing of them.
+///
+/// The spellings that files have are read by lanes; few cells are blank, so that is tested after them. A
+/// result that held the value too would be set to zero before each call, and copied after it.
 #[inline(always)]
-#[tactic(auto, using(crate::proofs::LaneBits::each_of_field))]
-pub fn obs_read_cell(cell: u8x16, value: &mut Option<i64>) -> bool
-    ensures value { MatchBool result (observation_of (take OBSERVATION_WIDTH cell) ≡ Some value.new)
-        (observation_of (take OBSERVATION_WIDTH cell) ≡ None) }
-    ensures in_range { OnTrue result (IfSome value.new IsObservation) }
-    ensures same { OnFalse result (value.new ≡ value.old) }
+pub fn obs_read_cell(cell: u8x16, value: &mut Option<i64>) -> Option<bool>
+    ensures value { MatchOption result (observation_of (take OBSERVATION_WIDTH cell) ≡ None)
+        (λ _. observation_of (take OBSERVATION_WIDTH cell) ≡ Some value.new) }
+    ensures in_range { OnSome result (IfSome value.new IsObservation) }
+    ensures same { IfNone result (value.new ≡ value.old) }
+    ensures kept { result ≡ Some true → list_all is_kept (drop OBSERVATION_WIDTH cell) ≡ true }
 {
     if field::is_plain(cell) {
         *value = Some(field::value(cell));
-        return true;
+        return Some(true);
     }
-    if cell.simd_eq(u8x16::splat(b' ')).to_bitmask() & FIELD == FIELD {
+    if cell == u8x16::splat(b' ') {
         *value = None;
-        return true;
+        return Some(true);
     }
-    read_by_column(cell, value)
+    if read_by_column(cell, value) {
+        return Some(false);
+    }
+    None
 }
 
 // Reads the observation of a cell that isn't spelt as files mostly have it. No part of its caller, whose

@@ -1,17 +1,25 @@
-use Rattle.std.proofs.Common.{◌≡◌, ◌++◌, ◌∙◌, [], take, drop, w64, rules, ap, sym, subst, arith}
-use Rattle.std.proofs.{Common.append-nil, lemmas.{Bool.eq-eqb, Int.to_z-of_z}}
-use Rattle.std.{proofs.lemmas.List.{length-take-le, take-append-drop}, specs.List.list_all}
-use lib.Dec.{eqb}
-use Rattle.crx_text.proofs.{LaneBits.each_of_field, PlainSpellings.{blank_number, plain_number, number_in}}
-use Rattle.crx_text.specs.Fields.{IsPlain}
+use Rattle.std.proofs.Common.{ℕ, List, length, replicate, Some, None, ◌≡◌, ◌++◌, ◌∙◌, take, drop, w64, rules}
+use Rattle.std.proofs.Common.{refl, ap, sym, subst, arith}
+use Rattle.std.proofs.{lemmas.{Int.to_z-of_z}}
+use Rattle.std.{proofs.lemmas.List.{length-take-le, take-append-drop}}
+use Rattle.crx_text.proofs.{LaneBits.{others, same_rows}, PlainSpellings.{plain_number, number_in}}
+use Rattle.crx_text.specs.{Fields.IsPlain, meaning.Numbers.{number_of, observation_of}}
 use Rattle.crx_text.proofs.number.obs_read_cell.Goals as goal
 
-pub returns-then-cell-eq-FIELD-clause-value : goal.returns-then-cell-eq-FIELD-clause-value
-returns-then-cell-eq-FIELD-clause-value c =
-    let cell = c.args.cell in
-    blank_number 14 3 (take 14 cell) [] (length-take-le 14 cell (omega (arith, c.fits-cell.0)))
-    (ap (list_all (λ c. eqb c 32)) (append-nil (take 14 cell)) ∙ sym (each_of_field 32 cell c.fits-cell.0)
-    ∙ eq-eqb _ 16383 c.if-cell-eq-FIELD.true)
+-- a cell that is compared with blanks
+blank_cell : (cell : List ℕ) → length cell ≡ 16 → others cell (replicate 16 32) ≡ 0 → cell ≡ replicate 16 32
+blank_cell cell long same = same_rows cell (replicate 16 32) (sym long) (omega (arith, long)) same
+
+blank_value : observation_of (replicate 14 32) ≡ Some None
+unfolding number_of
+blank_value = refl
+
+pub returns-then-cell-eq0-clause-value : goal.returns-then-cell-eq0-clause-value
+returns-then-cell-eq0-clause-value c =
+    rw (blank_cell c.args.cell c.fits-cell.0 c.if-cell-eq0.true) blank_value
+
+pub returns-then-cell-eq0-clause-kept : goal.returns-then-cell-eq0-clause-kept
+returns-then-cell-eq0-clause-kept c _ = rw (blank_cell c.args.cell c.fits-cell.0 c.if-cell-eq0.true) refl
 
 pub returns-then-is_plain-clause-value : goal.returns-then-is_plain-clause-value
 returns-then-is_plain-clause-value c =

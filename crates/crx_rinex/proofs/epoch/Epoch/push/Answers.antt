@@ -1,5 +1,5 @@
 use Rattle.std.proofs.Common.{◌≡◌, ◌≤◌, ◌+◌, ◌++◌, ◌∷◌, [], ℕ, List, length, vec_capacity, arith, rules, sym}
-use Rattle.std.proofs.{Common.{ap, refl, ◌∙◌, false, if◌then◌else◌, inr}, lemmas.Grind.common_steps}
+use Rattle.std.proofs.{Common.{ap, refl, ◌∙◌, false, if◌then◌else◌}, lemmas.Grind.common_steps}
 use Rattle.std.{proofs.lemmas.List.length_push, specs.{List.list_any, Str.bytes_eq}}
 use Rattle.indexmap.specs.IndexSet.{spare}
 use Rattle.crx_header.specs.meaning.EpochColumns.{satellites_of}

@@ -1,4 +1,4 @@
-use Rattle.std.proofs.Common.{arith, ◌-◌, ◌+◌, ◌≡◌, ◌∙◌, ap, drop, take, ℤ, Option, sym}
+use Rattle.std.proofs.Common.{arith, ◌-◌, ◌+◌, ◌≡◌, ◌∙◌, ap, drop, take, sym}
 use Rattle.std.proofs.lemmas.List.{drop-take, length-take-le, take-replicate}
 use Rattle.crx_rinex.proofs.row_buffer.RowBuffer.filled.Goals as goal
 

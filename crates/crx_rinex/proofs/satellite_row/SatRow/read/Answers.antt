@@ -6,8 +6,8 @@ use Rattle.crx_rinex.proofs.Cells.{cells_none, sound-written}
 use Rattle.crx_rinex.proofs.satellite_row.SatRow.read.Goals.{After-all_kept}
 use Rattle.crx_rinex.proofs.satellite_row.SatRow.read.Goals as goal
 
-pub returns-then-not-read_cell-clause-err : goal.returns-then-not-read_cell-clause-err
-returns-then-not-read_cell-clause-err c = grind (arith, common_steps, cells_none)
+pub returns-in_default-read_cell-clause-err : goal.returns-in_default-read_cell-clause-err
+returns-in_default-read_cell-clause-err c = grind (arith, common_steps, cells_none)
 
 -- all cells are read
 long : (c : After-all_kept) → (length c.loop-k.read ≡ c.in-Some.m) × (length c.loop-k.marks ≡ 2 * c.in-Some.m)
