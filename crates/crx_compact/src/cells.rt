@@ -1,6 +1,6 @@
 //! The cells of a satellite line: values to codes and back, each after its arc.
 
-ghost use Rattle.std.specs.Prelude.{All, ◌≡◌, ◌≤◌, ◌<◌, ◌+◌, ◌*◌, [], max, None, Ok, Err, drop, take, length, slice_index_or, slice_set, IfOk, IfErr, IfSome, IfNone, OnSome, Some, Option, vec_capacity};
+ghost use Rattle.std.specs.Prelude.{All, ◌≡◌, ◌≤◌, ◌<◌, ◌+◌, ◌*◌, [], max, None, Ok, Err, drop, take, length, slice_index_or, slice_set, IfOk, IfErr, IfSome, MatchOption, Some, Option, vec_capacity};
 ghost use Rattle.crx_text.specs.meaning.Numbers.{IsValue};
 ghost use Rattle.crx_base.specs.declared.limits.TheConstants.{LINE_LIMIT, OBSERVATION_WIDTH};
 ghost use Rattle.crx_base.specs.Padded.{line_in};
@@ -177,21 +177,28 @@ fn read_cell(
     Ok(length)
 }
 
-/// The value that a difference gives, after which the arc goes on; `None` where the value has a fault, and
-/// then the arc is as it was. It is called for the few differences that aren't of order 3, or whose value
+/// The value that a difference gives, after which the arc goes on. `None` comes where the value has a fault;
+/// after it the arc is as it was. It is called for the few differences that aren't of order 3, or whose value
 /// doesn't fit. In the loop over the cells the place for the answer of [`Near::apply`] would be cleared for
-/// each cell.
+/// each cell. It is given all second parts and an index, as [`write_value`] is.
 #[inline(never)]
-fn apply_step(near: &mut Near<OBSERVATION_WIDTH>, far: &mut Far, number: i64) -> Option<i64>
+fn apply_step(
+    near: &mut Near<OBSERVATION_WIDTH>,
+    far: &mut [Far],
+    index: usize,
+    number: i64,
+) -> Option<i64>
     requires short { IsShort number }
-    ensures value { IfSome result
-        (λ value. value_of_code OBSERVATION_WIDTH (Step number) (whole_arc near.old far.old) ≡ Ok
-        (Some value)) }
-    ensures arc { OnSome result (whole_arc near.new far.new ≡ arc_of_code (Step number)
-        (whole_arc near.old far.old)) }
-    ensures none { IfNone result (whole_arc near.new far.new ≡ whole_arc near.old far.old) }
+    requires within { index < length far.old }
+    ensures step { MatchOption result (whole_arc near.new (slice_index_or far.new index [])
+        ≡ whole_arc near.old (slice_index_or far.old index []))
+        (λ value. (value_of_code OBSERVATION_WIDTH (Step number)
+        (whole_arc near.old (slice_index_or far.old index [])) ≡ Ok (Some value))
+        × (whole_arc near.new (slice_index_or far.new index [])
+        ≡ arc_of_code (Step number) (whole_arc near.old (slice_index_or far.old index [])))) }
+    ensures others { far.new ≡ slice_set far.old index (slice_index_or far.new index []) }
 {
-    match near.apply(far, Code::Step(number)) {
+    match near.apply(&mut far[index], Code::Step(number)) {
         Ok(Some(value)) => Some(value),
         _ => None,
     }
@@ -233,7 +240,7 @@ fn read_cell_fast(
     if near.apply_third(number).is_some() {
         return Some(taken);
     }
-    apply_step(near, &mut far[index], number)?;
+    apply_step(near, far, index, number)?;
     Some(taken)
 }
 

@@ -13,7 +13,7 @@ use Rattle.crx_compact.proofs.cells.read_cell_fast.Goals as goal
 use Rattle.std.proofs.lemmas.Grind.{common_steps}
 use Rattle.crx_compact.specs.Arcs.{NearArc, whole_arc, whole_arcs}
 use Rattle.crx_compact.proofs.cells.read_cell_fast.Goals.{After-apply_step}
-use Rattle.crx_compact.proofs.arcs.Parts.{arc-is, arc-there, arcs-set, arcs-set-near}
+use Rattle.crx_compact.proofs.arcs.Parts.{arc-there, arcs-set, arcs-set-near}
 
 -- what a cell takes with its blank, where one is in the line
 taken : (line : List ℕ) (at n len more : ℕ) → at ≤ length line → n ≡ length (first_cell (drop at line))
@@ -82,24 +82,35 @@ returns-then-is_some c =
     })
 
 -- the arc as it was
-same : (c : After-apply_step) → whole_arc c.apply_third.new.self c.index-far-index.result
+same : (c : After-apply_step)
+    → whole_arc c.apply_third.new.self (slice_index_or c.args.far.now c.args.index [])
     ≡ slice_index_or (whole_arcs c.args.near.now c.args.far.now) c.args.index None
 same c =
-    let is = arc-is _ _ _ _ _ c.index-near-index.is c.index-far-index.is c.requires.within c.requires.apart in
+    let there = arc-there c.args.near.now c.args.far.now c.args.index c.index-near-index.result
+    c.requires.within in
+    let is = c.index-near-index.is in
     search rules
+
+-- the arcs with the one at the place that is left
+left : (c : After-apply_step) → whole_arcs (slice_set c.args.near.now c.args.index c.apply_step.new.near)
+    c.apply_step.new.far ≡ slice_set (whole_arcs c.args.near.now c.args.far.now) c.args.index
+    (whole_arc c.apply_step.new.near (slice_index_or c.apply_step.new.far c.args.index []))
+left c = ap (whole_arcs (slice_set c.args.near.now c.args.index c.apply_step.new.near))
+    c.apply_step.ensures.others ∙ arcs-set c.args.near.now c.args.far.now c.args.index c.apply_step.new.near
+    (slice_index_or c.apply_step.new.far c.args.index []) c.requires.within c.requires.apart
 
 pub returns-in_err-apply_step : goal.returns-in_err-apply_step
 returns-in_err-apply_step c =
-    let same = same (goal.at.returns-in_err-apply_step c).After-apply_step in
-    let left = arcs-set c.args.near.now c.args.far.now c.args.index c.apply_step.new.near c.apply_step.new.far
-    c.requires.within c.requires.apart in
+    let step = (goal.at.returns-in_err-apply_step c).After-apply_step in
+    let same = same step in
+    let left = left step in
     search (rules, set-get_or)
 
 pub returns : goal.returns
 returns c =
     let counted = c.cell_length-characters.ensures.value c.in-Some.ensures.few in
     let next = taken _ _ _ _ _ c.requires.before counted c.len.ensures.value c.from.ensures in
-    let same = same (goal.at.returns c).After-apply_step in
-    let left = arcs-set c.args.near.now c.args.far.now c.args.index c.apply_step.new.near c.apply_step.new.far
-    c.requires.within c.requires.apart in
+    let step = (goal.at.returns c).After-apply_step in
+    let same = same step in
+    let left = left step in
     search (rules, set-get_or, next.0, next.1)
