@@ -18,7 +18,9 @@ ghost use Rattle.crx_text.specs.declared.code.Code.TheVariants.{Missing, Step};
 use crate::arc::{Far, Near};
 use crx_base::limits::{DIGITS_LIMIT, OBSERVATION_WIDTH};
 use crx_base::{Fault, Padded};
-use crx_text::{Code, cell_length, code_before_blank, put_blanks, step_of_length, write_cell};
+use crx_text::{
+    Code, cell_length, code_before_blank, put_blanks, step_of_length, write_cell, write_difference,
+};
 
 /// The room for a cell in a satellite line: a code with its order, `&` and minus, and three bytes more, since
 /// digits are written four at a time. The cell's blank is one of the three.
@@ -70,10 +72,11 @@ fn write_value_fast(
 {
     let Some(present) = value else {
         near.end();
-        return write_cell(bytes, at, Code::Missing);
+        bytes[at] = b' ';
+        return at + 1;
     };
     match near.push_third(present) {
-        Some(difference) => write_cell(bytes, at, Code::Step(difference)),
+        Some(difference) => write_difference(bytes, at, difference),
         None => write_value(near, far, index, present, bytes, at),
     }
 }

@@ -34,6 +34,14 @@ pub fn is_same_text(text: &[u8], other: &[u8]) -> bool
         9..=16 => has_same_ends::<8>(text, other),
         17..=32 => has_same_ends::<16>(text, other),
         33..=64 => has_same_ends::<32>(text, other),
-        _ => text == other,
+        _ => is_same_long(text, other),
     }
+}
+
+// Whether two texts are the same, as few of other lengths are compared.
+#[inline(never)]
+fn is_same_long(text: &[u8], other: &[u8]) -> bool
+    ensures same { MatchBool result (text.now ≡ other.now) (text.now ≢ other.now) }
+{
+    text == other
 }

@@ -75,6 +75,21 @@ pub fn write_cell(buffer: &mut [u8], at: usize, code: Code) -> usize
     end + 1
 }
 
+/// Writes a difference and a blank as [`write_cell`] writes the code of the difference, which isn't made and
+/// asked for what it is.
+#[inline(always)]
+#[tactic(auto, using(crate::proofs::CodeTexts::code_text_start, crate::proofs::CodeTexts::start_written))]
+pub fn write_difference(buffer: &mut [u8], at: usize, difference: i64) -> usize
+    requires short { IsShort difference }
+    requires room { at + length (code_text (Step difference)) + 3 ≤ length buffer.old }
+    ensures written { take result buffer.new ≡ take at buffer.old ++ (code_text (Step difference) ++ 32 ∷ []) }
+    ensures within { result ≡ at + length (code_text (Step difference)) + 1 }
+{
+    let end = write_signed(buffer, at, difference);
+    buffer[end] = b' ';
+    end + 1
+}
+
 // Writes a code's text from an index on, and answers the index after it.
 #[inline(always)]
 #[tactic(auto, using(crate::proofs::CodeTexts::code_text_start, crate::proofs::CodeTexts::start_written))]

@@ -20,6 +20,7 @@ pub mod text;
 
 pub use code::{
     Code, cell_length, code_before_blank, code_print, code_read, step_of_length, write_cell,
+    write_difference,
 };
 pub use copies::{copy_text, put_blanks};
 pub use crx_base::{At, Fault};

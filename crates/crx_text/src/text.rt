@@ -95,14 +95,15 @@ impl Text {
     }
 }
 
-/// A text without the blanks at its end. Part of its callers, as a call takes 8 instructions for each line.
+/// A text without the blanks at its end. Part of its callers, as a call takes 8 instructions for each line;
+/// three blanks and more are left to one, since few lines end so.
 #[inline(always)]
 #[tactic(auto, using(crate::proofs::EndBlanks::ended_at, crate::proofs::EndBlanks::blank_passed, crate::proofs::EndBlanks::nothing_after))]
 pub fn trim_end(text: &[u8]) -> &[u8]
     ensures value { result.now ≡ without_end_blanks text.now }
     ensures shorter { length result.now ≤ length text.now }
 {
-    let mut end = text.len();
+    let end = text.len();
     if end > 2 {
         if text[end - 1] != b' ' {
             return &text[..end];
@@ -116,6 +117,17 @@ pub fn trim_end(text: &[u8]) -> &[u8]
             return &text[..end - 2];
         }
     }
+    trim_many(text)
+}
+
+// A text without the blanks at its end, of which there may be many.
+#[inline(never)]
+#[tactic(auto, using(crate::proofs::EndBlanks::ended_at, crate::proofs::EndBlanks::blank_passed, crate::proofs::EndBlanks::nothing_after))]
+fn trim_many(text: &[u8]) -> &[u8]
+    ensures value { result.now ≡ without_end_blanks text.now }
+    ensures shorter { length result.now ≤ length text.now }
+{
+    let mut end = text.len();
     while end >= LANES {
         let start = end - LANES;
         let others = u8x16::from_slice(&text[start..])

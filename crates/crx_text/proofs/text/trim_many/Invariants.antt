@@ -1,6 +1,6 @@
 use Rattle.std.proofs.Common.{◌≡◌, ◌≤◌, ℕ, List, [], length, drop}
 use Rattle.crx_text.specs.meaning.Columns.{without_end_blanks}
-use Rattle.crx_text.proofs.text.trim_end.Given as goal
+use Rattle.crx_text.proofs.text.trim_many.Given as goal
 
 -- only blanks were passed
 abbrev pub passed : List ℕ → ℕ → Type 0

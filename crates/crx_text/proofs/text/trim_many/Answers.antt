@@ -1,11 +1,11 @@
 use Rattle.std.proofs.Common.{◌-◌, ℕ, drop, ap, ◌∙◌, arith}
 use Rattle.crx_text.proofs.EndBlanks.{found_within, found_some, found_none}
-use Rattle.crx_text.proofs.text.trim_end.Goals.{then-end-ge-EIGHT+else-count-gt0-2, else-end-ge-EIGHT}
+use Rattle.crx_text.proofs.text.trim_many.Goals.{then-end-ge-EIGHT+else-count-gt0-2, else-end-ge-EIGHT}
 use Rattle.crx_text.specs.meaning.Columns.{without_end_blanks}
-use Rattle.crx_text.proofs.text.trim_end.Goals as goal
+use Rattle.crx_text.proofs.text.trim_many.Goals as goal
 
-pub slice_bounds-result-end-then-count-gt0 : goal.slice_bounds-result-end-then-count-gt0
-slice_bounds-result-end-then-count-gt0 c =
+pub slice_bounds-result-end : goal.slice_bounds-result-end
+slice_bounds-result-end c =
     found_within _ _ c.loop-end.invariant.0 c.loop-end.invariant.1 16
     _ (omega arith) (omega (arith, c.loop-end-test.true))
 
