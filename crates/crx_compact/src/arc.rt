@@ -131,6 +131,23 @@ fn put_four(differences: &mut [i64], value: i64, first: i64, second: i64, third:
     differences[3] = third;
 }
 
+/// Does what [`go_on`] does for an order of at most 3. All four differences are made, and those above the
+/// order, which may have wrapped, mean nothing: a loop's end can't be foretold where arcs are young.
+#[inline(always)]
+fn go_on_near(differences: &mut [i64; NEAR_LIMIT], order: usize, value: i64) -> i64
+    requires few { order < NEAR_LIMIT }
+    requires below { AreBelow value_bound (take order differences.old) }
+    requires next { IsBelow value_bound value }
+    ensures after { take (order + 1) differences.new ≡ differences_after value (take order differences.old) }
+    ensures highest { result ≡ highest (differences_after value (take order differences.old)) }
+{
+    let first = value.wrapping_sub(differences[0]);
+    let second = first.wrapping_sub(differences[1]);
+    let third = second.wrapping_sub(differences[2]);
+    put_four(differences, value, first, second, third);
+    differences[order]
+}
+
 /// The value after the one that some differences of order 0, 1, .. are at, by the difference of the next
 /// order.
 fn value_after(differences: &[i64], number: i64) -> i64
@@ -200,7 +217,7 @@ fn go_on_apart(
     ensures far { AreBelow (order_bound 4) far.new }
 {
     if order < NEAR_LIMIT {
-        return go_on(near, order, value);
+        return go_on_near(near, order, value);
     }
     go_on_far(near, far, order, value)
 }

@@ -7,10 +7,16 @@ use Rattle.crx_compact.proofs.Words.{value_of_code, arc_of_code, ◌+ℤ◌, ◌
 use Rattle.crx_compact.proofs.Words.{drop-set-lt, differences_after, onto_sum, differences_by, highest}
 use Rattle.crx_compact.proofs.{Words.{in_range}, arcs.Bounds.ten-more}
 use Rattle.std.proofs.Common.{FitsSigned, to_z, of_z, append-nil}
+use Rattle.std.proofs.lemmas.Int.{wrapping_sub_onto, int_wrap_fits}
+use Rattle.std.specs.Int.{int_wrap}
+use Rattle.std.specs.Prelude.{◌%◌}
+use Rattle.std.proofs.Common.{sym, ◌∙◌}
+use Rattle.std.proofs.Math.Nat.{mod-lt}
+use mir.ValLaws.{of_z_fits}
 use borrow.Rule.Slice.PartMut.{put_mid}
 use Rattle.std.proofs.{Math.Nat.add-zero, Common.subst}
 use Rattle.std.specs.Prelude.{◌↔◌}
-use Rattle.std.proofs.{lemmas.List.{drop_all, length-take, length-take-le, take_all, take_at, take-append-drop}, Math.Nat.pow-le-pow_right}
+use Rattle.std.proofs.{lemmas.List.{drop_all, length-take, length-take-le, take_all, take_at, take_more, take-append-drop}, Math.Nat.pow-le-pow_right}
 use Rattle.crx_compact.specs.Arcs.{IsBelow, AreBelow, value_bound, kept_tail, IsArcInRange, IsNewestWithin, whole_arc}
 use Rattle.crx_compact.specs.Arcs.{order_bound}
 use Rattle.crx_compact.specs.meaning.Differences.{newest}
@@ -173,6 +179,62 @@ take-take : (n m : ℕ) (ds : List ℤ) → take n (take m ds) ≡ take (min n m
 take-take (suc n) (suc m) (d ∷ ds) = grind (arith, common_steps, take-take n m ds)
 take-take n m ds = grind (arith, common_steps)
 
+-- what is left of a difference in 64 bits, where it fits them
+wrapped-difference : (bits : ℕ) (value before : ℤ) → bits < 2 ^ 64 → to_z w64 bits ≡ value
+    → FitsSigned w64 before → FitsSigned w64 (value -ℤ before)
+    → to_z w64 ((bits + (2 ^ 64 - of_z w64 before)) % 2 ^ 64) ≡ value -ℤ before
+wrapped-difference bits value before room same f g =
+    wrapping_sub_onto w64 bits before room f ∙ ap (λ v. int_wrap w64 (v -ℤ before)) same
+    ∙ int_wrap_fits w64 (value -ℤ before) g
+
+-- the differences up to order 3 at a next value, of which those above an order mean nothing
+near-steps : (order : ℕ) (value a b c d first second third : ℤ) (ds : List ℤ) → order < 4
+    → (1 ≤ order → first ≡ value -ℤ a) → (2 ≤ order → second ≡ value -ℤ a -ℤ b)
+    → (3 ≤ order → third ≡ value -ℤ a -ℤ b -ℤ c)
+    → take (order + 1) (value ∷ first ∷ second ∷ third ∷ [])
+    ≡ differences_after value (take order (a ∷ b ∷ c ∷ d ∷ ds))
+near-steps zero value a b c d f s t ds few one two three = refl
+near-steps (suc zero) value a b c d f s t ds few one two three = rw (one (omega arith)) refl
+near-steps (suc (suc zero)) value a b c d f s t ds few one two three =
+    rw (one (omega arith), two (omega arith)) refl
+near-steps (suc (suc (suc zero))) value a b c d f s t ds few one two three =
+    rw (one (omega arith), two (omega arith), three (omega arith)) refl
+near-steps (suc (suc (suc (suc n)))) value a b c d f s t ds few one two three = absurd (omega (arith, few))
+
+-- the first of them are as small
+young : (n order : ℕ) → n ≤ order → (ds : List ℤ) → AreBelow value_bound (take order ds)
+    → AreBelow value_bound (take n ds)
+young n order few ds h =
+    let same : min n order ≡ n = omega (arith, few) in
+    rw (take-take n order ds, same) at (take-below value_bound n (take order ds) h)
+
+pub near-after : (order : ℕ) (value : ℤ) (ds new : List ℤ) (one two three : ℕ)
+    → one ≡ (of_z w64 value + (2 ^ 64 - of_z w64 (slice_index_or ds 0 (pos 0)))) % 2 ^ 64
+    → two ≡ (one + (2 ^ 64 - of_z w64 (slice_index_or ds 1 (pos 0)))) % 2 ^ 64
+    → three ≡ (two + (2 ^ 64 - of_z w64 (slice_index_or ds 2 (pos 0)))) % 2 ^ 64
+    → take 4 new ≡ value ∷ to_z w64 one ∷ to_z w64 two ∷ to_z w64 three ∷ []
+    → order < 4 → 3 < length ds → IsBelow value_bound value → AreBelow value_bound (take order ds)
+    → take (order + 1) new ≡ differences_after value (take order ds)
+near-after order value (a ∷ b ∷ c ∷ d ∷ ds) new one two three e f g put few long h hs =
+    let room : (n : ℕ) → n % 2 ^ 64 < 2 ^ 64 = λ n. mod-lt n (omega arith) in
+    let value_fits : FitsSigned w64 value = omega (arith, ints, h) in
+    let first : 1 ≤ order → to_z w64 one ≡ value -ℤ a = λ some.
+    let below = young 1 order some (a ∷ b ∷ c ∷ d ∷ ds) hs in
+    rw e (wrapped-difference (of_z w64 value) value a (of_z_fits w64 value value_fits).fits
+    (same-bits value value_fits) (omega (arith, ints, below)) (omega (arith, ints, h, below))) in
+    let second : 2 ≤ order → to_z w64 two ≡ value -ℤ a -ℤ b = λ some.
+    let below = young 2 order some (a ∷ b ∷ c ∷ d ∷ ds) hs in
+    rw f (wrapped-difference one (value -ℤ a) b (rw e (room _)) (first (omega (arith, some)))
+    (omega (arith, ints, below)) (omega (arith, ints, h, below))) in
+    let third : 3 ≤ order → to_z w64 three ≡ value -ℤ a -ℤ b -ℤ c = λ some.
+    let below = young 3 order some (a ∷ b ∷ c ∷ d ∷ ds) hs in
+    rw g (wrapped-difference two (value -ℤ a -ℤ b) c (rw f (room _)) (second (omega (arith, some)))
+    (omega (arith, ints, below)) (omega (arith, ints, h, below))) in
+    let same : min (order + 1) 4 ≡ order + 1 = omega (arith, few) in
+    sym (ap (λ n. take n new) same) ∙ sym (take-take (order + 1) 4 new) ∙ ap (take (order + 1)) put
+    ∙ near-steps order value a b c d _ _ _ ds few first second third
+near-after order value ds new one two three e f g put few long h hs = absurd (omega (arith, long))
+
 -- a value that fits its columns is below the bound of all
 pub within-below : (width : ℕ) (value : ℤ) → width ≤ 15 → IsWithin width value → IsBelow value_bound value
 within-below width value few h =
@@ -278,6 +340,21 @@ highest-short width order count last value ds e k h = highest-below 0 (differenc
     (omega (arith, length-after value (take last ds), length-take last ds, k.order_within))
     (after-below value_bound value
     (take last ds) (within-below width value k.few_columns h) (lower-below order count last ds e k.below))
+
+-- the difference of an order at a next value is the highest of those up to it
+pub near-highest : (order : ℕ) (value : ℤ) (ds new : List ℤ) → order < 4 → order < length new
+    → IsBelow value_bound value → AreBelow value_bound (take order ds)
+    → take (order + 1) new ≡ differences_after value (take order ds)
+    → to_z w64 (of_z w64 (slice_index_or new order (pos 0))) ≡ highest (differences_after value (take order ds))
+near-highest order value ds new few long h hs after =
+    let all = differences_after value (take order ds) in
+    let last : take (order + 1) new ≡ take order new ++ slice_index_or new order (pos 0) ∷ [] =
+    take_more new order (pos 0) long in
+    let is : slice_index_or new order (pos 0) ≡ highest all =
+    sym (highest-last (take order new) (slice_index_or new order (pos 0))) ∙ ap highest (sym last ∙ after) in
+    let short = highest-below 0 all (omega (arith, few, length-after value (take order ds), length-take order ds))
+    (after-below value_bound value (take order ds) h hs) in
+    rw is (same-bits (highest all) (omega (arith, ints, short)))
 
 -- ---- in two parts
 
