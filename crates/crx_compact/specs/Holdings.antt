@@ -27,6 +27,7 @@ satellites_with one other = record one {
   places = other.places;
   placed = other.placed;
   live = other.live;
+  next = other.next;
   hints = other.hints;
   alloc = other.alloc;
 }

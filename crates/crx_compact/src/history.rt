@@ -183,7 +183,7 @@ impl History {
             Some(is_new) => is_new,
             None => {
                 self.satellites.prepare(*name, count)?;
-                self.satellites.place(name, count).unwrap()
+                self.satellites.bring(name, count).unwrap()
             }
         };
         if !is_new {
@@ -428,7 +428,7 @@ fn read_names(
             Some(is_new) => is_new,
             None => {
                 prepare_names(types, text, count, satellites)?;
-                satellites.place(&name, cells).unwrap()
+                satellites.bring(&name, cells).unwrap()
             }
         };
         if !is_new {

@@ -52,6 +52,8 @@ pub struct Satellites {
     placed: usize,
     /// How many mean something: those that have come, and those of the epoch before that haven't.
     live: usize,
+    /// The place in the order of the one that mostly comes next: others before it may be left out.
+    next: usize,
     /// By the place of an identifier's mark, the index where it mostly is. This is for speed alone: a look-up
     /// by the map takes 100 instructions.
     hints: [u16; MARKS],
@@ -70,7 +72,8 @@ impl Model for Satellites {
 
     ghost invariant = { λ satellites. (satellites.placed ≤ satellites.live)
         × (satellites.live ≤ length satellites.known.entries)
-        × IsOrder satellites.order.items satellites.places.items (length satellites.known.entries) };
+        × IsOrder satellites.order.items satellites.places.items (length satellites.known.entries)
+        × (satellites.placed ≤ satellites.next) };
 }
 
 impl Satellites {
@@ -84,6 +87,7 @@ impl Satellites {
             places: Vec::new(alloc),
             placed: 0,
             live: 0,
+            next: 0,
             hints: [0; MARKS],
             alloc,
         }
@@ -95,6 +99,7 @@ impl Satellites {
     {
         self.live = self.placed;
         self.placed = 0;
+        self.next = 0;
     }
 
     /// How many have come.
@@ -109,30 +114,39 @@ impl Satellites {
     /// stored of it is the next row. `false` comes where it has come already, and `None` where it isn't known
     /// or has too little room; then nothing changes.
     ///
-    /// The next one in the order of the epoch before mostly comes, which one comparison finds. (The
-    /// identifier is borrowed, since a copy takes 8 instructions.)
+    /// The one behind that which came last, in the order of the epoch before, mostly comes, which one
+    /// comparison finds. (The identifier is borrowed, since a copy takes 8 instructions.)
     #[inline(always)]
     pub(crate) fn place(&mut self, name: &[u8; NAME_WIDTH], count: usize) -> Option<bool>
         ensures { AnswersPlacing name.now count self.old self.new result }
     {
-        if self.placed < self.live {
-            let next = number_at(&self.order, self.placed);
-            if is_same_identifier(key_at(&self.known, next), *name) {
-                let (_, satellite) = self.known.get_index(next).unwrap();
+        if self.next < self.live {
+            let index = number_at(&self.order, self.next);
+            if is_same_identifier(key_at(&self.known, index), *name) {
+                let (_, satellite) = self.known.get_index(index).unwrap();
                 if !satellite.has_room(count) {
                     return None;
                 }
+                if self.next == self.placed {
+                    self.placed += 1;
+                    self.next += 1;
+                    return Some(true);
+                }
+                // Those before it are left out. Where it is the last, another has taken the place of what is
+                // expected behind it, and with this exchange that is at the same place.
+                exchange(&mut self.order, &mut self.places, self.placed, self.next);
                 self.placed += 1;
+                self.next = (self.next + 1).min(self.live - 1);
                 return Some(true);
             }
         }
         self.bring(name, count)
     }
 
-    /// The satellite with an identifier comes, for [`Satellites::place`], where it isn't the next one in the
-    /// order of the epoch before.
+    /// The satellite with an identifier comes, for [`Satellites::place`], where it isn't the one that is
+    /// expected.
     #[inline(never)]
-    fn bring(&mut self, name: &[u8; NAME_WIDTH], count: usize) -> Option<bool>
+    pub(crate) fn bring(&mut self, name: &[u8; NAME_WIDTH], count: usize) -> Option<bool>
         ensures { AnswersPlacing name.now count self.old self.new result }
     {
         let near = usize::from(self.hints[place_of_mark(*name)]);
@@ -150,6 +164,7 @@ impl Satellites {
         if place < self.live {
             exchange(&mut self.order, &mut self.places, self.placed, place);
             self.placed += 1;
+            self.next = place + 1;
             return Some(true);
         }
         let (_, satellite) = self.known.pair_mut(found);
@@ -158,6 +173,7 @@ impl Satellites {
         exchange(&mut self.order, &mut self.places, self.placed, self.live);
         self.live += 1;
         self.placed += 1;
+        self.next = place_after(self.next, self.placed, self.live);
         Some(true)
     }
 
@@ -191,11 +207,12 @@ impl Satellites {
             }
         }
         self.placed = count;
+        self.next = count;
         true
     }
 
     /// Asks for room for a satellite of so many types. No row changes, and after `Ok` it is known.
-    #[inline(always)]
+    #[inline(never)]
     pub(crate) fn prepare(&mut self, name: [u8; NAME_WIDTH], count: usize) -> Result<(), AllocError>
         requires allowed { count ≤ TYPES_LIMIT }
         ensures asked { AsksRoom (HasRoom name count) self.old self.new result }
@@ -330,8 +347,21 @@ fn find_or_add(
     }
 }
 
-/// Exchanges what is at two places of an order.
+/// The place of the one that is expected, once another came anew: where it was the first of those that
+/// haven't come, it is the last of them now.
 #[inline(always)]
+fn place_after(expected: usize, placed: usize, live: usize) -> usize
+    requires some { 0 < live }
+    ensures behind { placed ≤ result }
+{
+    if expected >= placed {
+        return expected;
+    }
+    placed.max(live - 1)
+}
+
+/// Exchanges what is at two places of an order.
+#[inline(never)]
 fn exchange(order: &mut Vec<usize>, places: &mut Vec<usize>, one: usize, other: usize)
     requires order { IsOrder order.old.items places.old.items (length order.old.items) }
     requires within { (one < length order.old.items) × (other < length order.old.items) }

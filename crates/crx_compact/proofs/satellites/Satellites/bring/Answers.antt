@@ -64,4 +64,5 @@ invariant_of-self-2 c =
       omega (arith, c.self.invariant.0),
       omega (arith, stands.1, c.if-place-self-2.false),
       subst (IsOrder _ _) (c.exchange-2.ensures.order.counted ∙ c.self.invariant.2.counted) c.exchange-3.ensures.order,
+      c.place_after-self-inside.ensures.behind,
     )

@@ -30,7 +30,7 @@ invariant_of-self-2 c =
     let more = none-lost c.self.inside.known.entries known c.in_ok-found.ensures.found.known in
     let all = c.self.invariant.1 in
     rw (length-set_value_at known c.in_ok-found.found c.make_room.new.self)
-    (c.self.invariant.0, omega (arith, all, more), c.find_or_add.ensures.order)
+    (c.self.invariant.0, omega (arith, all, more), c.find_or_add.ensures.order, c.self.invariant.3)
 
 pub returns-clause-asked : goal.returns-clause-asked
 returns-clause-asked c =
