@@ -11,8 +11,8 @@ window_with one other = record one {
   start = other.start;
   end = other.end;
   ordered = other.ordered;
-  within = other.within;
-  whole = other.whole;
+  padded = other.padded;
+  memory = other.memory;
 }
 
 -- a reader of lines, with the parts of another

@@ -1,7 +1,7 @@
 -- What a clause reads of a buffer. No public clause cites this module but by what a reader holds.
-use Rattle.std.specs.Prelude.{◌≡◌, ◌-◌, ◌≤◌, ℕ, List, length, slice_index, slice_range}
+use Rattle.std.specs.Prelude.{◌≡◌, ◌+◌, ◌-◌, ◌≤◌, ℕ, List, length, slice_index, slice_range}
 use Rattle.crx_base.specs.meaning.Lines.{InputLine}
-use Rattle.crx_lines.specs.declared.window.TheConstants.{SIZE}
+use Rattle.crx_base.specs.declared.padded.TheConstants.{PADDING}
 use Rattle.crx_lines.specs.declared.window.Cut.{Cut}
 use Rattle.crx_lines.specs.declared.window.Window.{Window}
 
@@ -9,9 +9,9 @@ use Rattle.crx_lines.specs.declared.window.Window.{Window}
 abbrev pub kept : Window → List ℕ
 kept w = slice_range w.bytes.items w.start w.end
 
--- a line that was taken is within the window, as long as its places say, and a blank is behind it
+-- a line that was taken is within the window, as long as its places say, and a blank and more bytes are behind it
 abbrev pub IsCut : List ℕ → Cut → Type 0
-IsCut bytes cut = (cut.from ≤ cut.to) × (cut.to ≤ SIZE) × (slice_index bytes cut.to ≡ 32)
+IsCut bytes cut = (cut.from ≤ cut.to) × (cut.to + PADDING ≤ length bytes) × (slice_index bytes cut.to ≡ 32)
     × (length (slice_range bytes cut.from cut.to) ≡ cut.to - cut.from)
 
 -- the line that was taken, out of the bytes of the window

@@ -1,5 +1,5 @@
 //! A law over the definitions of this crate: it is the contract of a function that does nothing.
-ghost use Rattle.std.specs.Prelude.{◌≡◌, ◌+◌, ◌≤◌, length};
+ghost use Rattle.std.specs.Prelude.{◌≡◌, ◌+◌, ◌≤◌, length, vec_capacity};
 ghost use Rattle.crx_lines.specs.Holdings.{line_reader_with, window_with};
 ghost use Rattle.crx_lines.specs.Window.{kept};
 ghost use Rattle.crx_lines.specs.declared.line.LineReader.{LineReader};
@@ -9,12 +9,12 @@ ghost use Rattle.crx_base.specs.declared.limits.TheConstants.{INPUT_LIMIT};
 ghost use Rattle.crx_base.specs.declared.padded.TheConstants.{PADDING};
 
 /// What a reader of lines holds, in full: one that takes over these parts of another is that other. So there
-/// is no part beside them, in which a record of the past lines could grow; its buffer has one size, and its
-/// numbers are within the limit of an input.
+/// is no part beside them, in which a record of the past lines could grow; its buffer has memory of one size,
+/// and its numbers are within the limit of an input.
 pub fn line_reader_holds()
     ensures window { (one other : Window) → window_with one other ≡ other }
     ensures reader { (one other : LineReader) → line_reader_with one other ≡ other }
-    ensures size { (reader : LineReader) → length reader.window.value.bytes.items ≡ SIZE + PADDING }
+    ensures size { (reader : LineReader) → vec_capacity reader.window.value.bytes ≡ SIZE + PADDING }
     ensures kept { (reader : LineReader) → length (kept reader.window.value) ≤ SIZE }
     ensures passed { (reader : LineReader) → reader.passed ≤ INPUT_LIMIT }
     ensures number { (reader : LineReader) → reader.number ≤ INPUT_LIMIT }

@@ -1,5 +1,5 @@
 //! The buffer of a reader of lines: bytes that were given and are pending, and room after them.
-ghost use Rattle.std.specs.Prelude.{◌≡◌, ℕ, ◌+◌, ◌-◌, ◌<◌, ◌≤◌, ◌⊎◌, List, [], ◌++◌, length, take, drop, slice_range, IfOk, IfErr, OnErr, MatchBool, if◌then◌else◌};
+ghost use Rattle.std.specs.Prelude.{◌≡◌, ℕ, ◌+◌, ◌-◌, ◌<◌, ◌≤◌, ◌⊎◌, List, [], ◌++◌, length, take, drop, slice_range, vec_capacity, IfOk, IfErr, OnErr, MatchBool, if◌then◌else◌};
 ghost use Rattle.crx_lines.specs.meaning.Devices.{ends_after, tally_of};
 ghost use Rattle.crx_lines.specs.Devices.{EndsFill};
 ghost use Rattle.crx_base.specs.declared.limits.TheConstants.{LINE_LIMIT};
@@ -12,16 +12,16 @@ use crx_base::limits::LINE_LIMIT;
 use crx_base::padded::PADDING;
 use crx_base::{Fault, Padded};
 use std::alloc::{AllocError, Global};
+use std::mem;
 
-/// How many bytes are set to zero at once: the C library sets more of them by an instruction that repeats
-/// itself for each byte.
+/// How many bytes a read finds in use and free at least; twice as many are in use at first.
 const PIECE: usize = 2048;
 
-/// The room that a read finds at least, where something is held: a line's content, CR and LF.
+/// How many bytes of the window are free at least before a read: a line's content, CR and LF.
 const LEAST_ROOM: usize = LINE_LIMIT + 2;
 
 /// How many bytes are held at once, 18 KiB: two of the longest lines, in whole pieces, and dozens of common
-/// ones. A run over a small file touches less memory so, and to read more at once is no faster.
+/// ones. To read more at once is no faster.
 pub(crate) const SIZE: usize = (2 * LEAST_ROOM / PIECE + 1) * PIECE;
 
 /// Where the content of a line that was taken is in the window, and whether LF alone ended the line.
@@ -32,15 +32,16 @@ pub(crate) struct Cut {
     pub(crate) is_plain: bool,
 }
 
-/// The bytes from `start` to `end` are given and pending. Those from `SIZE` on are behind all lines.
+/// The bytes from `start` to `end` are given and pending, and as many as pad a line are behind them. There is
+/// memory for `SIZE` bytes and these; more of it comes into use as it is filled.
 #[derive(Drop)]
 pub(crate) struct Window {
     bytes: Vec<u8>,
     start: usize,
     end: usize,
     ghost ordered: { start ≤ end },
-    ghost within: { end ≤ SIZE },
-    ghost whole: { length bytes.items ≡ SIZE + PADDING },
+    ghost padded: { end + PADDING ≤ length bytes.items },
+    ghost memory: { vec_capacity bytes ≡ SIZE + PADDING },
 }
 
 impl Window {
@@ -52,10 +53,7 @@ impl Window {
         ensures { IfOk result (λ window. kept window ≡ []) }
     {
         let mut bytes = Vec::with_capacity(alloc, SIZE + PADDING)?;
-        for piece in 0..SIZE / PIECE {
-            bytes.resize((piece + 1) * PIECE, 0)?;
-        }
-        bytes.resize(SIZE + PADDING, 0)?;
+        lengthen(&mut bytes, 2 * PIECE);
         Ok(Window {
             bytes,
             start: 0,
@@ -135,6 +133,18 @@ impl Window {
         }
     }
 
+    /// Brings as many bytes again into use where few are free. So a run over a small file touches little memory.
+    fn use_more(&mut self)
+        requires { self.old.end + LEAST_ROOM ≤ SIZE }
+        ensures kept { kept self.new ≡ kept self.old }
+        ensures room { self.new.end + PADDING < length self.new.bytes.items }
+    {
+        if self.bytes.len() - PADDING - self.end < PIECE {
+            let count = (2 * self.bytes.len()).min(SIZE + PADDING);
+            lengthen(&mut self.bytes, count);
+        }
+    }
+
     /// Asks the reader once, for at most so many bytes, and holds them after the others. Where none may come,
     /// a byte is a fault.
     pub(crate) fn fill<R: Source>(&mut self, reader: &mut R, most: u64) -> Result<usize, Fault>
@@ -158,8 +168,9 @@ impl Window {
             };
         }
         self.move_to_front();
+        self.use_more();
         let end = self.end;
-        let room = most.min((SIZE - end) as u64) as usize;
+        let room = most.min((self.bytes.len() - PADDING - end) as u64) as usize;
         match reader.read(&mut self.bytes[end..end + room]) {
             Ok(count) => {
                 self.end = end + count;
@@ -168,4 +179,21 @@ impl Window {
             Err(_) => Err(Fault::ReadFailed),
         }
     }
+}
+
+/// Makes a list have so many bytes, for which it has memory, by zeros. As a value the list is filled by one
+/// call of the C library.
+fn lengthen(bytes: &mut Vec<u8>, count: usize)
+    requires longer { length bytes.old.items ≤ count }
+    requires memory { count ≤ vec_capacity bytes.old }
+    ensures counted { length bytes.new.items ≡ count }
+    ensures kept { take (length bytes.old.items) bytes.new.items ≡ bytes.old.items }
+    ensures memory { vec_capacity bytes.new ≡ vec_capacity bytes.old }
+{
+    let alloc = *bytes.allocator();
+    let mut filled = mem::replace(bytes, Vec::new(alloc));
+    while filled.len() < count {
+        filled.push_reserved(0);
+    }
+    *bytes = filled;
 }
