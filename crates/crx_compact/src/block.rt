@@ -126,7 +126,7 @@ impl Block {
         ensures lines { self.new.lines ≡ self.old.lines ++ line.now ∷ [] }
         ensures taken { HasTakenLine self.old self.new }
     {
-        use_bytes(&mut self.bytes, self.filled);
+        use_bytes(&mut self.bytes, self.filled, line.len() + 1);
         put_line(&mut self.bytes, self.filled, line);
         self.lengths[self.count] = line.len() as u16;
         self.count += 1;
@@ -151,7 +151,7 @@ impl Block {
             ++ line_after values.now flags.now satellite.old ∷ [] }
         ensures taken { HasTakenLine self.old self.new }
     {
-        use_bytes(&mut self.bytes, self.filled);
+        use_bytes(&mut self.bytes, self.filled, LINE_ROOM);
         // The place of the bytes and the index are read once: after the line is written they would be read
         // again, by 4 instructions.
         let start = self.filled;
@@ -172,7 +172,7 @@ impl Block {
             ++ printed_row (shown_row (row_tail_of name.now satellite.now)) ∷ [] }
         ensures taken { HasTakenLine self.old self.new }
     {
-        use_bytes(&mut self.bytes, self.filled);
+        use_bytes(&mut self.bytes, self.filled, LINE_ROOM);
         let filled = self.filled;
         let bytes = self.bytes.as_mut_slice();
         let length = satellite.print_line(*name, bytes, filled);
@@ -218,15 +218,15 @@ impl Block {
     }
 }
 
-/// Brings as many bytes into use behind the first ones as a line may have, for which there is memory.
+/// Brings so many bytes into use behind the first ones, for which there is memory.
 #[inline(always)]
-fn use_bytes(bytes: &mut Vec<u8>, filled: usize)
-    requires memory { filled + LINE_ROOM ≤ vec_capacity bytes.old }
-    ensures counted { filled + LINE_ROOM ≤ length bytes.new.items }
+fn use_bytes(bytes: &mut Vec<u8>, filled: usize, room: usize)
+    requires memory { filled + room ≤ vec_capacity bytes.old }
+    ensures counted { filled + room ≤ length bytes.new.items }
     ensures kept { KeepsItems bytes.old bytes.new }
 {
-    if bytes.len() < filled + LINE_ROOM {
-        lengthen(bytes, filled + LINE_ROOM, b'\n');
+    if bytes.len() < filled + room {
+        lengthen(bytes, filled + room, b'\n');
     }
 }
 
