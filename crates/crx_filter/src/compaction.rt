@@ -154,7 +154,10 @@ impl Direction for Compaction {
     }
 
     fn new(alloc: Global) -> Result<Compaction, AllocError> {
-        let encoder = Encoder::new(alloc)?;
+        // What `?` keeps of a refusal, a row among it, would be filled with zeros.
+        let Ok(encoder) = Encoder::new(alloc) else {
+            return Err(AllocError);
+        };
         Ok(Compaction {
             index: 0,
             reader: RinexReader::new(alloc),

@@ -60,7 +60,10 @@ impl<D: Direction> LineEngine<D> {
         ensures knows { IfOk result (λ e. D.notes e.direction e.options []) }
         ensures asked { OnErr result (D.takes_at_start ≡ true) }
     {
-        let direction = D::new(alloc)?;
+        // What `?` keeps of a refusal would be filled with zeros, and the direction be moved on the stack.
+        let Ok(direction) = D::new(alloc) else {
+            return Err(AllocError);
+        };
         Ok(LineEngine {
             options: D::chosen(options),
             number: 0,
