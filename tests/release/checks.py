@@ -48,7 +48,7 @@ def lacking(program):
 
 def others():
     """The machines beside x86-64-v2 for which a release was made here, since its scripts and its C changed."""
-    patterns = ("packaging/*.sh", "packaging/*.c", "packaging/*.py", "library/*", "include/*", "VERSION")
+    patterns = ("packaging/*.sh", "packaging/*.c", "packaging/*.ld", "packaging/*.py", "library/*", "include/*", "VERSION")
     newest = max(path.stat().st_mtime for pattern in patterns for path in TOP.glob(pattern))
     stamps = {name: MACHINES / name / "made" for name in OBJECTS}
     return [name for name, stamp in stamps.items() if stamp.exists() and stamp.stat().st_mtime > newest]
