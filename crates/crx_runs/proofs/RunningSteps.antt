@@ -1,20 +1,20 @@
 -- A run goes on by a line, or ends at it; and its end.
 use Rattle.std.proofs.lemmas.Grind.{common_steps}
-use Rattle.std.proofs.Common.{arith, ◌≡◌, ℕ, ◌+◌, Bool, ◌||◌, List, [], length, Option, Some, None, Result}
-use Rattle.std.proofs.Common.{Ok, Err}
+use Rattle.std.proofs.Common.{arith, ◌≡◌, ℕ, ◌+◌, Bool, ◌||◌, List, [], length, None, Result}
+use Rattle.std.proofs.Common.{Ok, Err, OnOk}
 use Rattle.crx_base.specs.meaning.Lines.{InputLine}
 use Rattle.crx_lines.specs.Reading.{HasNoFeed, ReaderState}
 use Rattle.crx_lines.specs.declared.phase.Phase.TheVariants.{Open}
 use Rattle.crx_runs.proofs.{DeviceSpans.{Joins, all-still, took-still}, LineEndings.out-more, StepReading.ReadsLine}
 use Rattle.crx_runs.specs.{Endings.{EndsBy, EndsFrom, FlushFailed, HandingFailed, WellDone}, Engines.Awaited}
-use Rattle.crx_runs.specs.{Running.{ComesToEnd, GoesOnBy, IsRunning, StepGoes}, Taking.{Becomes, IsDone}}
+use Rattle.crx_runs.specs.{Running.{ComesToEnd, GoesOnBy, IsRunning, StepGoes, stepped}, Taking.{Becomes, IsDone}}
 use Rattle.crx_runs.specs.{declared.one_line.Halt.Halt, meaning.Filters.{Filter, with_next}}
 use Rattle.crx_runs.specs.meaning.{Results.{Course, are_some}, Spans.{Device, Input, TookAll}}
 
--- a step that took a line
-abbrev pub stepped : Result Bool Halt → Result (Option Bool) Halt
-stepped (Ok warned) = Ok (Some warned)
-stepped (Err halt) = Err halt
+-- what is so of a line is so of its step
+pub stepped-ok : (P : Type 0) (taken : Result Bool Halt) → OnOk taken P → OnOk (stepped taken) P
+stepped-ok P (Ok warned) is = is
+stepped-ok P (Err halt) is = is
 
 -- the run goes on
 pub go-on : {filter : Filter} {shows : List InputLine → List Awaited → Type 0} {input : Input}

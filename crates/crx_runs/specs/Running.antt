@@ -11,7 +11,8 @@ use Rattle.crx_lines.specs.declared.device.Sink.{Ghosts as SinkGhosts}
 use Rattle.crx_lines.specs.declared.device.Source.{Ghosts as SourceGhosts}
 use Rattle.crx_runs.specs.declared.engine.Engine.{Ghosts as EngineGhosts}
 use Rattle.crx_runs.specs.declared.one_line.Halt.{Halt}
-use Rattle.crx_runs.specs.Taking.{HandsOnFirst}
+use Rattle.crx_runs.specs.declared.one_line.LineOutcome.{LineOutcome}
+use Rattle.crx_runs.specs.Taking.{HandsOnFirst, with_halt}
 use Rattle.crx_runs.specs.meaning.Results.{Course, are_some}
 use Rattle.crx_runs.specs.meaning.Filters.{Filter, with_next}
 use Rattle.crx_runs.specs.meaning.Spans.{Device, Input, reader_span, span}
@@ -45,6 +46,16 @@ pub record ComesToEnd (filter : Filter) (shows : List InputLine → List Awaited
   pub shown : shows lines []
   pub running : IsRunning input writer messages now lines (filter.so_far lines)
   pub ended : now.phase ≡ Ended
+
+-- a step that took a line
+abbrev pub stepped : Result Bool Halt → Result (Option Bool) Halt
+stepped (Ok warned) = Ok (Some warned)
+stepped (Err halt) = Err halt
+
+-- what a step came to: a line, or the end of the input
+abbrev pub step_with_halt : Option LineOutcome → Halt → Result (Option Bool) Halt
+step_with_halt None halt = Ok None
+step_with_halt (Some outcome) halt = stepped (with_halt outcome halt)
 
 -- one step over the input: a line was taken, the end was reported, or the run ended
 abbrev pub StepGoes : Filter → (List InputLine → List Awaited → Type 0)

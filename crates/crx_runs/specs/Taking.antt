@@ -1,5 +1,5 @@
 -- What becomes of one line of the input.
-use Rattle.std.specs.Prelude.{◌≡◌, ◌⊎◌, ◌≤◌, ℕ, ◌+◌, ⊤, Bool, true, List, [], ◌∷◌, length, Option, None}
+use Rattle.std.specs.Prelude.{◌≡◌, ◌⊎◌, ◌≤◌, ℕ, ◌+◌, ⊤, Bool, true, false, List, [], ◌∷◌, length, Option, Some, None}
 use Rattle.std.specs.Prelude.{Result, Ok, Err, IfErr, IfOk, OnOk}
 use Rattle.crx_base.specs.meaning.Lines.{InputLine, lines_text}
 use Rattle.crx_base.specs.declared.fault.At.{At}
@@ -9,9 +9,11 @@ use Rattle.crx_runs.specs.declared.engine.Engine.{Ghosts as EngineGhosts}
 use Rattle.crx_runs.specs.declared.engine.Step.{Step}
 use Rattle.crx_runs.specs.declared.engine.Step.TheVariants.{Quiet, Ready, Warned}
 use Rattle.crx_runs.specs.declared.one_line.Halt.{Halt}
+use Rattle.crx_runs.specs.declared.one_line.LineOutcome.{LineOutcome}
+use Rattle.crx_runs.specs.declared.one_line.LineOutcome.TheVariants as outcomes
 use Rattle.crx_runs.specs.meaning.Results.{Course}
 use Rattle.crx_runs.specs.meaning.Filters.{course_with, memory_with}
-use Rattle.crx_runs.specs.Engines.{Adds, IsDrainedAfter, KeepsAllElse, shown_with, taken_after}
+use Rattle.crx_runs.specs.Engines.{Adds, EngineAnswers, IsDrainedAfter, KeepsAllElse, shown_with, taken_after}
 use Rattle.crx_runs.specs.Endings.{EndsAt, EndsFrom, IsAllOut, WarnsAtEnd}
 use Rattle.crx_runs.specs.meaning.Messages.{notices_text}
 pub use Rattle.crx_runs.specs.meaning.Results.{are_some}
@@ -33,6 +35,12 @@ pub record HoldsAnswer {E : Type 0} (engine : EngineGhosts E) (now : E) (content
   pub next : IfOk (engine.answer now) (λ step. (count : ℕ)
       × (engine.taken now ≡ taken_after step count) × (number ≡ count + 1))
   pub within : number ≤ INPUT_LIMIT
+
+-- an engine holds this answer to the line of this content, which came after some lines
+abbrev pub WasAnswered : {E : Type 0} → EngineGhosts E → E → List ℕ → Bool → List InputLine → Option InputLine → Type 0
+WasAnswered engine now content is_plain lines next = EngineAnswers (engine.filter now) (engine.shows now)
+    (engine.has_ended now) (engine.ready now) lines [] next (engine.answer now)
+    × (next ≡ Some (record { content = content; is_plain = is_plain }))
 
 -- lines were taken over from an engine, and nothing else of it changed
 abbrev pub KeepsLines : {E : Type 0} → EngineGhosts E → E → E → Type 0
@@ -72,6 +80,12 @@ abbrev pub IsSettled : Device → Device → Course → Result Bool Halt → Typ
 IsSettled writer messages made (Ok warned) = IsAllOut writer messages made × (warned ≡ are_some made.warnings)
 IsSettled writer messages made (Err halt) =
     EndsAt None 0 writer messages (record { output = []; warnings = []; fault = None }) made halt
+
+-- what became of a line, or what ended the run, where that was stored
+abbrev pub with_halt : LineOutcome → Halt → Result Bool Halt
+with_halt outcomes.Quiet halt = Ok false
+with_halt outcomes.Warned halt = Ok true
+with_halt outcomes.Stopped halt = Err halt
 
 -- ---- one line
 

@@ -6,9 +6,9 @@ ghost use Rattle.crx_base.specs.meaning.Lines.{InputLine, is_long};
 ghost use Rattle.crx_lines.specs.Reading.{line_shown, line_number};
 ghost use Rattle.crx_base.specs.declared.fault.At.{At};
 ghost use Rattle.crx_base.specs.declared.limits.TheConstants.{INPUT_LIMIT};
-ghost use Rattle.crx_runs.specs.Engines.{EngineAnswers, IsDrainedAfter, IsNextLine};
+ghost use Rattle.crx_runs.specs.Engines.{IsDrainedAfter, IsNextLine};
 ghost use Rattle.crx_runs.specs.declared.one_line.Halt.TheVariants as halts;
-ghost use Rattle.crx_runs.specs.Taking.{EndWarns, HoldsAnswer, IsSettled, TakesNext, IsTouchedBy, KeepsLines, KeepsOrder, ReportsLast, made_by};
+ghost use Rattle.crx_runs.specs.Taking.{EndWarns, HoldsAnswer, IsSettled, TakesNext, IsTouchedBy, KeepsLines, KeepsOrder, ReportsLast, made_by, WasAnswered, with_halt};
 ghost use Rattle.crx_runs.specs.meaning.Spans.{span};
 
 use crate::engine::{Engine, HandedOut, Step};
@@ -33,6 +33,45 @@ impl From<At> for Halt {
 
     fn from(at: At) -> Halt {
         Halt::Fault(at)
+    }
+}
+
+/// What became of a line. What ended a run is stored apart: a place for an answer that could hold it would be
+/// cleared at each line.
+#[derive(Clone, Copy, Debug, PartialEq, Eq)]
+pub enum LineOutcome {
+    /// It was taken, and had no warning.
+    Quiet,
+    /// It was taken, and its warning was reported.
+    Warned,
+    /// The run ended.
+    Stopped,
+}
+
+impl LineOutcome {
+    /// Whether there was a warning; or what ended the run, which was stored.
+    pub fn answer(self, halt: Halt) -> Result<bool, Halt>
+        ensures value { result ≡ with_halt self halt }
+    {
+        match self {
+            LineOutcome::Quiet => Ok(false),
+            LineOutcome::Warned => Ok(true),
+            LineOutcome::Stopped => Err(halt),
+        }
+    }
+}
+
+/// Stores what ended a run, where it has ended.
+fn stored(answer: Result<bool, Halt>, halt: &mut Halt) -> LineOutcome
+    ensures { with_halt result halt.new ≡ answer }
+{
+    match answer {
+        Ok(false) => LineOutcome::Quiet,
+        Ok(true) => LineOutcome::Warned,
+        Err(by) => {
+            *halt = by;
+            LineOutcome::Stopped
+        }
     }
 }
 
@@ -71,41 +110,68 @@ fn write_step<E: Engine, W: Sink, M: Sink>(
 }
 
 /// Takes a line of the input: gives it to the engine, a second time where reading goes on at it, writes what
-/// it hands out, and reports its warnings; whether there was one.
+/// it hands out, and reports its warnings. What ended the run is stored.
 #[inline(always)]
 pub fn take_line<E: Engine, W: Sink, M: Sink>(
     engine: &mut E,
     writer: &mut W,
     messages: &mut M,
     line: Line<'_>,
-) -> Result<bool, Halt>
+    halt: &mut Halt,
+) -> LineOutcome
     requires may_take { IsNextLine (E.ready engine.old) (E.taken engine.old) (line_number line) }
     ensures taken { TakesNext E.Engine engine.old engine.new (λ lines next. E.shows engine.old lines []
         × (next ≡ Some (line_shown line.entry)))
-        (span W.Sink writer.old writer.new) (span M.Sink messages.old messages.new) result }
+        (span W.Sink writer.old writer.new) (span M.Sink messages.old messages.new) (with_halt result halt.new) }
     ensures order { KeepsOrder W.Sink writer.old writer.new messages.old messages.new }
 {
     match engine.take(line) {
-        Some(HandedOut::Nothing) => Ok(false),
+        Some(HandedOut::Nothing) => LineOutcome::Quiet,
         Some(handed_out) => match write_handed_out(engine, writer, line.bytes(), handed_out) {
-            Ok(()) => Ok(false),
-            Err(_) => Err(Halt::Unwritten),
+            Ok(()) => LineOutcome::Quiet,
+            Err(_) => {
+                *halt = Halt::Unwritten;
+                LineOutcome::Stopped
+            }
         },
-        None => take_again(
+        None => take_faulty(
             engine,
             writer,
             messages,
             line.padded(),
             line.number(),
             line.plain(),
+            halt,
         ),
     }
 }
 
-/// Does what an engine answered to a line with a fault, and gives it the line, in its parts, a second time
-/// where reading goes on at it. In [`take_line`] the places for the answer and for the line would be cleared
-/// for each line.
+/// Takes a line with a fault, in its parts, as [`take_again`] does, and stores what ended the run. In
+/// [`take_line`] places for the answer and for the line would be cleared at each line.
 #[inline(never)]
+fn take_faulty<E: Engine, W: Sink, M: Sink>(
+    engine: &mut E,
+    writer: &mut W,
+    messages: &mut M,
+    content: Padded<'_>,
+    number: u64,
+    is_plain: bool,
+    halt: &mut Halt,
+) -> LineOutcome
+    requires { HoldsAnswer E.Engine engine.old (line_in content) number }
+    ensures taken { TakesNext E.Engine engine.old engine.new (WasAnswered E.Engine engine.old
+        (line_in content.entry) is_plain) (span W.Sink writer.old writer.new)
+        (span M.Sink messages.old messages.new) (with_halt result halt.new) }
+    ensures order { KeepsOrder W.Sink writer.old writer.new messages.old messages.new }
+{
+    stored(
+        take_again(engine, writer, messages, content, number, is_plain),
+        halt,
+    )
+}
+
+/// Does what an engine answered to a line with a fault, and gives it the line a second time where reading
+/// goes on at it; whether there was a warning.
 fn take_again<E: Engine, W: Sink, M: Sink>(
     engine: &mut E,
     writer: &mut W,
@@ -115,10 +181,9 @@ fn take_again<E: Engine, W: Sink, M: Sink>(
     is_plain: bool,
 ) -> Result<bool, Halt>
     requires { HoldsAnswer E.Engine engine.old (line_in content) number }
-    ensures taken { TakesNext E.Engine engine.old engine.new (λ lines next. EngineAnswers (E.filter engine.old)
-        (E.shows engine.old) (E.has_ended engine.old) (E.ready engine.old) lines [] next (E.answer engine.old)
-        × (next ≡ Some (record { content = line_in content.entry; is_plain = is_plain })))
-        (span W.Sink writer.old writer.new) (span M.Sink messages.old messages.new) result }
+    ensures taken { TakesNext E.Engine engine.old engine.new (WasAnswered E.Engine engine.old
+        (line_in content.entry) is_plain) (span W.Sink writer.old writer.new)
+        (span M.Sink messages.old messages.new) result }
     ensures order { KeepsOrder W.Sink writer.old writer.new messages.old messages.new }
 {
     let step = engine.answer()?;
@@ -140,21 +205,25 @@ fn take_again<E: Engine, W: Sink, M: Sink>(
     }
 }
 
-/// Takes a line of the input that is too long, by its number: does what the engine answers to it.
+/// Takes a line of the input that is too long, by its number: does what the engine answers to it. What ended
+/// the run is stored.
 pub fn take_overlong<E: Engine, W: Sink, M: Sink>(
     engine: &mut E,
     writer: &mut W,
     messages: &mut M,
     number: u64,
-) -> Result<bool, Halt>
+    halt: &mut Halt,
+) -> LineOutcome
     requires may_take { IsNextLine (E.ready engine.old) (E.taken engine.old) number }
     ensures taken { TakesNext E.Engine engine.old engine.new (λ lines next. E.shows engine.old lines []
         × ((l : InputLine) × (next ≡ Some l) × (is_long l ≡ true)))
-        (span W.Sink writer.old writer.new) (span M.Sink messages.old messages.new) result }
+        (span W.Sink writer.old writer.new) (span M.Sink messages.old messages.new) (with_halt result halt.new) }
     ensures order { KeepsOrder W.Sink writer.old writer.new messages.old messages.new }
 {
-    let step = engine.overlong(number)?;
-    write_step(engine, writer, messages, step)
+    match engine.overlong(number) {
+        Ok(step) => stored(write_step(engine, writer, messages, step), halt),
+        Err(at) => stored(Err(Halt::Fault(at)), halt),
+    }
 }
 
 /// Takes the end of the input: writes what it makes ready, and reports its warning; whether there was one.

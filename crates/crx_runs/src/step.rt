@@ -3,16 +3,16 @@
 ghost use Rattle.std.specs.Prelude.{◌≡◌, ◌⊎◌, [], true, false};
 ghost use Rattle.crx_lines.specs.Readers.{reading};
 ghost use Rattle.crx_runs.specs.Endings.{FlushFailed};
-ghost use Rattle.crx_runs.specs.Running.{CanStep, RunGoesOn, RunHasStepped};
+ghost use Rattle.crx_runs.specs.Running.{CanStep, RunGoesOn, RunHasStepped, step_with_halt};
 ghost use Rattle.crx_runs.specs.meaning.Spans.{TookAll, span};
 
 use crate::engine::Engine;
-use crate::one_line::{Halt, take_line, take_overlong};
+use crate::one_line::{Halt, LineOutcome, take_line, take_overlong};
 use crx_base::Fault;
 use crx_lines::{LineReader, Sink, Source};
 
-/// Takes the next line; whether a warning was reported, or `None` at the end of the input. The reader is
-/// asked only where no line is held with its LF, and after all that was written was handed on.
+/// Takes the next line, and stores what ended the run; `None` at the end of the input. The reader is asked
+/// only where no line is held with its LF, and after all that was written was handed on.
 #[inline(always)]
 pub(crate) fn step<E: Engine, R: Source, W: Sink, M: Sink>(
     engine: &mut E,
@@ -20,36 +20,29 @@ pub(crate) fn step<E: Engine, R: Source, W: Sink, M: Sink>(
     reader: &mut R,
     writer: &mut W,
     messages: &mut M,
-) -> Result<Option<bool>, Halt>
+    halt: &mut Halt,
+) -> Option<LineOutcome>
     requires can { CanStep E.Engine engine.old (reading input.old) }
     ensures stepped { RunHasStepped E.Engine W.Sink engine.old engine.new (reading input.old)
-        (reading input.new) reader.old reader.new writer.old messages.old messages.new result }
+        (reading input.new) reader.old reader.new writer.old messages.old messages.new
+        (step_with_halt result halt.new) }
     ensures goes { RunGoesOn E.Engine R.Source W.Sink M.Sink engine.old engine.new (reading input.old)
-        (reading input.new) reader.old reader.new writer.old writer.new messages.old messages.new result }
+        (reading input.new) reader.old reader.new writer.old writer.new messages.old messages.new
+        (step_with_halt result halt.new) }
     ensures handed_on { (reader.new ≡ reader.old)
         ⊎ (R.waits reader.old ≡ true → (then : W) × W.took writer.old [] then × W.is_current then) }
     ensures awaited { R.waits reader.old ≡ false → W.is_awaited writer.new ≡ W.is_awaited writer.old }
 {
     match input.next_held() {
-        Ok(Some(line)) => Ok(Some(take_line(engine, writer, messages, line)?)),
+        Ok(Some(line)) => Some(take_line(engine, writer, messages, line, halt)),
         Ok(None) => {
             if !hand_on(reader, writer) {
-                return Err(Halt::Unwritten);
+                *halt = Halt::Unwritten;
+                return Some(LineOutcome::Stopped);
             }
-            read_step(engine, input, reader, writer, messages)
+            read_step(engine, input, reader, writer, messages, halt)
         }
-        Err(at) => Ok(Some(take_overlong(engine, writer, messages, at.line)?)),
-    }
-}
-
-/// Tells the writer that what it takes is awaited, where a read may have to wait.
-fn await_output<R: Source, W: Sink>(reader: &R, writer: &mut W)
-    ensures still { TookAll (span W.Sink writer.old writer.new) [] }
-    ensures awaited { R.waits reader.now ≡ true → W.is_awaited writer.new ≡ true }
-    ensures left_alone { R.waits reader.now ≡ false → writer.new ≡ writer.old }
-{
-    if reader.may_wait() {
-        writer.await_output();
+        Err(at) => Some(take_overlong(engine, writer, messages, at.line, halt)),
     }
 }
 
@@ -64,7 +57,9 @@ fn hand_on<R: Source, W: Sink>(reader: &R, writer: &mut W) -> bool
     ensures awaited { R.waits reader.now ≡ false → W.is_awaited writer.new ≡ W.is_awaited writer.old }
     ensures failed { result ≡ false → FlushFailed (span W.Sink writer.old writer.new) }
 {
-    await_output(reader, writer);
+    if reader.may_wait() {
+        writer.await_output();
+    }
     if writer.hand_on() {
         return true;
     }
@@ -82,22 +77,28 @@ fn read_step<E: Engine, R: Source, W: Sink, M: Sink>(
     reader: &mut R,
     writer: &mut W,
     messages: &mut M,
-) -> Result<Option<bool>, Halt>
+    halt: &mut Halt,
+) -> Option<LineOutcome>
     requires handed_on { (R.waits reader.old ≡ true → W.is_awaited writer.old ≡ true)
         × (W.is_awaited writer.old ≡ true → W.is_current writer.old) }
     requires can { CanStep E.Engine engine.old (reading input.old) }
     ensures stepped { RunHasStepped E.Engine W.Sink engine.old engine.new (reading input.old)
-        (reading input.new) reader.old reader.new writer.old messages.old messages.new result }
+        (reading input.new) reader.old reader.new writer.old messages.old messages.new
+        (step_with_halt result halt.new) }
     ensures goes { RunGoesOn E.Engine R.Source W.Sink M.Sink engine.old engine.new (reading input.old)
-        (reading input.new) reader.old reader.new writer.old writer.new messages.old messages.new result }
+        (reading input.new) reader.old reader.new writer.old writer.new messages.old messages.new
+        (step_with_halt result halt.new) }
     ensures awaited { W.is_awaited writer.new ≡ W.is_awaited writer.old }
 {
     match input.next_line(reader) {
-        Ok(Some(line)) => Ok(Some(take_line(engine, writer, messages, line)?)),
-        Ok(None) => Ok(None),
+        Ok(Some(line)) => Some(take_line(engine, writer, messages, line, halt)),
+        Ok(None) => None,
         Err(at) => match at.fault {
-            Fault::LineTooLong => Ok(Some(take_overlong(engine, writer, messages, at.line)?)),
-            _ => Err(Halt::Fault(at)),
+            Fault::LineTooLong => Some(take_overlong(engine, writer, messages, at.line, halt)),
+            _ => {
+                *halt = Halt::Fault(at);
+                Some(LineOutcome::Stopped)
+            }
         },
     }
 }

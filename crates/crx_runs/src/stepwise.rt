@@ -61,7 +61,18 @@ impl<E: Engine + Drop> Run<E> {
             ⊎ (R.waits reader.old ≡ true → (then : W) × W.took writer.old [] then × W.is_current then) }
         ensures awaited { R.waits reader.old ≡ false → W.is_awaited writer.new ≡ W.is_awaited writer.old }
     {
-        step(&mut self.engine, &mut self.input, reader, writer, messages)
+        let mut halt = Halt::Unwritten;
+        match step(
+            &mut self.engine,
+            &mut self.input,
+            reader,
+            writer,
+            messages,
+            &mut halt,
+        ) {
+            Some(outcome) => Ok(Some(outcome.answer(halt)?)),
+            None => Ok(None),
+        }
     }
 
     /// Takes the end of the input: writes what it makes ready, and reports its warning; whether there was

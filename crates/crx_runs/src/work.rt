@@ -7,7 +7,7 @@ ghost use Rattle.crx_runs.specs.meaning.Spans.{reader_span};
 ghost use Rattle.crx_runs.specs.meaning.Spans.{span};
 
 use crate::engine::Engine;
-use crate::one_line::{Halt, take_end};
+use crate::one_line::{Halt, LineOutcome, take_end};
 use crate::step::step;
 use crx_lines::phase::Phase;
 use crx_lines::{LineReader, Sink, Source};
@@ -43,10 +43,20 @@ pub(crate) fn take_all<E: Engine, R: Source, W: Sink, M: Sink>(
         (reading input.new) result.last result.warned result.halt }
 {
     let mut warned = false;
+    // It means nothing until a step has stopped.
+    let mut halt = Halt::Unwritten;
     'lines: loop {
-        match step(engine, input, reader, writer, messages) {
-            Ok(Some(warning)) => warned |= warning,
-            Ok(None) => {
+        match step(engine, input, reader, writer, messages, &mut halt) {
+            Some(LineOutcome::Quiet) => {}
+            Some(LineOutcome::Warned) => warned = true,
+            Some(LineOutcome::Stopped) => {
+                return Work {
+                    last: input.number(),
+                    warned,
+                    halt: Some(halt),
+                };
+            }
+            None => {
                 let last = input.number();
                 return match take_end(engine, writer, messages) {
                     Ok(warning) => Work {
@@ -59,13 +69,6 @@ pub(crate) fn take_all<E: Engine, R: Source, W: Sink, M: Sink>(
                         warned,
                         halt: Some(halt),
                     },
-                };
-            }
-            Err(halt) => {
-                return Work {
-                    last: input.number(),
-                    warned,
-                    halt: Some(halt),
                 };
             }
         }

@@ -91,16 +91,29 @@ fn take_within<E: Engine>(
     let number = held.number + 1;
     let tail = &held.tail;
     let (content, has_return) = content_of(&tail.bytes);
+    let mut halt = Halt::Unwritten;
     let taken = if content.len() > LINE_LIMIT {
-        take_overlong(engine, &mut held.output, &mut held.messages, number)
+        take_overlong(
+            engine,
+            &mut held.output,
+            &mut held.messages,
+            number,
+            &mut halt,
+        )
     } else {
         let is_plain = is_ended && !has_return;
         let line = Line::of(held.copy.of(content), number, is_plain);
-        take_line(engine, &mut held.output, &mut held.messages, line)
+        take_line(
+            engine,
+            &mut held.output,
+            &mut held.messages,
+            line,
+            &mut halt,
+        )
     };
     held.tail.bytes.clear();
     held.number = number;
-    counted(held, mark, number, taken)
+    counted(held, mark, number, taken.answer(halt))
 }
 
 /// Takes the first of some bytes, up to an LF, with which a line is taken, and answers how many; all, where

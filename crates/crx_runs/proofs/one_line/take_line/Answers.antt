@@ -44,7 +44,7 @@ pub returns-in-None-clause-taken : goal.returns-in-None-clause-taken
 returns-in-None-clause-taken g c =
     let at = (goal.at.returns-in-None-clause-taken g c).After-take in
     let same = shown-is (line_shown c.args.line) _ _ c.padded.ensures.content c.plain.ensures.value in
-    let then = c.take_again.ensures.taken in
+    let then = c.take_faulty.ensures.taken in
     let kept = c.take.ensures.stepped.filter in
     record {
       filter = then.filter ∙ kept;

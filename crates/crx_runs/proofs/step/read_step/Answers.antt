@@ -1,12 +1,13 @@
-use Rattle.std.proofs.{lemmas.Result.err_from_is_err_and, Common.{◌≡◌, inl, inr, List, Ok, Err, Some, refl, sym, ap}}
-use Rattle.std.proofs.Common.{subst, ◌∙◌, arith}
+use Rattle.std.proofs.lemmas.Grind.{common_steps}
+use Rattle.std.proofs.{Common.{◌≡◌, inl, inr, List, Ok, Some, refl, sym, ap}}
+use Rattle.std.proofs.Common.{subst, ◌∙◌, [], arith}
 use Rattle.crx_lines.specs.{Progress.HasRead, Reading.ReaderState, Readers.reading}
 use Rattle.crx_lines.specs.{declared.phase.Phase.TheVariants.Ended, meaning.Devices.{Tally, tally_of}}
 use Rattle.crx_base.specs.meaning.Lines.{InputLine}
 use Rattle.crx_runs.proofs.StepReading.{HasAsked, line-read, overlong-read, stop-read, end-read}
-use Rattle.crx_runs.proofs.{StepReading.{ended-not-open}, RunningSteps.goes-by}
+use Rattle.crx_runs.proofs.{StepReading.{ended-not-open}, RunningSteps.{goes-by, stepped-ok}}
 use Rattle.crx_runs.proofs.{step.read_step.Goals.After-next_line, step.read_step.Given.Over, DeviceSpans.span-joins}
-use Rattle.std.specs.Prelude.{⊤}
+use Rattle.crx_runs.specs.Taking.{with_halt}
 use Rattle.crx_runs.proofs.step.read_step.Goals as goal
 
 -- How often a reader has failed and has told the end.
@@ -24,24 +25,14 @@ asked : (g : Over) (c : After-next_line g)
     (reading c.args.input.now) (reading c.next_line.follows.lender-at-none) c.next_line.result
 asked = grind arith
 
-pub returns-in_ok-take_line-in-Ok-Some-clause-goes : goal.returns-in_ok-take_line-in-Ok-Some-clause-goes
-returns-in_ok-take_line-in-Ok-Some-clause-goes g c = λ r0 w0 m0 lines shown running.
-    let at = (goal.at.returns-in_ok-take_line-in-Ok-Some-clause-goes g c).After-next_line in
+pub returns-in-Ok-Some-clause-goes : goal.returns-in-Ok-Some-clause-goes
+returns-in-Ok-Some-clause-goes g c = λ r0 w0 m0 lines shown running.
+    let at = (goal.at.returns-in-Ok-Some-clause-goes g c).After-next_line in
     goes-by (g.E.Engine.filter c.args.engine.now) (span-joins g.W.Sink g.met.W.Sink.took_both)
     (span-joins g.M.Sink g.met.M.Sink.took_both)
     running (line-read (asked g at) (g.met.R.Source.gave_both r0 _ _) running.read _
-    (c.in-Ok-Some.is ∙ ap Ok c.in-Ok-Some.field-0-is)) _ (Ok _)
-    (c.in_ok-take_line-in-Ok-Some.ensures.taken.becomes lines _ (shown, refl))
-
-pub returns-in_err-take_line-in-Ok-Some-clause-goes : goal.returns-in_err-take_line-in-Ok-Some-clause-goes
-returns-in_err-take_line-in-Ok-Some-clause-goes g c = λ r0 w0 m0 lines shown running.
-    let at = (goal.at.returns-in_err-take_line-in-Ok-Some-clause-goes g c).After-next_line in
-    let p = err_from_is_err_and c.from_residual.result c.from_residual.ensures.1 in
-    rw (p.1, p.2) (goes-by (g.E.Engine.filter c.args.engine.now) (span-joins g.W.Sink g.met.W.Sink.took_both)
-    (span-joins g.M.Sink g.met.M.Sink.took_both) running
-    (line-read (asked g at) (g.met.R.Source.gave_both r0 _ _) running.read _
-    (c.in-Ok-Some.is ∙ ap Ok c.in-Ok-Some.field-0-is)) (λ ls notices. ⊤) (Err _)
-    (c.in_err-take_line-in-Ok-Some.ensures.taken.becomes lines _ (shown, refl)))
+    (c.in-Ok-Some.is ∙ ap Ok c.in-Ok-Some.field-0-is)) _ _
+    (c.take_line.ensures.taken.becomes lines _ (shown, refl))
 
 pub returns-in-Ok-None-clause-goes : goal.returns-in-Ok-None-clause-goes
 returns-in-Ok-None-clause-goes g c = λ r0 w0 m0 lines shown running.
@@ -63,29 +54,19 @@ returns-in-Ok-None-clause-goes g c = λ r0 w0 m0 lines shown running.
       ended = over.1;
     }
 
-pub returns-in_ok-take_overlong-in-LineTooLong-clause-goes :
-    goal.returns-in_ok-take_overlong-in-LineTooLong-clause-goes
-returns-in_ok-take_overlong-in-LineTooLong-clause-goes g c = λ r0 w0 m0 lines shown running.
-    let at = (goal.at.returns-in_ok-take_overlong-in-LineTooLong-clause-goes g c).After-next_line in
+pub returns-in-LineTooLong-clause-goes : goal.returns-in-LineTooLong-clause-goes
+returns-in-LineTooLong-clause-goes g c = λ r0 w0 m0 lines shown running.
+    let at = (goal.at.returns-in-LineTooLong-clause-goes g c).After-next_line in
     let over = overlong-read (asked g at) (g.met.R.Source.gave_both r0 _ c.next_line.new.reader) running.read
     c.in-Err.at c.in-Err.is c.in-LineTooLong.is in
     goes-by (g.E.Engine.filter c.args.engine.now) (span-joins g.W.Sink g.met.W.Sink.took_both)
-    (span-joins g.M.Sink g.met.M.Sink.took_both)
-    running over.2 _ (Ok _) (c.in_ok-take_overlong-in-LineTooLong.ensures.taken.becomes lines (Some over.0)
-    (shown, (over.0, refl, over.1)))
+    (span-joins g.M.Sink g.met.M.Sink.took_both) running over.2 _ _
+    (c.take_overlong.ensures.taken.becomes lines (Some over.0) (shown, (over.0, refl, over.1)))
 
-pub returns-in_err-take_overlong-in-LineTooLong-clause-goes :
-    goal.returns-in_err-take_overlong-in-LineTooLong-clause-goes
-returns-in_err-take_overlong-in-LineTooLong-clause-goes g c = λ r0 w0 m0 lines shown running.
-    let at = (goal.at.returns-in_err-take_overlong-in-LineTooLong-clause-goes g c).After-next_line in
-    let over = overlong-read (asked g at) (g.met.R.Source.gave_both r0 _ c.next_line.new.reader) running.read
-    c.in-Err.at c.in-Err.is c.in-LineTooLong.is in
-    let made = c.from_residual-in_err-take_overlong-in-LineTooLong in
-    let p = err_from_is_err_and made.result made.ensures.1 in
-    rw (p.1, p.2) (goes-by (g.E.Engine.filter c.args.engine.now) (span-joins g.W.Sink g.met.W.Sink.took_both)
-    (span-joins g.M.Sink g.met.M.Sink.took_both) running over.2 (λ ls notices. ⊤) (Err _)
-    (c.in_err-take_overlong-in-LineTooLong.ensures.taken.becomes lines (Some over.0)
-    (shown, (over.0, refl, over.1))))
+pub returns-in-LineTooLong-clause-stepped : goal.returns-in-LineTooLong-clause-stepped
+returns-in-LineTooLong-clause-stepped g c =
+    let kept = stepped-ok (g.E.Engine.ready c.take_overlong.new.engine ≡ []) (with_halt c.take_overlong.result c.take_overlong.new.halt)
+    c.take_overlong.ensures.taken.drained in grind (arith, common_steps, kept)
 
 pub returns-in_default-clause-goes : goal.returns-in_default-clause-goes
 returns-in_default-clause-goes g c = λ r0 w0 m0 lines shown running.

@@ -1,14 +1,14 @@
-use Rattle.std.proofs.{lemmas.Grind.common_steps, lemmas.Result.err_from_is_err_and}
-use Rattle.std.proofs.{Common.{◌≡◌, arith, ⊎_elim, inl, inr, [], Ok, Err, Some, None, refl, sym, ap, ◌∙◌, subst}}
+use Rattle.std.proofs.{lemmas.Grind.common_steps}
+use Rattle.std.proofs.{Common.{◌≡◌, arith, ⊎_elim, inl, inr, [], Ok, Some, None, refl, sym, ap, ◌∙◌, subst}}
 use Rattle.crx_base.specs.declared.fault.Fault.TheVariants.{LineTooLong}
 use Rattle.crx_lines.specs.{Readers.reading, Reading.{HasNoFeed}, Reading.ReaderState}
 use Rattle.crx_lines.specs.declared.phase.Phase.TheVariants.{Open}
 use Rattle.crx_lines.specs.meaning.Devices.{Tally, tally_of}
 use Rattle.crx_runs.proofs.StepReading.{HasAsked, err-not-none, has-no-feed, held-asked, line-read, overlong-read, some-not-none}
-use Rattle.crx_runs.proofs.RunningSteps.{goes-by, handing-fails, still-running}
+use Rattle.crx_runs.proofs.RunningSteps.{goes-by, handing-fails, stepped-ok, still-running}
 use Rattle.crx_runs.proofs.{step.step.Goals.After-next_held, step.step.Given.Over, DeviceSpans.span-joins}
 use Rattle.crx_runs.specs.{Running.IsRunning, meaning.Spans.{reader_span, span}}
-use Rattle.std.specs.Prelude.{⊤}
+use Rattle.crx_runs.specs.Taking.{with_halt}
 use Rattle.crx_runs.proofs.step.step.Goals as goal
 
 -- How often a reader has failed and has told the end.
@@ -23,47 +23,29 @@ asked g c some = held-asked c.next_held.result (g.met.R.Source.gave_none c.args.
     (⊎_elim (λ none. absurd (some none)) (λ is. is) c.next_held.ensures.going)
     c.next_held.follows.holds-at-none some
 
-pub returns-in_ok-take_line-in-Ok-Some-clause-goes : goal.returns-in_ok-take_line-in-Ok-Some-clause-goes
-returns-in_ok-take_line-in-Ok-Some-clause-goes g c = λ r0 w0 m0 lines shown running.
-    let at = (goal.at.returns-in_ok-take_line-in-Ok-Some-clause-goes g c).After-next_held in
+pub returns-in-Ok-Some-clause-goes : goal.returns-in-Ok-Some-clause-goes
+returns-in-Ok-Some-clause-goes g c = λ r0 w0 m0 lines shown running.
+    let at = (goal.at.returns-in-Ok-Some-clause-goes g c).After-next_held in
     let is = c.in-Ok-Some.is ∙ ap Ok c.in-Ok-Some.field-0-is in
     goes-by (g.E.Engine.filter c.args.engine.now) (span-joins g.W.Sink g.met.W.Sink.took_both)
     (span-joins g.M.Sink g.met.M.Sink.took_both) running
     (line-read (asked g at (λ none. some-not-none _ (sym is ∙ none))) (g.met.R.Source.gave_both r0 _ _)
-    running.read _ is) _ (Ok _) (c.in_ok-take_line-in-Ok-Some.ensures.taken.becomes lines _ (shown, refl))
+    running.read _ is) _ _ (c.take_line.ensures.taken.becomes lines _ (shown, refl))
 
-pub returns-in_err-take_line-in-Ok-Some-clause-goes : goal.returns-in_err-take_line-in-Ok-Some-clause-goes
-returns-in_err-take_line-in-Ok-Some-clause-goes g c = λ r0 w0 m0 lines shown running.
-    let at = (goal.at.returns-in_err-take_line-in-Ok-Some-clause-goes g c).After-next_held in
-    let is = c.in-Ok-Some.is ∙ ap Ok c.in-Ok-Some.field-0-is in
-    let p = err_from_is_err_and c.from_residual.result c.from_residual.ensures.1 in
-    rw (p.1, p.2) (goes-by (g.E.Engine.filter c.args.engine.now) (span-joins g.W.Sink g.met.W.Sink.took_both)
-    (span-joins g.M.Sink g.met.M.Sink.took_both) running
-    (line-read (asked g at (λ none. some-not-none _ (sym is ∙ none))) (g.met.R.Source.gave_both r0 _ _)
-    running.read _ is) (λ ls notices. ⊤) (Err _) (c.in_err-take_line-in-Ok-Some.ensures.taken.becomes lines _
-    (shown, refl)))
-
-pub returns-in_ok-take_overlong-in-Err-clause-goes : goal.returns-in_ok-take_overlong-in-Err-clause-goes
-returns-in_ok-take_overlong-in-Err-clause-goes g c = λ r0 w0 m0 lines shown running.
-    let at = (goal.at.returns-in_ok-take_overlong-in-Err-clause-goes g c).After-next_held in
+pub returns-in-Err-clause-goes : goal.returns-in-Err-clause-goes
+returns-in-Err-clause-goes g c = λ r0 w0 m0 lines shown running.
+    let at = (goal.at.returns-in-Err-clause-goes g c).After-next_held in
     let long : c.in-Err.at.fault ≡ LineTooLong = (rw c.in-Err.is at c.next_held.follows.holds-at-none).0 in
     let over = overlong-read (asked g at (λ none. err-not-none _ (sym c.in-Err.is ∙ none)))
     (g.met.R.Source.gave_both r0 _ _) running.read c.in-Err.at c.in-Err.is long in
     goes-by (g.E.Engine.filter c.args.engine.now) (span-joins g.W.Sink g.met.W.Sink.took_both)
-    (span-joins g.M.Sink g.met.M.Sink.took_both) running over.2 _ (Ok _)
-    (c.in_ok-take_overlong-in-Err.ensures.taken.becomes lines (Some over.0) (shown, (over.0, refl, over.1)))
+    (span-joins g.M.Sink g.met.M.Sink.took_both) running over.2 _ _
+    (c.take_overlong.ensures.taken.becomes lines (Some over.0) (shown, (over.0, refl, over.1)))
 
-pub returns-in_err-take_overlong-in-Err-clause-goes : goal.returns-in_err-take_overlong-in-Err-clause-goes
-returns-in_err-take_overlong-in-Err-clause-goes g c = λ r0 w0 m0 lines shown running.
-    let at = (goal.at.returns-in_err-take_overlong-in-Err-clause-goes g c).After-next_held in
-    let long : c.in-Err.at.fault ≡ LineTooLong = (rw c.in-Err.is at c.next_held.follows.holds-at-none).0 in
-    let over = overlong-read (asked g at (λ none. err-not-none _ (sym c.in-Err.is ∙ none)))
-    (g.met.R.Source.gave_both r0 _ _) running.read c.in-Err.at c.in-Err.is long in
-    let made = c.from_residual-in_err-take_overlong-in-Err in
-    let p = err_from_is_err_and made.result made.ensures.1 in
-    rw (p.1, p.2) (goes-by (g.E.Engine.filter c.args.engine.now) (span-joins g.W.Sink g.met.W.Sink.took_both)
-    (span-joins g.M.Sink g.met.M.Sink.took_both) running over.2 (λ ls notices. ⊤) (Err _)
-    (c.in_err-take_overlong-in-Err.ensures.taken.becomes lines (Some over.0) (shown, (over.0, refl, over.1))))
+pub returns-in-Err-clause-stepped : goal.returns-in-Err-clause-stepped
+returns-in-Err-clause-stepped g c =
+    let kept = stepped-ok (g.E.Engine.ready c.take_overlong.new.engine ≡ []) (with_halt c.take_overlong.result c.take_overlong.new.halt)
+    c.take_overlong.ensures.taken.drained in grind (arith, common_steps, kept)
 
 pub returns-else-not-hand_on-clause-goes : goal.returns-else-not-hand_on-clause-goes
 returns-else-not-hand_on-clause-goes g c = λ r0 w0 m0 lines shown running.
