@@ -75,6 +75,7 @@ impl<D: Direction> LineEngine<D> {
     /// Stores the answer to a fault of the line that was counted last: it is given whether the stage may be
     /// skipped and is that of an open epoch, and whether reading may go on at the line. A place for the stage
     /// would be cleared at every line, by 2 instructions.
+    #[cold]
     #[inline(never)]
     fn fail(&mut self, skips: bool, is_open: bool, fault: Fault, goes_on: bool)
         requires counted { D.counted self.old.direction + 1 ≤ self.old.number }

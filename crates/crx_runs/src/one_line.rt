@@ -148,6 +148,7 @@ pub fn take_line<E: Engine, W: Sink, M: Sink>(
 
 /// Takes a line with a fault, in its parts, as [`take_again`] does, and stores what ended the run. In
 /// [`take_line`] places for the answer and for the line would be cleared at each line.
+#[cold]
 #[inline(never)]
 fn take_faulty<E: Engine, W: Sink, M: Sink>(
     engine: &mut E,
@@ -207,6 +208,7 @@ fn take_again<E: Engine, W: Sink, M: Sink>(
 
 /// Takes a line of the input that is too long, by its number: does what the engine answers to it. What ended
 /// the run is stored.
+#[cold]
 pub fn take_overlong<E: Engine, W: Sink, M: Sink>(
     engine: &mut E,
     writer: &mut W,

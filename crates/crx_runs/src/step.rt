@@ -49,6 +49,7 @@ pub(crate) fn step<E: Engine, R: Source, W: Sink, M: Sink>(
 /// Has what was written handed on, where a read may have to wait, and answers whether that went well. Where
 /// it didn't, a flush fails too, by which the failure is counted. For an answer that can hold a fault
 /// [`step`] would clear a place at each line.
+#[cold]
 #[inline(never)]
 fn hand_on<R: Source, W: Sink>(reader: &R, writer: &mut W) -> bool
     ensures still { result ≡ true → TookAll (span W.Sink writer.old writer.new) [] }
@@ -70,6 +71,7 @@ fn hand_on<R: Source, W: Sink>(reader: &R, writer: &mut W) -> bool
 }
 
 /// Asks the reader for the next line and takes it, as [`step`] does, once what was written was handed on.
+#[cold]
 #[inline(never)]
 fn read_step<E: Engine, R: Source, W: Sink, M: Sink>(
     engine: &mut E,
