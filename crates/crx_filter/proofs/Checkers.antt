@@ -7,10 +7,15 @@ use Rattle.crx_filter.proofs.Words.{Epoch as ObservationEpoch, printed_epoch, pr
 use Rattle.crx_filter.proofs.Words.{Made, reader_phase, TakesRinexLine, TakesRow, Totals, printed_made}
 use Rattle.crx_filter.proofs.Words.{RinexReader}
 use Rattle.crx_filter.proofs.Words.{RinexStep, Header, false-true}
+use Rattle.crx_filter.proofs.Words.{None, Option, ℤ, ap, sym, subst, ◌∙◌, length, replicate, columns}
+use Rattle.crx_filter.proofs.Words.{without_end_blanks}
 use Rattle.{crx_compact.proofs.Characters.bytes_eq-same, crx_filter.proofs.RinexSteps.in-epoch}
 use Rattle.crx_filter.specs.{CheckByLine.{totals_with, totals_made}, CompactionByLine.is_before_header}
 use Rattle.crx_filter.specs.{Totals.HasPrinted, meaning.Standard.version_in}
 use Rattle.{crx_rinex.specs.meaning.Printing.printed_head, std.proofs.lemmas.Option.same_Some}
+use Rattle.{crx_text.proofs.Blanks.end_blanks-more, crx_text.specs.meaning.Numbers.number_text}
+use Rattle.std.{proofs.lemmas.List.{take-append-le, take_all}, specs.Option.is_some}
+use Rattle.crx_base.specs.declared.limits.TheConstants.{HEAD_WIDTH}
 
 -- the header's first line says the version
 pub first-line : (totals : Totals) (made : Made ObservationEpoch OpenEpoch) (before after : RinexReader)
@@ -33,6 +38,24 @@ pub begun-printed : (made : Made ObservationEpoch OpenEpoch) (before after : Rin
     → last_line (printed_made made) ≡ printed_head head.head head.clock
 begun-printed made before after line head e held =
     grind (arith, common_steps, last_line, printed_epoch, epoch_by_rows)
+
+without_clock : (head : List ℕ) (clock : Option ℤ) → is_some clock ≡ false → length head ≡ HEAD_WIDTH
+    → printed_head head clock ≡ without_end_blanks (columns head 1 HEAD_WIDTH)
+unfolding number_text
+without_clock head None none width =
+    end_blanks-more head 15 ∙ sym (ap without_end_blanks (take-append-le HEAD_WIDTH head (replicate HEAD_WIDTH 32)
+    (omega (arith, width)) ∙ take_all HEAD_WIDTH head (omega (arith, width))))
+without_clock head (Some clock) none width = false-true (sym none)
+
+-- without a clock offset it is the columns alone
+pub unclocked-printed : (made : Made ObservationEpoch OpenEpoch) (before after : RinexReader) (line : List ℕ)
+    (head : ObservationHead) → TakesRinexLine made before line Steps.Begun after → after.head ≡ Some head
+    → (clock : Option ℤ) → clock ≡ head.clock → is_some clock ≡ false → length head.head ≡ HEAD_WIDTH
+    → (text : List ℕ) → text ≡ without_end_blanks (columns head.head 1 HEAD_WIDTH)
+    → last_line (printed_made made) ≡ text
+unclocked-printed made before after line head takes held clock same none width text is =
+    begun-printed made before after line head takes held
+    ∙ without_clock head.head head.clock (subst (λ c. is_some c ≡ false) same none) width ∙ sym is
 
 pub last-of : (lines : List (List ℕ)) (line : List ℕ) → last_line (lines ++ line ∷ []) ≡ line
 last-of [] line = refl

@@ -11,6 +11,7 @@ ghost use Rattle.crx_filter.specs.CheckingParts.{HasNoRow, NotesLine};
 ghost use Rattle.crx_filter.specs.CompactionByLine.{is_before_header};
 ghost use Rattle.crx_filter.specs.LineByLine.{Made};
 ghost use Rattle.crx_filter.specs.RinexReaders.{reader_phase, TakesRinexLine, TakesRow};
+ghost use Rattle.crx_filter.specs.RinexStages.{is_open_stage};
 ghost use Rattle.crx_filter.specs.Totals.{IsBehindARow, IsObserved};
 ghost use Rattle.crx_filter.specs.declared.rinex_reader.RinexReader.{RinexReader};
 ghost use Rattle.crx_filter.specs.declared.rinex_reader.RinexStep.{RinexStep};
@@ -22,20 +23,21 @@ use crate::report::{REPORT_LINES, print_report_line};
 use crate::rinex_reader::{RinexReader, RinexStep};
 use crate::stage::Stage;
 use crate::totals::Totals;
-use crx_base::limits::VERSION_WIDTH;
+use crx_base::limits::{HEAD_WIDTH, VERSION_WIDTH};
 use crx_base::{Fault, Options};
 use crx_header::{Identifiers, padded};
 use crx_lines::Line;
 use crx_rinex::{has_printed_form, print_head};
 use crx_runs::HandedOut;
 use crx_text::Text;
+use crx_text::columns::end_trimmed;
 use std::alloc::{AllocError, Global};
 use std::marker::Model;
 
 /// What a check has noted of the lines so far.
 #[derive(Drop)]
 pub struct Noted {
-    /// The identifiers of the rows that have come of the epoch that was begun last.
+    /// The identifiers of the rows that have come of the last epoch with satellites.
     names: Identifiers,
     /// How many observations they have.
     observed: u64,
@@ -106,7 +108,7 @@ impl Noted {
     fn note(&mut self, reader: &RinexReader, step: RinexStep, line: Line<'_>)
         requires within { self.old.totals.epochs + self.old.totals.events < INPUT_LIMIT }
         requires held { step ≡ RinexStep.Begun → is_some reader.now.head ≡ true }
-        ensures begun { step ≡ RinexStep.Begun → HasNoRow self.new }
+        ensures begun { step ≡ RinexStep.Begun → is_open_stage reader.now.stage ≡ true → HasNoRow self.new }
         ensures notes { (before : RinexReader) (made : Made ObservationEpoch OpenEpoch)
             → TakesRinexLine made before (line_shown line.entry).content step reader.now
             → NotesLine made (is_before_header (reader_phase before)) (line_shown line.entry) (line_number line.entry)
@@ -125,13 +127,19 @@ impl Noted {
                 let Some(head) = &reader.head else {
                     unreachable!()
                 };
-                self.names = Identifiers::new();
-                self.observed = 0;
-                if !reader.stage.is_in_epoch() {
+                if reader.stage.is_in_epoch() {
+                    self.names = Identifiers::new();
+                    self.observed = 0;
+                } else {
                     self.totals.epochs += 1;
                 }
-                print_head(head, &mut self.text);
-                line.bytes() == self.text.bytes()
+                // Most epochs have no clock offset: their columns are printed as they are.
+                if head.clock().is_none() {
+                    line.bytes() == end_trimmed(head.columns(), 1, HEAD_WIDTH)
+                } else {
+                    print_head(head, &mut self.text);
+                    line.bytes() == self.text.bytes()
+                }
             }
             RinexStep::Header { is_first: false } | RinexStep::Record | RinexStep::Nothing => true,
         };

@@ -245,7 +245,8 @@ module _ (made : Made ObservationEpoch OpenEpoch) (before after : RinexReader) (
   pub step-held : step ≡ Begun → is_some after.head ≡ true
   step-held begun = grind (arith, common_steps, in-epoch)
 
-  pub step-counted : (noted : Noted) → (step ≡ Begun → HasNoRow noted) → AreCounted after noted
+  pub step-counted : (noted : Noted) → (step ≡ Begun → is_open_stage after.stage ≡ true → HasNoRow noted)
+      → AreCounted after noted
   step-counted noted fresh = grind (arith, common_steps, step-begun, none-named)
 
 -- all six lines of a report were handed out where none is pending, and only there

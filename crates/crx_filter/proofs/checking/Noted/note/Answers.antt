@@ -1,18 +1,34 @@
 use Rattle.crx_filter.proofs.{Checkers.{begun-printed, copied-printed, first-line, none-passed}, Reports.version-same}
-use Rattle.crx_filter.proofs.Words.{◌≡◌, arith, bytes_eq, common_steps, last_line, Made, ObservationEpoch}
-use Rattle.crx_filter.proofs.Words.{OpenEpoch}
+use Rattle.crx_filter.proofs.Checkers.{unclocked-printed}
+use Rattle.crx_filter.proofs.Words.{◌≡◌, ◌∙◌, ◌||◌, ◌&&◌, not, ap, sym, subst, arith, bytes_eq, columns, common_steps}
+use Rattle.crx_filter.proofs.Words.{ℕ, Bool, false, Option, Some, is_some, without_end_blanks, last_line, earliest}
+use Rattle.crx_filter.proofs.Words.{Begun, Made, ObservationEpoch, OpenEpoch}
 use Rattle.crx_filter.proofs.Words.{printed_made, reader_phase, RinexReader, TakesRinexLine}
 use Rattle.crx_filter.specs.{CheckByLine.totals_made, CompactionByLine.is_before_header, Totals.{HasPrinted, totals_held}}
 use Rattle.crx_filter.proofs.checking.Noted.note.Goals.{After-is_some, in-Header-true, in-Event}
-use Rattle.crx_filter.proofs.checking.Noted.note.Goals.{in-Begun+in-Some}
-use Rattle.crx_filter.proofs.checking.Noted.note.Goals.{then-not-is_in_epoch, else-not-is_in_epoch}
+use Rattle.crx_filter.proofs.checking.Noted.note.Goals.{in-Begun+in-Some+then-is_none}
+use Rattle.crx_filter.proofs.checking.Noted.note.Goals.{in-Begun+in-Some+else-is_none}
+use Rattle.crx_filter.proofs.checking.Noted.note.Goals.{then-is_in_epoch, else-is_in_epoch}
 use Rattle.crx_filter.proofs.checking.Noted.note.Goals.{in-Header-false}
 use Rattle.crx_filter.proofs.checking.Noted.note.Goals.{in-Header-false-2}
 use Rattle.crx_lines.specs.Reading.{line_shown}
+use Rattle.crx_base.specs.declared.limits.TheConstants.{HEAD_WIDTH}
 use Rattle.crx_filter.proofs.checking.Noted.note.Goals as goal
 
 pub unreachable-requires : goal.unreachable-requires
 unreachable-requires c = grind (arith, common_steps, c.requires.held c.in-Begun.is, c.in_default.is)
+
+-- the line has begun an epoch
+begun : (c : After-is_some) (before : RinexReader) (made : Made ObservationEpoch OpenEpoch)
+    → TakesRinexLine made before (line_shown c.args.line).content c.args.step c.args.reader.now
+    → c.args.step ≡ Begun → TakesRinexLine made before (line_shown c.args.line).content Begun c.args.reader.now
+begun c before made takes is =
+    subst (λ step. TakesRinexLine made before (line_shown c.args.line).content step c.args.reader.now) is takes
+
+-- whether printing gives the line back was answered
+abbrev IsGivenBack : After-is_some → Made ObservationEpoch OpenEpoch → Type 0
+IsGivenBack c made =
+    c.match-step.is_given_back ≡ bytes_eq (line_shown c.args.line).content (last_line (printed_made made))
 
 -- what the line adds, and whether printing gives it back
 adds : (c : After-is_some) (before : RinexReader) (made : Made ObservationEpoch OpenEpoch)
@@ -20,8 +36,7 @@ adds : (c : After-is_some) (before : RinexReader) (made : Made ObservationEpoch 
     → (totals_held c.match-step.self.totals
     ≡ totals_made (totals_held c.args.self.now.totals) (is_before_header (reader_phase before)) made)
     × (c.match-step.self.not_standard ≡ c.args.self.now.not_standard)
-    × (HasPrinted made → c.match-step.is_given_back
-    ≡ bytes_eq (line_shown c.args.line).content (last_line (printed_made made)))
+    × (HasPrinted made → IsGivenBack c made)
 adds c before made takes = elim c.match-step.branch [
   | in-Header-true w ↦ grind (
     arith,
@@ -33,10 +48,28 @@ adds c before made takes = elim c.match-step.branch [
     copied-printed,
   )
   | in-Event w ↦ grind (arith, common_steps, copied-printed)
-  | in-Begun+in-Some w ↦ elim w.if-not-is_in_epoch.branch [
-    | then-not-is_in_epoch v ↦ grind (arith, common_steps, begun-printed)
-    | else-not-is_in_epoch v ↦ grind (arith, common_steps, begun-printed)
-  ]
+  | in-Begun+in-Some+then-is_none w ↦
+      let columns_are = w.end_trimmed.ensures.value
+      ∙ ap (λ h. without_end_blanks (columns h 1 HEAD_WIDTH)) w.columns.ensures.value in
+      let printed = unclocked-printed made before c.args.reader.now (line_shown c.args.line).content w.in-Some.head
+      (begun c before made takes w.in-Begun.is) w.in-Some.is w.clock.result w.clock.ensures.value
+      (w.is_none.ensures ∙ ap not w.if-is_none.true) w.columns.ensures.sound.width _ columns_are in
+      let back : IsGivenBack c made =
+      rw (printed, ← w.bytes-then-is_none.ensures.content) (w.is_given_back-is ∙ w.eq.ensures) in
+      elim w.if-is_in_epoch.branch [
+        | then-is_in_epoch v ↦ (grind (arith, common_steps), grind (arith, common_steps), λ some. back)
+        | else-is_in_epoch v ↦ (grind (arith, common_steps), grind (arith, common_steps), λ some. back)
+      ]
+  | in-Begun+in-Some+else-is_none w ↦
+      let printed = begun-printed made before c.args.reader.now (line_shown c.args.line).content w.in-Some.head
+      (begun c before made takes w.in-Begun.is) w.in-Some.is ∙ sym w.print_head.ensures.value
+      ∙ sym w.bytes-else-is_none-2.ensures.value in
+      let back : IsGivenBack c made =
+      rw (printed, ← w.bytes-else-is_none.ensures.content) (w.is_given_back-is ∙ w.eq-else-is_none.ensures) in
+      elim w.if-is_in_epoch.branch [
+        | then-is_in_epoch v ↦ (grind (arith, common_steps), grind (arith, common_steps), λ some. back)
+        | else-is_in_epoch v ↦ (grind (arith, common_steps), grind (arith, common_steps), λ some. back)
+      ]
   | in-Header-false w ↦ grind (arith, common_steps, copied-printed, none-passed)
   | in-Header-false-2 w ↦ grind (arith, common_steps, copied-printed, none-passed)
 ]
@@ -44,6 +77,18 @@ adds c before made takes = elim c.match-step.branch [
 pub returns-then-is_some-plain-clause-notes : goal.returns-then-is_some-plain-clause-notes
 returns-then-is_some-plain-clause-notes c before made takes = grind (arith, adds)
 
+-- where none was named before and the line isn't given back as it is, it is named
+named : (old held : Option ℕ) (is_held plain is_plain back same : Bool) (number shown : ℕ)
+    → held ≡ old → is_held ≡ is_some held → (is_held || (plain && back)) ≡ false
+    → plain ≡ is_plain → back ≡ same → number ≡ shown → Some number ≡ earliest old (is_plain && same) shown
+named old held is_held plain is_plain back same number shown was is other of_line given of_number =
+    grind (arith, common_steps)
+
 pub returns-clause-notes : goal.returns-clause-notes
 returns-clause-notes c before made takes =
-    grind (arith, common_steps, adds (goal.at.returns-clause-notes c).After-is_some before made takes)
+    let added = adds (goal.at.returns-clause-notes c).After-is_some before made takes in
+    record {
+      totals = grind (arith, common_steps, added.0);
+      standard = λ some. named _ _ _ _ _ _ _ _ _ added.1 c.is_some.ensures c.if-is_some-plain.false
+          c.plain.ensures.value (added.2 some) c.number.ensures.value;
+    }
