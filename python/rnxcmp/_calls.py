@@ -12,12 +12,13 @@ from ._library import (
     BAD_DATE,
     BAD_PROCESSOR,
     FAULT,
+    GOOD,
     LIBRARY,
     MISUSED,
-    NO_ROOM,
     OUT_OF_MEMORY,
     OUTPUT_LIMIT,
     READY,
+    WARNINGS,
     Answer,
     Handle,
     Options,
@@ -36,7 +37,7 @@ _MONTHS = "Jan Feb Mar Apr May Jun Jul Aug Sep Oct Nov Dec".split()
 # bytes of a message room at first: a fault and some warnings
 _LINES = 4096
 
-# bytes of a room for compact text at first, beside half of its input's: a header and some events, which are copied
+# bytes of a room for compact text at first, at most its input's, beside half of these: a header and some events, which are copied
 _ROOM = 65536
 
 CUT_OFF = "the last line has no line end: the file may be cut off"
@@ -132,10 +133,9 @@ def filled(call: Callable[..., int], arguments: List[object], output: int) -> _R
     """Calls with room for so much output, and once more where a room was too small."""
     rooms = _Rooms(output, _LINES)
     call(*arguments, *rooms.arguments())
-    if rooms.fit():
-        return rooms
-    rooms = _Rooms(rooms.answer.output_length, rooms.answer.messages_length)
-    call(*arguments, *rooms.arguments())
+    if not rooms.fit():
+        rooms = _Rooms(rooms.answer.output_length, rooms.answer.messages_length)
+        call(*arguments, *rooms.arguments())
     return rooms
 
 
@@ -165,6 +165,8 @@ def _warn_of(lines: bytes, tell: Callable[[str], None] = warn) -> None:
 
 def _error_of(answer: Answer, output: bytes) -> Optional[Exception]:
     """The error that an answer means, which has the output before it."""
+    if answer.status in (GOOD, WARNINGS):
+        return None
     if answer.status == FAULT:
         words = f"line {answer.line} code {answer.code}: {LIBRARY.rnxcmp_words(answer.code).decode('ascii')}"
         return MemoryError(words) if answer.code == OUT_OF_MEMORY else RnxcmpError(words, answer.line, answer.code, output)
@@ -176,9 +178,7 @@ def _error_of(answer: Answer, output: bytes) -> Optional[Exception]:
         return RnxcmpError("this processor is older than x86-64-v2")
     if answer.status == MISUSED:
         return ValueError("the run has ended, or is closed")
-    if answer.status == NO_ROOM:
-        return RnxcmpError("the output changed between two calls")
-    return None
+    return RnxcmpError("the output changed between two calls")
 
 
 def output_of(rooms: _Rooms) -> bytes:
@@ -227,6 +227,7 @@ def _options_of(
 ) -> Options:
     """What is chosen for a run."""
     return Options(
+        size=ctypes.sizeof(Options),
         every=_within("reinit_every_nth", reinit_every_nth, 0, 32),
         skip=int(bool(skip_strange_epochs)),
         date=date,
@@ -258,9 +259,8 @@ def rnx2crx(
     :raises OutputLimitError: where the output is longer than ``max_length``.
     """
     content = content_of(data)
-    options = _options_of(skip_strange_epochs, max_length, reinit_every_nth, _dated(date))
-    arguments = [content, len(content), options]
-    return output_of(filled(LIBRARY.rnxcmp_compact, arguments, _room_for(_ROOM + len(content) // 2, max_length)))
+    arguments = [content, len(content), _options_of(skip_strange_epochs, max_length, reinit_every_nth, _dated(date))]
+    return output_of(filled(LIBRARY.rnxcmp_compact, arguments, _room_for(min(_ROOM, len(content)) + len(content) // 2, max_length)))
 
 
 def crx2rnx(data: Content, *, skip_strange_epochs: bool = False, max_length: Optional[int] = USUAL) -> bytes:
@@ -274,8 +274,13 @@ def crx2rnx(data: Content, *, skip_strange_epochs: bool = False, max_length: Opt
     :raises OutputLimitError: where the output is longer than ``max_length``.
     """
     content = content_of(data)
-    limit = limit_for(len(content), max_length)
-    with Stream.expanding(skip_strange_epochs=skip_strange_epochs, max_length=limit) as stream:
+    options = _options_of(skip_strange_epochs, limit_for(len(content), max_length))
+    if len(content) <= READY // 4:  # what it makes mostly has room, and one call takes less time than those of a stream
+        rooms = _Rooms(READY, _LINES)
+        LIBRARY.rnxcmp_expand(content, len(content), options, *rooms.arguments())
+        if rooms.fit():
+            return output_of(rooms)
+    with Stream(LIBRARY.rnxcmp_open_expand, [options]) as stream:
         try:
             return _joined(stream._made_in_all(content))
         except OutputLimitError as error:
@@ -324,14 +329,12 @@ class Stream:
         max_length: Optional[int] = None,
     ) -> "Stream":
         """Compacts, with the choices of :func:`rnx2crx`."""
-        options = _options_of(skip_strange_epochs, max_length, reinit_every_nth, _dated(date))
-        return cls(LIBRARY.rnxcmp_open_compact, [options])
+        return cls(LIBRARY.rnxcmp_open_compact, [_options_of(skip_strange_epochs, max_length, reinit_every_nth, _dated(date))])
 
     @classmethod
     def expanding(cls, *, skip_strange_epochs: bool = False, max_length: Optional[int] = None) -> "Stream":
         """Expands, with the choices of :func:`crx2rnx`."""
-        options = _options_of(skip_strange_epochs, max_length)
-        return cls(LIBRARY.rnxcmp_open_expand, [options])
+        return cls(LIBRARY.rnxcmp_open_expand, [_options_of(skip_strange_epochs, max_length)])
 
     @classmethod
     def checking(cls) -> "Stream":

@@ -27,9 +27,6 @@ class Options(ctypes.Structure):
         ("max_output", ctypes.c_uint64),
     ]
 
-    def __init__(self, **choices: object) -> None:
-        super().__init__(size=ctypes.sizeof(Options), **choices)
-
 
 class Answer(ctypes.Structure):
     """``rnxcmp_answer``."""

@@ -185,6 +185,9 @@ def check_usual_limits(data):
     most = tracemalloc.get_traced_memory()[1]
     tracemalloc.stop()
     expect("a long expansion", (expanded == long, most < 2.2 * len(long) + 1_000_000), (True, True))
+    short = header + epochs[: epochs.index(b"\n>") + 1] * 100
+    packed = rnxcmp.rnx2crx(short, date=DATE)
+    expect("a long expansion of a short text", (len(packed) < 16384, len(short) > 65536, rnxcmp.crx2rnx(packed) == short), (True, True, True))
     bomb = gzip.compress(bytes(70_000_000), 9)
     tracemalloc.start()
     fault = raised(rnxcmp.OutputLimitError, lambda: rnxcmp.decompress(bomb))
