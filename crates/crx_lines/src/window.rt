@@ -133,7 +133,8 @@ impl Window {
         }
     }
 
-    /// Brings as many bytes again into use where few are free. So a run over a small file touches little memory.
+    /// Brings as many bytes again into use where few are free: so a run over a small file touches little
+    /// memory.
     fn use_more(&mut self)
         requires { self.old.end + LEAST_ROOM ≤ SIZE }
         ensures kept { kept self.new ≡ kept self.old }
