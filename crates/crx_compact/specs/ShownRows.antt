@@ -1,7 +1,8 @@
 -- The newest epoch, as the history that it leaves shows it: each value is the newest of its arc.
-use Rattle.std.specs.Prelude.{ℕ, ◌*◌, length, map, take}
+use Rattle.std.specs.Prelude.{ℕ, ℤ, ◌≡◌, ◌+◌, ◌*◌, ◌++◌, List, Option, drop, length, map, take}
 use Rattle.crx_text.specs.meaning.Columns.{columns}
-use Rattle.crx_base.specs.declared.limits.TheConstants.{HEAD_WIDTH}
+use Rattle.crx_text.specs.meaning.PrintedCells.{printed_cells}
+use Rattle.crx_base.specs.declared.limits.TheConstants.{CELL_WIDTH, HEAD_WIDTH}
 use Rattle.crx_rinex.specs.meaning.Observations.{Row, Epoch}
 use Rattle.crx_compact.specs.Tails.{RowTail, Tail}
 use Rattle.crx_compact.specs.ArcSteps.{shown_value}
@@ -23,3 +24,9 @@ shown_epoch tail count =
       clock = shown_value tail.clock;
       rows = map shown_row (take count tail.rows);
     }
+
+-- of so many cells the first ones were printed into bytes from an index on: with those that are left they are all
+abbrev pub AreFirstPrinted : ℕ → ℕ → List (Option ℤ) → List ℕ → ℕ → List ℕ → List ℕ → Type 0
+AreFirstPrinted first count values flags at old new =
+    take (at + CELL_WIDTH * first) new ++ printed_cells (drop first values) (drop (2 * first) (columns flags 1 (2 * count)))
+    ≡ take at old ++ printed_cells values (columns flags 1 (2 * count))

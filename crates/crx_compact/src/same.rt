@@ -19,8 +19,8 @@ fn has_same_ends<const N: usize>(text: &[u8], other: &[u8]) -> bool
         && Simd::<u8, N>::from_slice(&text[last..]) == Simd::<u8, N>::from_slice(&other[last..])
 }
 
-/// Whether two texts are the same. The indicators of 2 to 32 types are compared by their two ends, which may
-/// overlap; a call takes some 40 instructions more.
+/// Whether two texts are the same. The indicators of 2 to 16 types are compared here by their two ends, which
+/// may overlap, since a call takes some 10 instructions for each line.
 #[inline(always)]
 pub fn is_same_text(text: &[u8], other: &[u8]) -> bool
     ensures same { MatchBool result (text.now ≡ other.now) (text.now ≢ other.now) }
@@ -33,15 +33,19 @@ pub fn is_same_text(text: &[u8], other: &[u8]) -> bool
         4..=8 => has_same_ends::<4>(text, other),
         9..=16 => has_same_ends::<8>(text, other),
         17..=32 => has_same_ends::<16>(text, other),
-        33..=64 => has_same_ends::<32>(text, other),
         _ => is_same_long(text, other),
     }
 }
 
-// Whether two texts are the same, as few of other lengths are compared.
+// Whether two texts of one length, which mostly is a long one, are the same: those of 17 to 32 types by their
+// two ends too.
 #[inline(never)]
 fn is_same_long(text: &[u8], other: &[u8]) -> bool
+    requires same_length { length other.now ≡ length text.now }
     ensures same { MatchBool result (text.now ≡ other.now) (text.now ≢ other.now) }
 {
-    text == other
+    match text.len() {
+        33..=64 => has_same_ends::<32>(text, other),
+        _ => text == other,
+    }
 }

@@ -1,7 +1,7 @@
 //! What is stored of a satellite: its indicators and the arcs of its cells, changed in place by each of its
 //! lines. Hatanaka's Compact RINEX 3.0, satellite lines.
 
-ghost use Rattle.std.specs.Prelude.{◌≡◌, ◌≤◌, ◌<◌, ◌+◌, ◌-◌, ◌*◌, ◌++◌, [], Ok, Err, None, true, false, drop, length, replicate, take, IfOk, IsTrue, ◌↔◌, if◌then◌else◌, vec_capacity};
+ghost use Rattle.std.specs.Prelude.{ℕ, ℤ, List, ◌≡◌, ◌≤◌, ◌<◌, ◌+◌, ◌-◌, ◌*◌, ◌++◌, [], Ok, Err, None, true, false, drop, length, map, replicate, take, IfOk, IsTrue, ◌↔◌, if◌then◌else◌, vec_capacity};
 ghost use Rattle.crx_text.specs.meaning.Columns.{columns, without_end_blanks};
 ghost use Rattle.crx_base.specs.declared.limits.TheConstants.{CELL_WIDTH, LINE_LIMIT, NAME_WIDTH, TYPES_LIMIT};
 ghost use Rattle.crx_header.specs.meaning.EpochColumns.{begins_epoch};
@@ -12,9 +12,11 @@ ghost use Rattle.crx_text.specs.meaning.PrintedCells.{printed_cells};
 ghost use Rattle.crx_base.specs.Padded.{line_in};
 ghost use Rattle.crx_compact.specs.declared.cells.TheConstants.{CELL_ROOM};
 ghost use Rattle.crx_compact.specs.HeldRows.{AreHeldFlags};
+ghost use Rattle.crx_compact.specs.Arcs.{whole_arcs};
 ghost use Rattle.crx_compact.specs.Blocks.{IsLinePut};
-ghost use Rattle.crx_compact.specs.Placing.{AnswersMarks, AnswersReading, AnswersRoom, FitsFlags, FitsRow, IsMarked, resized, row_tail_of, satellite_after, line_after};
-ghost use Rattle.crx_compact.specs.ShownRows.{shown_row};
+ghost use Rattle.crx_compact.specs.Placing.{AnswersMarks, AnswersReading, AnswersRoom, FitsFlags, FitsRow, IsMarked, cells_for, resized, row_tail_of, satellite_after, line_after};
+ghost use Rattle.crx_compact.specs.ArcSteps.{shown_value};
+ghost use Rattle.crx_compact.specs.ShownRows.{AreFirstPrinted, shown_row};
 
 use crate::arc::{Far, Near};
 use crate::cells::{read_cells, write_cells};
@@ -247,11 +249,7 @@ impl SatelliteHistory {
         let count = self.count;
         let flags = &self.indicators[..2 * count];
         let arcs = self.near.as_slice();
-        // Both indicators of a cell are there: they become one load and one store.
-        for index in 0..arcs.len() {
-            let place = at + NAME_WIDTH + CELL_WIDTH * index;
-            obs_print_cell(arcs[index].value(), flags, 2 * index, bytes, place);
-        }
+        print_cells(arcs, flags, bytes, at + NAME_WIDTH);
         if arcs.len() < count {
             print_missing(arcs.len(), count, flags, bytes, at + NAME_WIDTH);
         }
@@ -259,6 +257,33 @@ impl SatelliteHistory {
         let length = NAME_WIDTH + CELL_WIDTH * count;
         trim_end(&bytes[at..at + length]).len()
     }
+}
+
+/// Prints the cells of some arcs, from an index on. Two of them go in a turn: so a line has half as many turns,
+/// and the end of few of them is foretold (a mispredicted branch a line less with four types, and 1 to 2
+/// percent of the instructions). Both indicators of a cell are there: they become one load and one store.
+#[inline(always)]
+fn print_cells(arcs: &[Near<OBSERVATION_WIDTH>], flags: &[u8], bytes: &mut [u8], at: usize)
+    requires paired { 2 * length arcs.now ≤ length flags.now }
+    requires room { at + CELL_WIDTH * length arcs.now ≤ length bytes.old }
+    ensures put { (far : List (List ℤ)) (count : ℕ) → length flags.now ≡ 2 * count → length arcs.now ≤ count
+        → AreFirstPrinted (length arcs.now) count (map shown_value (cells_for count (whole_arcs arcs.now far)))
+        flags.now at bytes.old bytes.new }
+    ensures long { length bytes.new ≡ length bytes.old }
+{
+    for pair in 0..arcs.len() / 2 {
+        let index = 2 * pair;
+        let place = at + CELL_WIDTH * index;
+        obs_print_cell(arcs[index].value(), flags, 2 * index, bytes, place);
+        let (other, behind) = (index + 1, place + CELL_WIDTH);
+        obs_print_cell(arcs[other].value(), flags, 2 * other, bytes, behind);
+    }
+    if arcs.len() % 2 == 0 {
+        return;
+    }
+    let last = arcs.len() - 1;
+    let place = at + CELL_WIDTH * last;
+    obs_print_cell(arcs[last].value(), flags, 2 * last, bytes, place);
 }
 
 /// Prints the cells from one on up to so many, whose values are missing, behind those before them, of which
