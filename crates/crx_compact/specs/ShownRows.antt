@@ -25,7 +25,8 @@ shown_epoch tail count =
       rows = map shown_row (take count tail.rows);
     }
 
--- of so many cells the first ones were printed into bytes from an index on: with those that are left they are all
+-- the first of so many cells were printed into bytes, from an index on: with the cells that are left they make
+-- the text of all
 abbrev pub AreFirstPrinted : ℕ → ℕ → List (Option ℤ) → List ℕ → ℕ → List ℕ → List ℕ → Type 0
 AreFirstPrinted first count values flags at old new =
     take (at + CELL_WIDTH * first) new ++ printed_cells (drop first values) (drop (2 * first) (columns flags 1 (2 * count)))

@@ -132,7 +132,7 @@ fn put_four(differences: &mut [i64], value: i64, first: i64, second: i64, third:
 }
 
 /// Does what [`go_on`] does for an order of at most 3. All four differences are made, and those above the
-/// order, which may have wrapped, mean nothing: a loop's end can't be foretold where arcs are young.
+/// order, which may have wrapped, mean nothing: where arcs have just begun, a loop's end can't be foretold.
 #[inline(always)]
 fn go_on_near(differences: &mut [i64; NEAR_LIMIT], order: usize, value: i64) -> i64
     requires few { order < NEAR_LIMIT }

@@ -259,9 +259,9 @@ impl SatelliteHistory {
     }
 }
 
-/// Prints the cells of some arcs, from an index on. Two of them go in a turn: so a line has half as many turns,
-/// and the end of few of them is foretold (a mispredicted branch a line less with four types, and 1 to 2
-/// percent of the instructions). Both indicators of a cell are there: they become one load and one store.
+/// Prints the cells of some arcs, from an index on, two in a turn: so a line has half as many turns, and the
+/// end of few of them is foretold (a mispredicted branch a line less with four types, and 1 to 2 percent of
+/// the instructions). Both indicators of a cell are there: they become one load and one store.
 #[inline(always)]
 fn print_cells(arcs: &[Near<OBSERVATION_WIDTH>], flags: &[u8], bytes: &mut [u8], at: usize)
     requires paired { 2 * length arcs.now ≤ length flags.now }

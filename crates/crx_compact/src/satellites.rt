@@ -132,8 +132,8 @@ impl Satellites {
                     self.next += 1;
                     return Some(true);
                 }
-                // Those before it are left out. Where it is the last, another has taken the place of what is
-                // expected behind it, and with this exchange that is at the same place.
+                // Those before it are left out. Where it is at the last place, one that came anew took its
+                // own: the one behind it is the first that hasn't come then, which this brings to that place.
                 exchange(&mut self.order, &mut self.places, self.placed, self.next);
                 self.placed += 1;
                 self.next = (self.next + 1).min(self.live - 1);
@@ -143,8 +143,8 @@ impl Satellites {
         self.bring(name, count)
     }
 
-    /// The satellite with an identifier comes, for [`Satellites::place`], where it isn't the one that is
-    /// expected.
+    /// Does what [`Satellites::place`] does, for any satellite: it is looked for by its hint, and then by the
+    /// map.
     #[inline(never)]
     pub(crate) fn bring(&mut self, name: &[u8; NAME_WIDTH], count: usize) -> Option<bool>
         ensures { AnswersPlacing name.now count self.old self.new result }

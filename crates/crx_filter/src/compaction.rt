@@ -154,7 +154,7 @@ impl Direction for Compaction {
     }
 
     fn new(alloc: Global) -> Result<Compaction, AllocError> {
-        // What `?` keeps of a refusal, a row among it, would be filled with zeros.
+        // The place that `?` has for a refusal is as long as an encoder, and would be filled with zeros.
         let Ok(encoder) = Encoder::new(alloc) else {
             return Err(AllocError);
         };

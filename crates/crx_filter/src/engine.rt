@@ -60,7 +60,8 @@ impl<D: Direction> LineEngine<D> {
         ensures knows { IfOk result (λ e. D.notes e.direction e.options []) }
         ensures asked { OnErr result (D.takes_at_start ≡ true) }
     {
-        // What `?` keeps of a refusal would be filled with zeros, and the direction be moved on the stack.
+        // The place that `?` has for a refusal is as long as a direction. It would be filled with zeros, and
+        // the direction would be moved on the stack.
         let Ok(direction) = D::new(alloc) else {
             return Err(AllocError);
         };

@@ -9,7 +9,7 @@ use Rattle.crx_lines.specs.declared.window.Window.{Window}
 abbrev pub kept : Window → List ℕ
 kept w = slice_range w.bytes.items w.start w.end
 
--- a line that was taken is within the window, as long as its places say, and a blank and more bytes are behind it
+-- a line that was taken is as long as its places say; a blank is behind it, and bytes to pad it
 abbrev pub IsCut : List ℕ → Cut → Type 0
 IsCut bytes cut = (cut.from ≤ cut.to) × (cut.to + PADDING ≤ length bytes) × (slice_index bytes cut.to ≡ 32)
     × (length (slice_range bytes cut.from cut.to) ≡ cut.to - cut.from)

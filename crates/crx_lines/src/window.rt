@@ -17,11 +17,12 @@ use std::mem;
 /// How many bytes a read finds in use and free at least; twice as many are in use at first.
 const PIECE: usize = 2048;
 
-/// How many bytes of the window are free at least before a read: a line's content, CR and LF.
+/// How many of the [`SIZE`] bytes are behind those that are held at least before a read, in use or not: a
+/// line's content, CR and LF.
 const LEAST_ROOM: usize = LINE_LIMIT + 2;
 
-/// How many bytes are held at once, 18 KiB: two of the longest lines, in whole pieces, and dozens of common
-/// ones. To read more at once is no faster.
+/// How many bytes of memory there are for lines, 18 KiB: two of the longest lines, in whole pieces, and
+/// dozens of common ones. They come into use by doubling, up to 16 KiB. To read more at once is no faster.
 pub(crate) const SIZE: usize = (2 * LEAST_ROOM / PIECE + 1) * PIECE;
 
 /// Where the content of a line that was taken is in the window, and whether LF alone ended the line.
@@ -182,8 +183,8 @@ impl Window {
     }
 }
 
-/// Makes a list have so many bytes, for which it has memory, by zeros. As a value the list is filled by one
-/// call of the C library.
+/// Makes a list have so many bytes, for which it has memory, by zeros. It is taken out of its place first:
+/// only then is it filled by one call of the C library.
 fn lengthen(bytes: &mut Vec<u8>, count: usize)
     requires longer { length bytes.old.items ≤ count }
     requires memory { count ≤ vec_capacity bytes.old }

@@ -47,7 +47,7 @@ pub record ComesToEnd (filter : Filter) (shows : List InputLine → List Awaited
   pub running : IsRunning input writer messages now lines (filter.so_far lines)
   pub ended : now.phase ≡ Ended
 
--- a step that took a line
+-- what a step came to that had a line
 abbrev pub stepped : Result Bool Halt → Result (Option Bool) Halt
 stepped (Ok warned) = Ok (Some warned)
 stepped (Err halt) = Err halt

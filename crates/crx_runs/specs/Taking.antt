@@ -36,7 +36,7 @@ pub record HoldsAnswer {E : Type 0} (engine : EngineGhosts E) (now : E) (content
       × (engine.taken now ≡ taken_after step count) × (number ≡ count + 1))
   pub within : number ≤ INPUT_LIMIT
 
--- an engine holds this answer to the line of this content, which came after some lines
+-- an engine holds its answer to what came next after some lines: a line of this content
 abbrev pub WasAnswered : {E : Type 0} → EngineGhosts E → E → List ℕ → Bool → List InputLine → Option InputLine → Type 0
 WasAnswered engine now content is_plain lines next = EngineAnswers (engine.filter now) (engine.shows now)
     (engine.has_ended now) (engine.ready now) lines [] next (engine.answer now)

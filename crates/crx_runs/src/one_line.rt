@@ -61,7 +61,7 @@ impl LineOutcome {
     }
 }
 
-/// Stores what ended a run, where it has ended.
+/// Stores what ended a run, where it has ended, and answers what became of the line.
 fn stored(answer: Result<bool, Halt>, halt: &mut Halt) -> LineOutcome
     ensures { with_halt result halt.new ≡ answer }
 {
@@ -110,7 +110,7 @@ fn write_step<E: Engine, W: Sink, M: Sink>(
 }
 
 /// Takes a line of the input: gives it to the engine, a second time where reading goes on at it, writes what
-/// it hands out, and reports its warnings. What ended the run is stored.
+/// it hands out, and reports its warnings. Where the run ends, what ended it is stored.
 #[inline(always)]
 pub fn take_line<E: Engine, W: Sink, M: Sink>(
     engine: &mut E,
@@ -206,8 +206,8 @@ fn take_again<E: Engine, W: Sink, M: Sink>(
     }
 }
 
-/// Takes a line of the input that is too long, by its number: does what the engine answers to it. What ended
-/// the run is stored.
+/// Takes a line of the input that is too long, by its number: does what the engine answers to it. Where the
+/// run ends, what ended it is stored.
 #[cold]
 pub fn take_overlong<E: Engine, W: Sink, M: Sink>(
     engine: &mut E,

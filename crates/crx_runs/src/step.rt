@@ -11,8 +11,9 @@ use crate::one_line::{Halt, LineOutcome, take_line, take_overlong};
 use crx_base::Fault;
 use crx_lines::{LineReader, Sink, Source};
 
-/// Takes the next line, and stores what ended the run; `None` at the end of the input. The reader is asked
-/// only where no line is held with its LF, and after all that was written was handed on.
+/// Takes the next line; `None` at the end of the input. Where the run ends, what ended it is stored. The
+/// reader is asked only where no line is held with its LF; where it may have to wait, all that was written
+/// was handed on before.
 #[inline(always)]
 pub(crate) fn step<E: Engine, R: Source, W: Sink, M: Sink>(
     engine: &mut E,

@@ -95,8 +95,8 @@ impl Text {
     }
 }
 
-/// A text without the blanks at its end. Part of its callers, as a call takes 8 instructions for each line;
-/// three blanks and more are left to one, since few lines end so.
+/// A text without the blanks at its end. Part of its callers, as a call takes 8 instructions for each line.
+/// Texts that end in three blanks, and those of at most two characters, are left to a call: few lines are so.
 #[inline(always)]
 #[tactic(auto, using(crate::proofs::EndBlanks::ended_at, crate::proofs::EndBlanks::blank_passed, crate::proofs::EndBlanks::nothing_after))]
 pub fn trim_end(text: &[u8]) -> &[u8]
