@@ -7,7 +7,8 @@ use Rattle.crx_compact.proofs.Words.{◌otherwise◌next◌, is_printable, names
 use Rattle.crx_compact.proofs.Words.{Past, satellites_of_line, length-map, apart-map, Tail, past_of_tail}
 use Rattle.crx_compact.proofs.Words.{AreAnnounced, length-each_place, patched, HEAD_WIDTH, NAME_WIDTH, All}
 use Rattle.crx_compact.proofs.Words.{subst, arith, All-head, All-tail, common_steps, list_any}
-use Rattle.crx_compact.proofs.Words.{NamesSatellites, ◌or_else◌with◌, satellite_before, ◌≤◌, by_position, character_of}
+use Rattle.crx_compact.proofs.Words.{NamesSatellites, ◌or_else◌with◌}
+use Rattle.crx_compact.proofs.Words.{satellite_before, ◌≤◌, by_position, character_of}
 use Rattle.crx_compact.proofs.Words.{None, rules, at-without_end_blanks, satellites_few, unwrap_or}
 use Rattle.crx_compact.proofs.Words.{SATELLITES_LIMIT}
 use Rattle.crx_compact.proofs.{EpochTexts.blank-after, SoundTexts.ends-within}

@@ -8,7 +8,8 @@ use Rattle.std.proofs.{Common.append_assoc, lemmas.List.{take-append-drop, take-
 use Rattle.std.proofs.Math.Seq.{take-append_seam, drop-append-add, take-append-add, take-set-lt}
 use Rattle.std.proofs.Math.ListN.{drop_of_length-le}
 use Rattle.crx_text.proofs.WrittenTexts.{counted-line, line-ended}
-use Rattle.crx_compact.specs.{Blocks.{IsBlock, IsLinePut, lines_text}, declared.block.TheConstants.{FIRST_LINES, LINES_LIMIT, LINE_ROOM}}
+use Rattle.crx_compact.specs.Blocks.{IsBlock, IsLinePut, lines_text}
+use Rattle.crx_compact.specs.declared.block.TheConstants.{FIRST_LINES, LINES_LIMIT, LINE_ROOM}
 
 -- the first of some lines ends within the text, and the others are its rest
 first-ended : (count : ℕ) (counts text : List ℕ) → lines_text (cut (count ∷ counts) text) ≡ text
@@ -81,7 +82,8 @@ none-left lengths bytes filled past within = grind (arith, common_steps, cut, dr
 
 -- no line is left of those that are there
 pub none-cut : (lengths bytes : List ℕ) (many filled : ℕ)
-    → many ≤ length lengths → filled ≤ length bytes → AreCut (take many lengths) (take filled bytes) many filled
+    → many ≤ length lengths → filled ≤ length bytes
+    → AreCut (take many lengths) (take filled bytes) many filled
 none-cut lengths bytes many filled counted within =
     grind (arith, common_steps, length-take-le, none-left, drop_of_length-le)
 
@@ -123,7 +125,8 @@ row-pushed lengths bytes used new line many filled room count past past_bytes fr
       line-ended new used line filled count put.written put.within,
       length-set new (filled + count) 10,
       block-pushed lengths bytes (set new (filled + count) 10) line count
-          many filled past past_bytes front memory memory' block held left (counted-line new used line filled count
+          many filled past past_bytes front memory memory' block held left
+          (counted-line new used line filled count
           put.written put.within within),
     )
 

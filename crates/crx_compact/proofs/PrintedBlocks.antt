@@ -1,7 +1,8 @@
 -- The printed lines of an epoch, as its rows come.
 use Rattle.crx_compact.proofs.Words.{◌≡◌, ◌++◌, ◌∷◌, ◌+◌, [], List, ℕ, Some, slice_get, arith}
 use Rattle.crx_compact.proofs.Words.{OpenHistory, tail_of_history, lines_to, rules, Tail, RowTail}
-use Rattle.crx_compact.proofs.Words.{columns, HEAD_WIDTH, printed_head, printed_row, shown_row, shown_value, IsRowRead, PendingLines}
+use Rattle.crx_compact.proofs.Words.{columns, HEAD_WIDTH, printed_head, printed_row}
+use Rattle.crx_compact.proofs.Words.{shown_row, shown_value, IsRowRead, PendingLines}
 use Rattle.crx_compact.proofs.Words.{◌<◌, ◌-◌, ◌∙◌, sym, refl, Bool, Expected, ColumnsState, columns_state}
 use Rattle.crx_compact.proofs.Words.{Option, Idle, Reading, with_rows}
 use Rattle.crx_compact.proofs.{reading.Stages.state-rows}
@@ -21,7 +22,8 @@ head-printed count tail line none block zero emptied lines taken is = grind arit
 -- one row more
 pub row-printed : (tail : Tail) (count : ℕ) (row : RowTail) (old new : PendingLines)
     → IsPrinted count tail old → slice_get tail.rows count ≡ Some row
-    → new.lines ≡ old.lines ++ printed_row (shown_row row) ∷ [] → HasTakenLine old new → IsPrinted (count + 1) tail new
+    → new.lines ≡ old.lines ++ printed_row (shown_row row) ∷ [] → HasTakenLine old new
+    → IsPrinted (count + 1) tail new
 row-printed tail count row old new so_far here lines taken =
     let first = printed_head (columns tail.text 1 HEAD_WIDTH) (shown_value tail.clock) ∷ [] in
     let more = printed-next first old.lines new.lines tail.rows count row so_far.lines here lines in
@@ -34,8 +36,10 @@ pub rows-kept : (old new : OpenHistory) (place : ℕ) (line : List ℕ)
 rows-kept old new place line read same = search (rules, take-set-le)
 
 -- the lines of a block before a row that was read
-pub printed-before : (is_kept : Bool) (expected after : Expected) (count come : ℕ) (history new : OpenHistory) (line : List ℕ)
-    (is_whole : Bool) (state : ColumnsState) (block : PendingLines) → columns_state is_kept expected count history ≡ state
+pub printed-before : (is_kept : Bool) (expected after : Expected) (count come : ℕ)
+    (history new : OpenHistory) (line : List ℕ)
+    (is_whole : Bool) (state : ColumnsState) (block : PendingLines)
+    → columns_state is_kept expected count history ≡ state
     → ArePrinted state block → IsLineTaken line expected count history after come new is_whole → 0 < come
     → IsPrinted (come - 1) (tail_of_history new) block
 printed-before is_kept expected after count come history new line is_whole state block e printed taken some =
@@ -54,5 +58,6 @@ pub rows-printed : (tail : Tail) (count : ℕ) (state : ColumnsState) (block : P
 rows-printed tail count state block e printed = grind arith
 
 -- nothing is printed between two epochs
-pub idle-unprinted : (held : Option Tail) (state : ColumnsState) (block : PendingLines) → state ≡ Idle held → ArePrinted state block
+pub idle-unprinted : (held : Option Tail) (state : ColumnsState) (block : PendingLines) → state ≡ Idle held
+    → ArePrinted state block
 idle-unprinted held state block e = grind arith

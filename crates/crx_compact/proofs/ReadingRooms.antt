@@ -1,7 +1,8 @@
 -- The room that an epoch's lines need, by its satellites and by its rows.
 use Rattle.crx_compact.proofs.Words.{arith, sym, ◌∙◌, ap, subst, ◌≡◌, ℕ, List, Option, Some, Ok, Err, Result}
 use Rattle.crx_compact.proofs.Words.{length-each_place, Fault, Count, Content, and_then, common_steps}
-use Rattle.crx_compact.proofs.Words.{past_of_tail, satellites_of_line, Satellite, before_clock, first_step, opening}
+use Rattle.crx_compact.proofs.Words.{past_of_tail, satellites_of_line, Satellite}
+use Rattle.crx_compact.proofs.Words.{before_clock, first_step, opening}
 use Rattle.crx_compact.proofs.Words.{tail_for_line, tail_opened, HasRoom, HaveTypesRoom}
 use Rattle.crx_compact.proofs.Words.{tail_of_history, OpenHistory, Tail}
 use Rattle.crx_compact.proofs.{AnnouncedRows.satellites-again, Words.satellite_of, reading.Stages.line-good}

@@ -43,7 +43,8 @@ without_clock : (head : List ℕ) (clock : Option ℤ) → is_some clock ≡ fal
     → printed_head head clock ≡ without_end_blanks (columns head 1 HEAD_WIDTH)
 unfolding number_text
 without_clock head None none width =
-    end_blanks-more head 15 ∙ sym (ap without_end_blanks (take-append-le HEAD_WIDTH head (replicate HEAD_WIDTH 32)
+    end_blanks-more head 15
+    ∙ sym (ap without_end_blanks (take-append-le HEAD_WIDTH head (replicate HEAD_WIDTH 32)
     (omega (arith, width)) ∙ take_all HEAD_WIDTH head (omega (arith, width))))
 without_clock head (Some clock) none width = false-true (sym none)
 

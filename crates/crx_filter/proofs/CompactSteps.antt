@@ -1,6 +1,7 @@
 -- What a reader of compact text holds after a line.
 use Rattle.crx_filter.proofs.Words.{common_steps, arith, ◌≡◌, Bool, true, List, ℕ, Option, None, Result}
-use Rattle.crx_filter.proofs.Words.{Ok, Err, Content, Fault, OutOfMemory, Count, Satellite, Tail, and_then, RawStep}
+use Rattle.crx_filter.proofs.Words.{Ok, Err, Content, Fault, OutOfMemory}
+use Rattle.crx_filter.proofs.Words.{Count, Satellite, Tail, and_then, RawStep}
 use Rattle.crx_filter.proofs.Words.{OpenRawEpoch}
 use Rattle.crx_filter.{proofs.Words.first_step, specs.CompactStages.{wants_line, wants_lines}}
 use Rattle.crx_compact.specs.OpenEpochs.{ColumnsState, Going, Whole, Faulty, HasMade, opened_raw, awaited_row}

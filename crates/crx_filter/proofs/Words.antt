@@ -65,7 +65,8 @@ pub use Rattle.crx_filter.specs.declared.rinex_reader.RinexStep.TheVariants.{Not
 pub use Rattle.crx_filter.specs.declared.stage.Stage.{Stage, TheVariants.Open}
 pub use Rattle.crx_filter.specs.meaning.Compacted.{compact_unit, rinex_place, epochs_accepted, is_at_every}
 pub use Rattle.crx_filter.specs.meaning.Compacted.{is_in_full, marked_epochs, whole_rinex, compact_lines}
-pub use Rattle.crx_filter.specs.{meaning.{Compacted.{compacted, is_interrupted}, Accounts.with_epochs}, Damage.BeginsAnew}
+pub use Rattle.crx_filter.specs.meaning.{Compacted.{compacted, is_interrupted}, Accounts.with_epochs}
+pub use Rattle.crx_filter.specs.Damage.{BeginsAnew}
 pub use Rattle.crx_filter.specs.Damage.{lines_of_epochs, lines_after}
 pub use Rattle.crx_filter.specs.meaning.Directions.{rinex_reading, compact_reading, compaction_filter}
 pub use Rattle.crx_filter.specs.meaning.Directions.{expansion_filter, compact_memory}

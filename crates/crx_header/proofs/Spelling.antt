@@ -41,7 +41,9 @@ put-there table name other long e f = decided (bytes_eq name other) refl
   where
     decided : (b : Bool) → bytes_eq name other ≡ b → has_identifier (set table (index_of name) true) other
         ≡ (b || has_identifier table other)
-    decided true is = rw (← (bytes_eq-Decides name other).0 is) (get_or-set_same table (index_of name) true false
+    decided true is =
+        rw (← (bytes_eq-Decides name other).0 is) (get_or-set_same table (index_of name) true false
         (rw (long) (index-within name e)))
     decided false is = get_or-set_other table (index_of name) (index_of other) true false
-        (λ same. false≢true (sym is ∙ (bytes_eq-Decides name other).1 (index-apart name other e f (sym same))))
+        (λ same. false≢true
+        (sym is ∙ (bytes_eq-Decides name other).1 (index-apart name other e f (sym same))))

@@ -58,7 +58,8 @@ behind choices (Accepted unit ∷ later) before =
     let last = compact_unit choices (later ++ before) unit in
     let h = behind choices later before in record {
       more = h.more ++ last;
-      is = ap (λ (ls : List (List ℕ)). ls ++ last) h.is ∙ append_assoc (compact_lines choices before) h.more last;
+      is = ap (λ (ls : List (List ℕ)). ls ++ last) h.is
+          ∙ append_assoc (compact_lines choices before) h.more last;
     }
 behind choices (Warned at ∷ later) before =
     let h = behind choices later before in record { more = h.more; is = h.is }
@@ -100,7 +101,8 @@ make-a_day first second header later rest compacting expanding dated h e =
     let written : lines_text (compact_lines compacting (later ++ header)) ≡ lines_text
     (compact_lines compacting header) ++ rest = ap (λ (is : List (Item Epoch)).
     lines_text (compact_lines compacting is)) (sym items) ∙ e in
-    let piece : IsOwnPieceAfter second first compacting ((compacted first compacting).output ++ rest) = record {
+    let piece : IsOwnPieceAfter second first compacting ((compacted first compacting).output ++ rest) =
+    record {
       file_good = whole;
       front_good = read-whole first compacting h.first_good;
       before = header;
@@ -115,5 +117,6 @@ make-a_day first second header later rest compacting expanding dated h e =
           (text-behind compacting later header rest written);
     } in
     own-piece second first compacting expanding ((compacted first compacting).output ++ rest) dated piece
-    ∙ ap (λ (w : WholeReading Epoch). written_well (lines_text (printed_items w.items ++ printed_items later))) one
+    ∙ ap (λ (w : WholeReading Epoch).
+    written_well (lines_text (printed_items w.items ++ printed_items later))) one
     ∙ ap written_well (text-append (printed_items (whole_of first).items) (printed_items later))

@@ -36,7 +36,8 @@ pub ruleset of_progress = (HasRead-ended, HasRead-start, HasRead-stopped, stoppe
 
 pub ruleset of_arcs = (within-is, inverts, values-by_tail, overlaid-in_turn, patched-difference)
 
-pub ruleset of_steps = (read-bounded, raw-by_tail, steady-epoch_against, steps-agree, steps-read_back, wanted-where_open)
+pub ruleset of_steps =
+    (read-bounded, raw-by_tail, steady-epoch_against, steps-agree, steps-read_back, wanted-where_open)
 
 pub ruleset of_any_writer = (any-epoch, any-row, any-text, first-units, only-epoch, only-row)
 

@@ -16,10 +16,12 @@ use Rattle.crx_text.specs.meaning.Numbers.{size_of, number_of, number_text}
 use Rattle.crx_filter.specs.meaning.Standard.{IsStandard}
 use Rattle.crx_filter.specs.meaning.UnitsAndText.{MakeAFile}
 use Rattle.crx_filter.proofs.wayback.Units.{read-units}
-use Rattle.crx_compact.specs.meaning.AnyWriter.{Arc, WrittenRow, WrittenEpoch, nothing_written, IsRowLine, MayFollow, arc_in, AreEpochLines}
+use Rattle.crx_compact.specs.meaning.AnyWriter.{Arc, WrittenRow, WrittenEpoch, nothing_written}
+use Rattle.crx_compact.specs.meaning.AnyWriter.{IsRowLine, MayFollow, arc_in, AreEpochLines}
 use Rattle.crx_filter.specs.meaning.{CompactText.AreLinesOf, Stretches.{AreLinesOn, up_to_end}}
 use Rattle.crx_laws.specs.WildText.{wild_stretch, full_lines, event, comment, wild_header}
-use Rattle.crx_laws.specs.WildText.{wild_units, wild_before, file, blanks, head_at, lines_before, first_lines_of, version, types_line, end_line}
+use Rattle.crx_laws.specs.WildText.{wild_units, wild_before, file, blanks, head_at}
+use Rattle.crx_laws.specs.WildText.{lines_before, first_lines_of, version, types_line, end_line}
 
 standard : IsStandard (lines_text file)
 unfolding digits size_of number_of number_text
@@ -64,7 +66,11 @@ unfolding coded_number digits
 first-row = row-is None arc_one (codes "9&0020000000000") [] _ (inl refl) refl refl refl refl
 
 pub first-epoch : AreEpochLines None (epoch_with 0 arc_one) first_lines_of
-first-epoch = (nothing_written, refl, record { marked = refl; spelled = refl; follows = tt; satellites = (first-row, tt) })
+first-epoch = (
+  nothing_written,
+  refl,
+  record { marked = refl; spelled = refl; follows = tt; satellites = (first-row, tt) },
+)
 
 abbrev pub header_lines : List (List ℕ)
 header_lines = version ∷ types_line ∷ end_line ∷ []
@@ -88,8 +94,14 @@ lines-of_header = (
 )
 
 pub lines-before : AreLinesOf wild_before lines_before (Some (epoch_with 0 arc_one))
-lines-before =
-    (None, header_lines, first_lines_of, lines-of_header, refl, (epoch_with 0 arc_one, refl, refl, first-epoch))
+lines-before = (
+  None,
+  header_lines,
+  first_lines_of,
+  lines-of_header,
+  refl,
+  (epoch_with 0 arc_one, refl, refl, first-epoch),
+)
 
 -- ---- the lines that are kept
 
@@ -101,7 +113,11 @@ unfolding coded_number digits
 full-row = row-is None full_arc (codes "7&0020000202000") [] _ (inl refl) refl refl refl refl
 
 full-epoch : AreEpochLines None (epoch_with 2 full_arc) full_lines
-full-epoch = (nothing_written, refl, record { marked = refl; spelled = refl; follows = tt; satellites = (full-row, tt) })
+full-epoch = (
+  nothing_written,
+  refl,
+  record { marked = refl; spelled = refl; follows = tt; satellites = (full-row, tt) },
+)
 
 pub kept-lines : AreLinesOn (up_to_end wild_before wild_stretch) None wild_stretch.kept wild_stretch.lines
     (Some (epoch_with 2 full_arc))
@@ -109,7 +125,14 @@ kept-lines = (
   None,
   event ∷ comment ∷ [],
   full_lines,
-  (None, event ∷ [], comment ∷ [], (None, [], event ∷ [], (refl, refl), refl, (refl, refl)), refl, (refl, refl)),
+  (
+    None,
+    event ∷ [],
+    comment ∷ [],
+    (None, [], event ∷ [], (refl, refl), refl, (refl, refl)),
+    refl,
+    (refl, refl),
+  ),
   refl,
   (epoch_with 2 full_arc, refl, refl, full-epoch),
 )

@@ -3,7 +3,8 @@ use Rattle.std.proofs.Common.{◌≡◌, ◌∙◌, ℕ, Bool, List, [], ◌++�
 use Rattle.std.proofs.{Common.{append_assoc, append-nil, arith}, lemmas.Grind.common_steps}
 use Rattle.crx_command.specs.declared.job.Job.{Job}
 use Rattle.crx_program.specs.meaning.Calls.{Call, options_to_read, with_call}
-use Rattle.crx_program.specs.meaning.Jobs.{call_to_read, call_to_write, calls_of, options_of_target, Hindrance}
+use Rattle.crx_program.specs.meaning.Jobs.{call_to_read, call_to_write, calls_of}
+use Rattle.crx_program.specs.meaning.Jobs.{options_of_target, Hindrance}
 use Rattle.crx_program.specs.meaning.Jobs.{MadeUntil, NoMemory, CannotRead, FileExists, CannotCreate}
 use Rattle.crx_program.specs.meaning.Streams.{OpensInOrder}
 
@@ -15,12 +16,14 @@ called-to_write before after name target force named made = rw named made
 
 -- a call to read
 pub called-to_read : (before after : List Call) (name : List ℕ) (source : Option (List ℕ))
-    → source ≡ Some name → after ≡ with_call before name options_to_read → after ≡ before ++ call_to_read source
+    → source ≡ Some name → after ≡ with_call before name options_to_read
+    → after ≡ before ++ call_to_read source
 called-to_read before after name source named made = rw named made
 
 -- what was made until a hindrance after a call to read
 pub made-after_read : (why : Hindrance) (read written before between after : List Call)
-    → between ≡ before ++ read → MadeUntil why [] written between after → MadeUntil why read written before after
+    → between ≡ before ++ read → MadeUntil why [] written between after
+    → MadeUntil why read written before after
 made-after_read = grind (arith, common_steps, append_assoc, append-nil)
 
 -- what was made until a hindrance is the first of a job's calls

@@ -7,7 +7,8 @@ use Rattle.crx_runs.specs.meaning.Results.{FilterResult}
 use Rattle.jiff.specs.declared.timestamp.Timestamp.{Timestamp}
 use Rattle.crx_command.specs.declared.job.{Job.Job, Tool.{Tool, TheVariants.{Compact, Expand, Check}}}
 use Rattle.crx_program.specs.declared.streams.Whole.{Whole}
-use Rattle.crx_program.specs.meaning.{Jobs.tool_result, Kept.{KeepsItsPromises, IsLogged, ToolKeeps}, Streams.IsExact}
+use Rattle.crx_program.specs.meaning.Jobs.{tool_result}
+use Rattle.crx_program.specs.meaning.{Kept.{KeepsItsPromises, IsLogged, ToolKeeps}, Streams.IsExact}
 
 -- a result without status 1 has no fault
 good-result : (tool : Tool) (choices : Choices) (input : List ℕ)

@@ -1,6 +1,7 @@
 -- What the logs of a run's devices are, by what ran between them.
 use Rattle.std.proofs.lemmas.Grind.{common_steps}
-use Rattle.std.proofs.Common.{arith, ◌≡◌, ◌⊎◌, ◌∙◌, ◌<◌, ℕ, Bool, true, false, List, [], ◌++◌, Option, Some, None}
+use Rattle.std.proofs.Common.{arith, ◌≡◌, ◌⊎◌, ◌∙◌, ◌<◌, ℕ, Bool, true}
+use Rattle.std.proofs.Common.{false, List, [], ◌++◌, Option, Some, None}
 use Rattle.std.proofs.Common.{ap, append-nil, inl, inr, is_some, refl}
 use Rattle.std.specs.Io.KnownBytes.{Appends, Consumes, IsAtEnd}
 use Rattle.crx_lines.specs.declared.device.{Sink.Ghosts as SinkGhosts, Source.Ghosts as SourceGhosts, Std.Std}
@@ -192,7 +193,8 @@ module _ {F G I O E : Type 0} (file : F → Option (List ℕ)) (made : G → Opt
 
     -- where the job was begun it has a reader and a writer
     pub run_over : IsJobDone (reader_of file) (writer_of made) moment job source target input output messages
-        status ((last ≡ first) × (after ≡ before) × (target ≡ None)) fewer calls → ((status ≡ 1 → ⊥) → IsExact)
+        status ((last ≡ first) × (after ≡ before) × (target ≡ None)) fewer calls
+        → ((status ≡ 1 → ⊥) → IsExact)
         × (IsFront ⊎ ((last.log.bytes ≡ []) × (after.log.bytes ≡ []) × (target ≡ None)))
         × OpensInOrder job fewer calls
     run_over (inl begun) =

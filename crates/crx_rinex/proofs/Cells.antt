@@ -10,7 +10,8 @@ use Rattle.std.proofs.lemmas.List.{drop_all, drop-drop, drop-replicate, drop-set
 use Rattle.std.proofs.lemmas.List.{length-drop, get_or_past}
 use Rattle.std.proofs.lemmas.List.{length-replicate, length-take, length-take-le, take-replicate, take-take}
 use Rattle.std.proofs.lemmas.List.{take_all, take_rest}
-use Rattle.std.proofs.lemmas.{List.{Elements.{All-append, All-replicate, filter-append}, Folds.{concat-append, list_all-append}}}
+use Rattle.std.proofs.lemmas.List.Elements.{All-append, All-replicate, filter-append}
+use Rattle.std.proofs.lemmas.List.Folds.{concat-append, list_all-append}
 use Rattle.std.proofs.lemmas.{Simd.length-put_chunk}
 use Rattle.std.specs.{List.{concat, list_all, range_with_len}, Prelude.{filter, is_some, slice_set}}
 use Rattle.std.specs.{Simd.Lanes.put_chunk}

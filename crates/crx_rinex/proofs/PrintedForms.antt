@@ -1,12 +1,14 @@
 -- The form of fields, by lanes.
 use Rattle.std.proofs.Common.{◌≡◌, ℕ, ◌^◌, suc, Bool, true, false, not, cond, ◌&&◌, ◌||◌, eqb, ◌%◌}
-use Rattle.std.proofs.Common.{bit_and, bit_or, List, [], ◌∷◌, ◌++◌, map, length, replicate, drop, get_or, subst, refl}
+use Rattle.std.proofs.Common.{bit_and, bit_or, List, [], ◌∷◌, ◌++◌, map}
+use Rattle.std.proofs.Common.{length, replicate, drop, get_or, subst, refl}
 use Rattle.std.proofs.{Common.{sym, ap, ◌∙◌, arith}, lemmas.Grind.common_steps}
 use Rattle.std.specs.List.{list_any, range_with_len}
 use lib.Lanes.{pick_l, mask_l, top, zip2}
 use Rattle.crx_text.proofs.LaneBits.{sixteen, no_bit}
 use Rattle.std.proofs.Common.{Option, Some, ℤ}
-use Rattle.std.{proofs.lemmas.{Bool.{OnTrue_from, and_from, not-true, not-false}, Simd.mask_l-mod}, specs.Bool.OnTrue}
+use Rattle.std.proofs.lemmas.{Bool.{OnTrue_from, and_from, not-true, not-false}, Simd.mask_l-mod}
+use Rattle.std.specs.Bool.{OnTrue}
 use Rattle.crx_text.{proofs.Sizes.number_of_width, specs.meaning.Numbers.{observation_of, observation_text}}
 use Rattle.crx_rinex.proofs.PrintedNumbers.{is_formed, field_printed}
 
@@ -46,7 +48,8 @@ module _ (c : ℕ → ℕ) where
 
   abbrev lane : ℕ → ℕ → ℕ → ℕ → ℕ
   lane before after one what =
-      bit_and (bit_or (cond (eqb before after) 255 0) (cond (eqb before 45) 255 0)) (cond (eqb one what) 255 0)
+      bit_and (bit_or (cond (eqb before after) 255 0) (cond (eqb before 45) 255 0))
+      (cond (eqb one what) 255 0)
 
   module _ (none : list_any (top 7) (odd row) ≡ false) where
     even : (i before after what : ℕ) → get_or (odd row) i 0 ≡ lane before after (c i) what
@@ -67,5 +70,6 @@ module _ (c : ℕ → ℕ) where
 pub form_from_lanes : (v : List ℕ) → length v ≡ 16
     → OnTrue (not (not (eqb (mask_l (map (top 7) (odd v)) % 2 ^ 64) 0))) (Prints (drop 2 v))
 form_from_lanes v long =
-    subst (λ (w : List ℕ). OnTrue (not (not (eqb (mask_l (map (top 7) (odd w)) % 2 ^ 64) 0))) (Prints (drop 2 w)))
+    subst (λ (w : List ℕ).
+    OnTrue (not (not (eqb (mask_l (map (top 7) (odd w)) % 2 ^ 64) 0))) (Prints (drop 2 w)))
     (sym (sixteen v long)) (form (λ (i : ℕ). get_or v i 0))

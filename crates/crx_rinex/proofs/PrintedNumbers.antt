@@ -1,17 +1,20 @@
 -- Texts that spell a number as printing does.
 use Rattle.std.proofs.Common.{◌≡◌, ℕ, ℤ, pos, neg_ℤ, zero, suc, ◌+◌, ◌-◌, ◌*◌, ◌/◌, ◌%◌, ◌<◌, ◌≤◌, ◌^◌}
-use Rattle.std.proofs.Common.{Bool, true, false, not, ◌&&◌, ◌||◌, eqb, List, [], ◌∷◌, ◌++◌, length, take, drop}
+use Rattle.std.proofs.Common.{Bool, true, false, not, ◌&&◌, ◌||◌, eqb}
+use Rattle.std.proofs.Common.{List, [], ◌∷◌, ◌++◌, length, take, drop}
 use Rattle.std.proofs.Common.{get_or, replicate, Option, Some, None, refl, sym, ap, ◌∙◌, arith, subst}
 use Rattle.std.proofs.Common.{eqb-true}
 use Rattle.std.proofs.lemmas.{Grind.common_steps, Fmt.{decimal-digits_value, decimal_digit}}
 use Rattle.std.specs.{Char.is_ascii_digit, Str.{all_ascii_digits, Parse.{digits_value, digits_value_after}}}
 use Rattle.std.proofs.lemmas.{Bool.{and_parts, eqb-false}, Option.{same_Some, none-some}}
 use Rattle.std.specs.Option.{option_map}
-use Rattle.std.proofs.lemmas.{List.{drop_more, take-append-drop, length-take-le, length-drop, length-replicate, length-append}, Str.Parse.digits_value_short}
+use Rattle.std.proofs.lemmas.List.{drop_more, take-append-drop, length-take-le, length-drop}
+use Rattle.std.proofs.lemmas.{List.{length-replicate, length-append}, Str.Parse.digits_value_short}
 use Rattle.crx_text.proofs.PowersOfTen.{digit_value_is, digit_range}
 use Rattle.crx_text.proofs.PrintedDigits.{padded_digits}
 use Rattle.crx_text.proofs.ReadBack.{digits_own, digits_behind}
-use Rattle.crx_text.proofs.Sizes.{size_of_short, size_of_pointless, size_of_parts, decimal_number_plain, decimal_number_minus}
+use Rattle.crx_text.proofs.Sizes.{size_of_short, size_of_pointless, size_of_parts}
+use Rattle.crx_text.proofs.Sizes.{decimal_number_plain, decimal_number_minus}
 use Rattle.crx_text.specs.meaning.{Columns.without_first_blanks, Numbers.{size_of, size_text, zero_padded}}
 use Rattle.crx_text.specs.meaning.Numbers.{decimal_number, missing_or_number, number_text, spelling}
 
@@ -64,10 +67,20 @@ around w s within point =
 size_printed : (w z : ℕ) (s : List ℕ) → length s ≡ w + 4 → 0 < w → w ≤ 10 → (get_or s 0 0 ≡ 48 → w ≡ 1)
     → size_of 3 s ≡ Some z → size_text 3 z ≡ s
 size_printed w z s long some few led reads =
-    grind (arith, common_steps, size_of_pointless, size_of_parts, parts_printed, around, length-take-le, length-drop)
+    grind (
+      arith,
+      common_steps,
+      size_of_pointless,
+      size_of_parts,
+      parts_printed,
+      around,
+      length-take-le,
+      length-drop,
+    )
 
 -- behind a blank or a minus
-led_printed : (w z before c : ℕ) (cs : List ℕ) → (eqb before 32 || eqb before 45) ≡ true → length (c ∷ cs) ≡ w + 4
+led_printed : (w z before c : ℕ) (cs : List ℕ) → (eqb before 32 || eqb before 45) ≡ true
+    → length (c ∷ cs) ≡ w + 4
     → w ≤ 10 → is_formed w before (c ∷ cs) ≡ true → size_of 3 (c ∷ cs) ≡ Some z → size_text 3 z ≡ c ∷ cs
 led_printed w z before c cs first long few formed reads =
     grind (arith, common_steps, size_of_pointless 3 0 (c ∷ cs), size_printed w z (c ∷ cs))
@@ -147,7 +160,12 @@ blank_more (Some n) cs is =
     let long = length-replicate {A = ℕ} (length cs - length (spelling 3 n)) 32 in
     let sum = ap (λ (t : List ℕ). length t) is in
     let next : suc (length cs) - length (spelling 3 n) ≡ suc (length cs - length (spelling 3 n)) =
-    omega (arith, long, sum, length-append (replicate {A = ℕ} (length cs - length (spelling 3 n)) 32) (spelling 3 n)) in
+    omega (
+      arith,
+      long,
+      sum,
+      length-append (replicate {A = ℕ} (length cs - length (spelling 3 n)) 32) (spelling 3 n),
+    ) in
     rw next (ap (λ t. 32 ∷ t) is)
 
 none_text : number_text 0 3 None ≡ []

@@ -1,20 +1,26 @@
 -- Satellite lines whose fields are all what printing gives of them.
 use Rattle.std.proofs.Common.{rules}
-use Rattle.std.proofs.Common.{◌≡◌, ◌≢◌, inl, inr, ℕ, ℤ, zero, suc, ◌+◌, ◌-◌, ◌*◌, ◌<◌, ◌≤◌, true, List, [], ◌∷◌, ◌++◌}
-use Rattle.std.proofs.Common.{length, take, drop, replicate, get_or, Option, Some, None, Ok, refl, sym, ap, ◌∙◌, subst, arith}
+use Rattle.std.proofs.Common.{◌≡◌, ◌≢◌, inl, inr, ℕ, ℤ, zero, suc, ◌+◌}
+use Rattle.std.proofs.Common.{◌-◌, ◌*◌, ◌<◌, ◌≤◌, true, List, [], ◌∷◌, ◌++◌}
+use Rattle.std.proofs.Common.{length, take, drop, replicate, get_or, Option}
+use Rattle.std.proofs.Common.{Some, None, Ok, refl, sym, ap, ◌∙◌, subst, arith}
 use Rattle.std.proofs.lemmas.{Bool.{cases_lt}, Grind.common_steps, Option.{none-some, same_Some}}
-use Rattle.std.proofs.lemmas.List.{drop_all, drop-drop, drop-take, get_or-drop, get_or-take, length-append, length-drop, take-take, take_all}
+use Rattle.std.proofs.lemmas.List.{drop_all, drop-drop, drop-take, get_or-drop, get_or-take}
+use Rattle.std.proofs.lemmas.List.{length-append, length-drop, take-take, take_all}
 use Rattle.std.{proofs.lemmas.List.Folds.list_all_at, specs.List.{concat, list_all}}
 use Rattle.std.specs.Option.{option_and_then}
 use Rattle.crx_text.proofs.Characters.{at, at-append, at-append_past, at-drop, columns-are, length-columns}
-use Rattle.crx_text.proofs.{Blanks.end_blanks_columns, EndBlanks.{ended_at, nothing_after}, Spellings.printed_blank}
-use Rattle.crx_text.specs.meaning.{Columns.{character_at, columns, is_blank, without_end_blanks}, EachPlace.each_place}
+use Rattle.crx_text.proofs.Blanks.{end_blanks_columns}
+use Rattle.crx_text.proofs.{EndBlanks.{ended_at, nothing_after}, Spellings.printed_blank}
+use Rattle.crx_text.specs.meaning.Columns.{character_at, columns, is_blank, without_end_blanks}
+use Rattle.crx_text.specs.meaning.EachPlace.{each_place}
 use Rattle.crx_text.specs.meaning.{Numbers.{observation_of}, PrintedCells.printed_cells}
 use Rattle.crx_header.specs.meaning.{ObservationTypes.Count, Satellites.types_of_satellite}
 use Rattle.crx_rinex.proofs.{Cells.{field_inside, field_past}, PrintedForms.Prints}
 use Rattle.crx_rinex.proofs.ReadingBack.{cells-are, from-next, from-none}
 use Rattle.crx_rinex.specs.meaning.{Observations.Row, Printing.printed_row, SatelliteLines.{all_some, field}}
-use Rattle.crx_rinex.specs.meaning.SatelliteLines.{values_in, flags_at, flags_in, row_with, row_of_types, row_of}
+use Rattle.crx_rinex.specs.meaning.SatelliteLines.{values_in, flags_at, flags_in}
+use Rattle.crx_rinex.specs.meaning.SatelliteLines.{row_with, row_of_types, row_of}
 
 -- ---- fields
 
@@ -82,7 +88,8 @@ two_columns line n = grind (arith, common_steps, columns-are)
 
 -- a cell, and the columns after it
 pub cell_split : (line : List ℕ) (k n : ℕ) → columns line (16 * k + 3 + 1) (16 * suc n) ≡ field line k
-    ++ character_at line (16 * k + 18) ∷ character_at line (16 * k + 19) ∷ columns line (16 * (k + 1) + 3 + 1) (16 * n)
+    ++ character_at line (16 * k + 18) ∷ character_at line (16 * k + 19)
+    ∷ columns line (16 * (k + 1) + 3 + 1) (16 * n)
 cell_split line k n =
     let width : 16 * suc n ≡ 14 + (2 + 16 * n) = omega arith in
     let one : 16 * k + 18 ≡ 16 * k + 3 + 14 + 1 = omega arith in
@@ -112,7 +119,8 @@ module _ (line : List ℕ) (prints : (j : ℕ) → Prints (field line j)) where
 
   cells_columns : (n k : ℕ) (values : List (Option ℤ))
       → all_some (each_place n (λ j. observation_of (field line (k + j)))) ≡ Some values
-      → printed_cells values (concat (each_place n (λ j. flags_at line (k + j)))) ≡ columns line (16 * k + 3 + 1) (16 * n)
+      → printed_cells values (concat (each_place n (λ j. flags_at line (k + j))))
+      ≡ columns line (16 * k + 3 + 1) (16 * n)
   cells_columns zero k values reads =
       subst (λ (vs : List (Option ℤ)). printed_cells vs [] ≡ []) (same_Some [] values reads) refl
   cells_columns (suc n) k values reads =
@@ -126,7 +134,8 @@ module _ (line : List ℕ) (prints : (j : ℕ) → Prints (field line j)) where
   row_columns m values reads =
       ap (λ t. columns line 1 3 ++ t)
       (ap (λ (fs : List (List ℕ)). printed_cells values (concat fs)) (from-none m (flags_at line))
-      ∙ cells_columns m 0 values (sym (ap all_some (from-none m (λ j. observation_of (field line j)))) ∙ reads))
+      ∙ cells_columns m 0 values
+      (sym (ap all_some (from-none m (λ j. observation_of (field line j)))) ∙ reads))
       ∙ sym (columns_split line 0 3 (16 * m))
 
   -- ---- a row

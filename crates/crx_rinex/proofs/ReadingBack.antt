@@ -230,8 +230,10 @@ rows-back so_far (row ∷ rows) lines h typed apart =
     grind (
       arith,
       common_steps,
-      rows-back (with_next_row so_far row) rows lines (All-tail IsSoundRow row rows h) (All-tail (HasItsTypes so_far.types) row rows typed),
-      next-read so_far row (All-head IsSoundRow row rows h) (All-head (HasItsTypes so_far.types) row rows typed) (row-new so_far.rows row rows apart),
+      rows-back (with_next_row so_far row) rows lines (All-tail IsSoundRow row rows h)
+          (All-tail (HasItsTypes so_far.types) row rows typed),
+      next-read so_far row (All-head IsSoundRow row rows h)
+          (All-head (HasItsTypes so_far.types) row rows typed) (row-new so_far.rows row rows apart),
     )
 
 epoch-begun : (types : List Count) (line : List ℕ) (head : ObservationHead) (lines : List ReadLine)

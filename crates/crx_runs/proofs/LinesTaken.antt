@@ -13,7 +13,8 @@ use Rattle.crx_runs.specs.Engines.{Stays, answer_given, shown_with}
 use Rattle.crx_runs.specs.Taking.{Becomes, IsSettled, made_by, step_notices}
 use Rattle.crx_runs.specs.declared.engine.Engine.{Ghosts as EngineGhosts}
 use Rattle.crx_runs.specs.declared.engine.HandedOut.{HandedOut, TheVariants.{Nothing, Lines, AsItIs}}
-use Rattle.crx_runs.specs.declared.{engine.Step.{Step, TheVariants.{Quiet, Ready, Warned}}, one_line.Halt.Halt}
+use Rattle.crx_runs.specs.declared.engine.Step.{Step, TheVariants.{Quiet, Ready, Warned}}
+use Rattle.crx_runs.specs.declared.one_line.Halt.{Halt}
 use Rattle.crx_runs.specs.declared.one_line.Halt.TheVariants.{Fault, Unwritten}
 use Rattle.crx_runs.specs.meaning.{Filters.{Filter, course_with, memory_with}, Messages.notices_text}
 use Rattle.crx_runs.specs.meaning.Results.{are_some}
@@ -107,7 +108,8 @@ module _ {writer1 writer2 writer messages1 messages2 messages : Device} (w : Joi
       (rw (a.1) a.2) halt e
   line-cut (Warned notice false) drained a halt e = cut-by (Warned notice false) tt drained a halt e
 
-  -- what was answered was written and reported, after which the line doesn't come a second time; or that failed
+  -- what was answered was written and reported, after which the line doesn't come a second time;
+  -- or that failed
   pub line-becomes : (step : Step) → IsDrainedAfter step ready
       → EngineAnswers filter (engine.shows then) (engine.has_ended then) ready lines earlier next (Ok step) →
       (shown : Type 0)

@@ -7,12 +7,16 @@ use Rattle.crx_lines.specs.Reading.{ReaderState}
 use Rattle.crx_base.specs.declared.fault.{At.At, Fault.Fault, Fault.TheVariants.OutOfMemory}
 use Rattle.crx_base.specs.meaning.Lines.{InputLine}
 use Rattle.crx_runs.proofs.DeviceSpans.{Joins, all-still, notices-append, part-more, part-still, part-then}
-use Rattle.crx_runs.proofs.{DeviceSpans.took-still, Salvaged.{complete-stopped, all-read, all-so-far, taken-read, turn-read}}
-use Rattle.crx_runs.proofs.Salvaged.{begins-itself, begins-taken, first-after-turn, first-before-turn, first-taken}
-use Rattle.crx_runs.{proofs.Salvaged.first-complete, specs.Endings.{EndsAt, EndsBy, HandingFailed, ReaderStopped}}
+use Rattle.crx_runs.proofs.DeviceSpans.{took-still}
+use Rattle.crx_runs.proofs.Salvaged.{complete-stopped, all-read, all-so-far, taken-read, turn-read}
+use Rattle.crx_runs.proofs.Salvaged.{begins-itself, begins-taken, first-after-turn}
+use Rattle.crx_runs.proofs.Salvaged.{first-before-turn, first-taken}
+use Rattle.crx_runs.proofs.Salvaged.{first-complete}
+use Rattle.crx_runs.specs.Endings.{EndsAt, EndsBy, HandingFailed, ReaderStopped}
 use Rattle.crx_runs.specs.Endings.{StoppedAtStart, WellDone, Finishes, IsReported, IsFlushed}
 use Rattle.crx_runs.specs.{Endings.{FlushFailed, write_failed_at}, Lawful.{IsLawful, is_of_lines}}
-use Rattle.crx_runs.specs.{declared.one_line.Halt.Halt, meaning.Filters.{Filter, course_with, lines_with, memory_with}}
+use Rattle.crx_runs.specs.declared.one_line.Halt.{Halt}
+use Rattle.crx_runs.specs.meaning.Filters.{Filter, course_with, lines_with, memory_with}
 use Rattle.crx_runs.specs.meaning.Interruptions.{IsTurn, IsWritten, AreReported, Stopped}
 use Rattle.crx_runs.specs.meaning.{Interruptions.{Stands, IsFrontPart}, Messages.{notices_text}}
 use Rattle.crx_runs.specs.meaning.{Results.{Begins, Course}, Spans.{Device, TookAll, Input}}

@@ -5,9 +5,11 @@ use Rattle.std.proofs.Common.{Ok, Err, OnOk}
 use Rattle.crx_base.specs.meaning.Lines.{InputLine}
 use Rattle.crx_lines.specs.Reading.{HasNoFeed, ReaderState}
 use Rattle.crx_lines.specs.declared.phase.Phase.TheVariants.{Open}
-use Rattle.crx_runs.proofs.{DeviceSpans.{Joins, all-still, took-still}, LineEndings.out-more, StepReading.ReadsLine}
+use Rattle.crx_runs.proofs.DeviceSpans.{Joins, all-still, took-still}
+use Rattle.crx_runs.proofs.{LineEndings.out-more, StepReading.ReadsLine}
 use Rattle.crx_runs.specs.{Endings.{EndsBy, EndsFrom, FlushFailed, HandingFailed, WellDone}, Engines.Awaited}
-use Rattle.crx_runs.specs.{Running.{ComesToEnd, GoesOnBy, IsRunning, StepGoes, stepped}, Taking.{Becomes, IsDone}}
+use Rattle.crx_runs.specs.Running.{ComesToEnd, GoesOnBy, IsRunning, StepGoes, stepped}
+use Rattle.crx_runs.specs.Taking.{Becomes, IsDone}
 use Rattle.crx_runs.specs.{declared.one_line.Halt.Halt, meaning.Filters.{Filter, with_next}}
 use Rattle.crx_runs.specs.meaning.{Results.{Course, are_some}, Spans.{Device, Input, TookAll}}
 

@@ -1,6 +1,7 @@
 -- What is after a run, by how it ended.
 use Rattle.std.proofs.lemmas.Grind.{common_steps}
-use Rattle.std.proofs.Common.{arith, ◌≡◌, ◌⊎◌, inl, inr, ℕ, ◌≤◌, List, [], ◌++◌, length, take, drop, Option, Some, None, refl}
+use Rattle.std.proofs.Common.{arith, ◌≡◌, ◌⊎◌, inl, inr, ℕ, ◌≤◌, List, [], ◌++◌}
+use Rattle.std.proofs.Common.{length, take, drop, Option, Some, None, refl}
 use Rattle.std.proofs.{Common.{sym, ap, subst, ◌∙◌, append-nil, append_assoc}, lemmas.List.take_all}
 use Rattle.std.proofs.lemmas.List.{take-append-drop}
 use Rattle.crx_lines.proofs.ProgressLemmas.{ended_lines-none}
@@ -9,7 +10,8 @@ use Rattle.crx_lines.specs.{declared.phase.Phase.TheVariants.{Open, Ended}, mean
 use Rattle.crx_base.specs.declared.fault.Fault.{TheVariants.{InputTooLong, ReadFailed}, Fault}
 use Rattle.crx_base.specs.{declared.limits.TheConstants.INPUT_LIMIT, meaning.AsRead.ended_lines_of}
 use Rattle.crx_base.specs.meaning.Lines.{InputLine, lines_of}
-use Rattle.crx_runs.specs.{Lawful.IsLawful, meaning.Interruptions.{complete_lines, AreAll, AreAllSoFar, AreTaken, IsTurn}}
+use Rattle.crx_runs.specs.Lawful.{IsLawful}
+use Rattle.crx_runs.specs.meaning.Interruptions.{complete_lines, AreAll, AreAllSoFar, AreTaken, IsTurn}
 use Rattle.crx_runs.specs.meaning.{Results.Begins, Filters.{Filter, course_with, lines_with}, Spans.Input}
 
 -- ---- what was read

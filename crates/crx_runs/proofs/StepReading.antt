@@ -5,7 +5,8 @@ use Rattle.std.proofs.Common.{Result, Ok, Err, arith, ◌∙◌, ◌≢◌}
 use Rattle.std.{proofs.lemmas.List.Elements.{All-from_get_or}, specs.List.{Contains}}
 use Rattle.crx_lines.{proofs.ProgressLemmas.HasRead-next, specs.Progress.{AtAnswer, HasRead}}
 use Rattle.crx_lines.specs.Devices.{tally_after_line}
-use Rattle.crx_lines.specs.Reading.{ReaderState, ReaderAnswers, AnswersFault, AnswersHeld, HasNoFeed, TakesPiece, line_shown}
+use Rattle.crx_lines.specs.Reading.{ReaderState, ReaderAnswers, AnswersFault}
+use Rattle.crx_lines.specs.Reading.{AnswersHeld, HasNoFeed, TakesPiece, line_shown}
 use Rattle.crx_lines.specs.{Reading.line_number, declared.line.Line.Line, declared.phase.Phase.Phase}
 use Rattle.crx_lines.specs.{declared.phase.Phase.TheVariants.{Open, Ended, Stopped}, meaning.Devices.Tally}
 use Rattle.crx_base.specs.declared.fault.{At.At, Fault.{Fault, TheVariants.LineTooLong}}
@@ -88,13 +89,16 @@ takes-any = grind arith
 held-line : (p : Piece) (tally : Tally) → p.is_ended ≡ true → tally ≡ tally_after_line p.is_ended tally
 held-line = grind arith
 
-held-long : (old new : ReaderState) (at_end : Type 0) (tally : Tally) (at : At) → AnswersHeld line_shown line_number
-    old (Err at) new → (fault : Fault) → fault ≡ at.fault → AnswersFault old [] at_end tally tally at fault new
+held-long : (old new : ReaderState) (at_end : Type 0) (tally : Tally) (at : At)
+    → AnswersHeld line_shown line_number
+    old (Err at) new → (fault : Fault) → fault ≡ at.fault
+    → AnswersFault old [] at_end tally tally at fault new
 held-long old new at_end tally at (is, p, ended, takes, long, line) fault same =
     rw (same ∙ is) (p, takes-any at_end ended takes, long, line, held-line p tally ended)
 
 held-answers : (old new : ReaderState) (at_end : Type 0) (tally : Tally) (r : Result (Option Line) At)
-    → AnswersHeld line_shown line_number old r new → (r ≡ Ok None → ⊥) → ReaderAnswers old [] at_end tally tally r new
+    → AnswersHeld line_shown line_number old r new → (r ≡ Ok None → ⊥)
+    → ReaderAnswers old [] at_end tally tally r new
 held-answers old new at_end tally r held some = grind (arith, common_steps, takes-any, held-line, held-long)
 
 -- what is answered out of what is held, as an answer for which the reader gave nothing

@@ -3,7 +3,8 @@ use Rattle.std.proofs.{Common.{rules, arith}, lemmas.Grind.common_steps}
 use Rattle.rnxcmp_c.proofs.Words.{◌≡◌, ◌⊎◌, ℕ, List, true, code_of_fault, InputTooLong, Choices, expanded}
 use Rattle.rnxcmp_c.proofs.Words.{checked, what-passes, FilterResult, Answer, OUTPUT_LIMIT, BothTexts}
 use Rattle.rnxcmp_c.proofs.Words.{HasNoMemory, RunHasEnded, RunHasResult, StopsAtLimit, StopsForMemory}
-use Rattle.rnxcmp_c.proofs.Words.{StopsWhenFull, Task, Compact, Expand, Check, run_for, CallBringsBackWhatPasses}
+use Rattle.rnxcmp_c.proofs.Words.{StopsWhenFull, Task, Compact, Expand}
+use Rattle.rnxcmp_c.proofs.Words.{Check, run_for, CallBringsBackWhatPasses}
 use Rattle.rnxcmp_c.proofs.{Kept.brings-back, Lossless.brings-back_passed}
 use Rattle.rnxcmp_c.proofs.Words.{CallBringsBackWhatWasCompacted, CallSavesAllElse}
 use Rattle.rnxcmp_c.specs.meaning.Ended.{CheckPromises, ExpansionPromises}

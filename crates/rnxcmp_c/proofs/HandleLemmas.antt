@@ -1,6 +1,7 @@
 -- A handle stays sound from call to call.
 use Rattle.std.proofs.{lemmas.Grind.common_steps}
-use Rattle.rnxcmp_c.proofs.{PieceLemmas.none-or, Words.{◌≡◌, ◌⊎◌, inl, inr, ℕ, ◌<◌, ◌≤◌, ◌-◌, List, [], ◌++◌, length, Option}}
+use Rattle.rnxcmp_c.proofs.PieceLemmas.{none-or}
+use Rattle.rnxcmp_c.proofs.Words.{◌≡◌, ◌⊎◌, inl, inr, ℕ, ◌<◌, ◌≤◌, ◌-◌, List, [], ◌++◌, length, Option}
 use Rattle.rnxcmp_c.proofs.Words.{Some, None, take, drop, refl, arith, append-nil, length-append, ⊎_elim}
 use Rattle.rnxcmp_c.proofs.Words.{lines_of}
 use Rattle.rnxcmp_c.proofs.Words.{ended_lines_of, ended_lines-come_first, Outcome, ReaderRuns, FeedsBy}

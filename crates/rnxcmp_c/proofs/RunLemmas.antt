@@ -10,7 +10,8 @@ use Rattle.rnxcmp_c.proofs.Words.{Device, Answer, AnswersWithin, BothTexts, HasN
 use Rattle.rnxcmp_c.proofs.Words.{placed, Task, filter_for, result_for}
 use Rattle.rnxcmp_c.specs.{Collecting.{AnswersRun, IsEmpty, TakeEnough, taken_of}, Counting.Took}
 use Rattle.rnxcmp_c.specs.{declared.devices.Counted.Counted, meaning.Answers.AnswersAlone}
-use Rattle.crx_runs.specs.meaning.{Interruptions.{AreReported, IsFrontPart, Stands, complete_lines}, Runs.{IsResult, RunsAs}}
+use Rattle.crx_runs.specs.meaning.Interruptions.{AreReported, IsFrontPart, Stands, complete_lines}
+use Rattle.crx_runs.specs.meaning.Runs.{IsResult, RunsAs}
 use Rattle.crx_runs.specs.meaning.Spans.{Input}
 use Rattle.crx_base.specs.declared.fault.Fault.{Fault}
 use Rattle.crx_base.specs.declared.fault.Fault.TheVariants.{InputTooLong, ReadFailed, WriteFailed}

@@ -1,5 +1,6 @@
 -- An arc, whoever wrote it: its code gives its newest value, and leaves its tail.
-use Rattle.crx_compact.proofs.Words.{◌≡◌, refl, ℕ, ℤ, List, [], ◌∷◌, Option, Some, None, Ok, ap, ◌∙◌, length, min}
+use Rattle.crx_compact.proofs.Words.{◌≡◌, refl, ℕ, ℤ, List, [], ◌∷◌, Option}
+use Rattle.crx_compact.proofs.Words.{Some, None, Ok, ap, ◌∙◌, length, min}
 use Rattle.crx_compact.proofs.Words.{inl, inr, difference, value_of_code, arc_of_code, differences_of}
 use Rattle.crx_compact.proofs.Words.{values_of}
 use Rattle.crx_compact.proofs.Words.{IsWithin, IsMissingOrWithin, ArcTail, in_range, arith, common_steps}
@@ -23,7 +24,8 @@ tail_at n xs = record { order = n; differences = differences_of n xs }
 
 -- one value more
 step : (n : ℕ) (x y : ℤ) (ys : List ℤ)
-    → arc_after_number (difference (min (length (y ∷ ys)) n) (x ∷ y ∷ ys)) (tail_at n (y ∷ ys)) ≡ tail_at n (x ∷ y ∷ ys)
+    → arc_after_number (difference (min (length (y ∷ ys)) n) (x ∷ y ∷ ys)) (tail_at n (y ∷ ys))
+    ≡ tail_at n (x ∷ y ∷ ys)
 step n x y ys =
     let d = difference (min (length (y ∷ ys)) n) (x ∷ y ∷ ys) in
     let c = difference (min (length ys) n) (y ∷ ys) in
@@ -42,7 +44,8 @@ by_older width n x (y ∷ ys) before h (inr e) = rw (← e) (record {
 })
 
 -- whatever was there, and whichever choice was made
-pub goes : (width : ℕ) (before now : Option Arc) → MayFollow before now → IsMissingOrWithin width (value_now now)
+pub goes : (width : ℕ) (before now : Option Arc) → MayFollow before now
+    → IsMissingOrWithin width (value_now now)
     → Goes width before now
 goes width before None f h = record { value = refl; leaves = refl }
 goes width before (Some arc) f h = by_older width arc.order arc.newest arc.older before h f

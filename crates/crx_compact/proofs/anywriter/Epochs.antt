@@ -1,9 +1,13 @@
 -- The lines of an epoch, whoever wrote them, read as that epoch.
-use Rattle.crx_compact.proofs.Words.{◌≡◌, refl, ℕ, List, [], ◌∷◌, ◌++◌, Bool, true, false, Option, Some, Ok, map, length, arith, ap, sym, ◌∙◌, ◌+◌}
+use Rattle.crx_compact.proofs.Words.{◌≡◌, refl, ℕ, List, [], ◌∷◌, ◌++◌, Bool, true, false}
+use Rattle.crx_compact.proofs.Words.{Option, Some, Ok, map, length, arith, ap, sym, ◌∙◌, ◌+◌}
 use Rattle.crx_compact.proofs.Words.{list_all, AllByRecursion, length-map, unwrap_or, if◌then◌else◌}
-use Rattle.crx_compact.proofs.Words.{Count, IsWholeEpoch, epoch_text, at-without_end_blanks, without_end_blanks, patched, is_printable}
-use Rattle.crx_compact.proofs.Words.{ReadLine, Content, Done, Place, RawRow, RawEpoch, ReadRow, rows_read, epoch_at, epoch_after, clock_line_read}
-use Rattle.crx_compact.proofs.Words.{Satellite, satellites_of_line, begins_epoch, past_of_tail, Tail, no_tail, tail_left, tail_for_line}
+use Rattle.crx_compact.proofs.Words.{Count, IsWholeEpoch, epoch_text, at-without_end_blanks}
+use Rattle.crx_compact.proofs.Words.{without_end_blanks, patched, is_printable}
+use Rattle.crx_compact.proofs.Words.{ReadLine, Content, Done, Place, RawRow, RawEpoch, ReadRow}
+use Rattle.crx_compact.proofs.Words.{rows_read, epoch_at, epoch_after, clock_line_read}
+use Rattle.crx_compact.proofs.Words.{Satellite, satellites_of_line, begins_epoch}
+use Rattle.crx_compact.proofs.Words.{past_of_tail, Tail, no_tail, tail_left, tail_for_line}
 use Rattle.crx_compact.proofs.Words.{raw_row_tail_after, raw_tail_after, tail_named, CLOCK_WIDTH, Epoch}
 use Rattle.crx_compact.proofs.SoundTexts.{patched-trimmed, trimmed-again}
 use Rattle.crx_compact.proofs.reading.RawTailing.{place-by_tail, left-by_tail}
@@ -12,9 +16,12 @@ use Rattle.crx_compact.proofs.wayback.Facts.{IsTypedRow, typed-rows, text-kept}
 use Rattle.crx_compact.proofs.wayback.Reading.{text-other, text-columns, text-good}
 use Rattle.crx_compact.proofs.Words.{append-nil, map-map, rules}
 use Rattle.crx_compact.specs.OpenEpochs.{held_after, placed_as}
-use Rattle.crx_compact.specs.meaning.AnyWriter.{WrittenRow, WrittenEpoch, code_now, row_now, epoch_now, goes_on_from, nothing_written, AreRowLines, AreLinesAfter}
+use Rattle.crx_compact.specs.meaning.AnyWriter.{WrittenRow, WrittenEpoch, code_now, row_now, epoch_now}
+use Rattle.crx_compact.specs.meaning.AnyWriter.{goes_on_from, nothing_written, AreRowLines, AreLinesAfter}
 use Rattle.crx_compact.specs.AnyWriter.{value_now, row_left, epoch_left, EpochReads, IsLeft, ReadsAnyEpoch}
-use Rattle.crx_compact.proofs.anywriter.{Arcs.{Goes, goes}, Rows.{any-row, marks-printable, at-same, all-same, CanFollow, row-follows}, Texts.{spelled-characters, code-printable}}
+use Rattle.crx_compact.proofs.anywriter.{Arcs.{Goes, goes}, Rows.{any-row, marks-printable}}
+use Rattle.crx_compact.proofs.anywriter.Rows.{at-same, all-same, CanFollow, row-follows}
+use Rattle.crx_compact.proofs.anywriter.Texts.{spelled-characters, code-printable}
 use Rattle.crx_compact.proofs.Words.{is_event_line, is_event_flag, is_observation_flag, character_at}
 use Rattle.crx_compact.proofs.Words.{character_of, by_position, at, common_steps}
 use Rattle.crx_compact.proofs.Words.{and_parts}
@@ -31,12 +38,14 @@ record RowsRead (base : WrittenEpoch) (rows : List WrittenRow) (lines : List (Li
   place : (rest : List ReadLine) → rows_read (past_of_tail (epoch_left base)) (satellites_written rows)
       (map Content lines ++ rest) ≡ Done reads (length rows)
   shown : map (λ (r : ReadRow). r.row) reads ≡ map row_now rows
-  leaves : map (λ (r : RawRow). raw_row_tail_after (tail_named r.name (epoch_left base)) r) (map (λ (r : ReadRow). r.raw) reads)
+  leaves : map (λ (r : RawRow). raw_row_tail_after (tail_named r.name (epoch_left base)) r)
+      (map (λ (r : ReadRow). r.raw) reads)
       ≡ map row_left rows
   follow : AllByRecursion CanFollow lines
 
 rows-read : (types : List Count) (base : WrittenEpoch) (rows : List WrittenRow) (lines : List (List ℕ))
-    → AllByRecursion (IsTypedRow types) (map row_now rows) → AreRowLines base rows lines → RowsRead base rows lines
+    → AllByRecursion (IsTypedRow types) (map row_now rows) → AreRowLines base rows lines
+    → RowsRead base rows lines
 rows-read types base [] [] h k = record
     { reads = []; place = λ rest. refl; shown = refl; leaves = refl; follow = tt }
 rows-read types base (r ∷ rs) (line ∷ lines) h k =
@@ -45,7 +54,8 @@ rows-read types base (r ∷ rs) (line ∷ lines) h k =
     let count : 1 + (length rs + 0) ≡ length (r ∷ rs) = omega arith in
     record {
       reads = first.read ∷ others.reads;
-      place = λ rest. rw (first.reads, others.place rest) (ap {B = Place (List ReadRow)} (λ n. Done (first.read ∷ others.reads) n) count);
+      place = λ rest. rw (first.reads, others.place rest)
+          (ap {B = Place (List ReadRow)} (λ n. Done (first.read ∷ others.reads) n) count);
       shown = cc (first.row, others.shown);
       leaves = cc (first.leaves, others.leaves);
       follow = (row-follows base r line h.0.0 k.0, others.follow);
@@ -85,13 +95,15 @@ module _ (types : List Count) (base now : WrittenEpoch) (line clock : List ℕ) 
   pub printable : list_all is_printable line ≡ true
   printable = search (rules, marks-printable, text-kept)
 
-  satellites : satellites_of_line types (past_of_tail (epoch_left base)) line ≡ Ok (satellites_written now.rows)
+  satellites : satellites_of_line types (past_of_tail (epoch_left base)) line
+      ≡ Ok (satellites_written now.rows)
   satellites = rw (printable, text-made)
       (text-good types (epoch_now now) whole ∙ ap Ok (simp (map-map, length-map)))
 
   clock-other : begins_epoch clock ≡ false
   clock-other = ap (λ c. begins_epoch (c ∷ [])) (sym (at-without_end_blanks clock 0))
-      ∙ text-other (without_end_blanks clock) (spelled-characters (without_end_blanks clock) (code_now now.clock) h.spelled)
+      ∙ text-other (without_end_blanks clock)
+      (spelled-characters (without_end_blanks clock) (code_now now.clock) h.spelled)
 
   clock-printable : list_all is_printable clock ≡ true
   clock-printable = search (rules, all-same, trimmed-again, code-printable, spelled-characters)
@@ -120,7 +132,8 @@ module _ (types : List Count) (base now : WrittenEpoch) (line clock : List ℕ) 
   others-follow = ((clock-printable, clock-other), rows-good.follow)
 
   abbrev raw : RawEpoch
-  raw = record { line = line; clock = code_now now.clock; rows = map (λ (r : ReadRow). r.raw) rows-good.reads }
+  raw =
+      record { line = line; clock = code_now now.clock; rows = map (λ (r : ReadRow). r.raw) rows-good.reads }
 
   epoch-reads : (tail : Option Tail) (rest : List ReadLine) → tail_for_line tail line ≡ Some (epoch_left base)
       → epoch_after types tail (map Content (line ∷ clock ∷ lines) ++ rest)

@@ -1,7 +1,8 @@
 -- The lines that are read as an epoch are ones that some writer may write for it.
 use Rattle.crx_compact.proofs.Words.{◌≡◌, refl, ℕ, zero, suc, List, [], ◌∷◌, ◌++◌, Bool, true, false, Option}
 use Rattle.crx_compact.proofs.Words.{Some, None, map, length, arith, ap, sym, ◌∙◌, ◌*◌, ◌+◌, ◌≤◌}
-use Rattle.crx_compact.proofs.Words.{AllByRecursion, option_map, flat_map, if◌then◌else◌, length-append, same_Some, each_place, named}
+use Rattle.crx_compact.proofs.Words.{AllByRecursion, option_map, flat_map, if◌then◌else◌}
+use Rattle.crx_compact.proofs.Words.{length-append, same_Some, each_place, named}
 use Rattle.crx_compact.proofs.Words.{Done, rules, by_position}
 use Rattle.crx_compact.proofs.Words.{Count, Row, ReadRow, Satellite, IsWholeEpoch, types_of_satellite}
 use Rattle.crx_compact.proofs.Words.{past_of_tail, tail_for_line, tail_left, begins_epoch, epoch_text}
@@ -15,7 +16,8 @@ use Rattle.crx_compact.proofs.reading.RawTailing.{place-by_tail}
 use Rattle.std.proofs.lemmas.List.Folds.{flat_map-map}
 use Rattle.crx_compact.proofs.Lists.{all-from}
 use Rattle.crx_compact.proofs.wayback.{Facts.{IsTypedRow, typed-rows}, Rows.found-row, Runs.named-made}
-use Rattle.crx_compact.specs.meaning.AnyWriter.{WrittenRow, WrittenEpoch, row_now, epoch_now, goes_on_from, nothing_written, flags_in, AreRowLines}
+use Rattle.crx_compact.specs.meaning.AnyWriter.{WrittenRow, WrittenEpoch, row_now, epoch_now}
+use Rattle.crx_compact.specs.meaning.AnyWriter.{goes_on_from, nothing_written, flags_in, AreRowLines}
 use Rattle.crx_compact.specs.AnyWriter.{epoch_left}
 use Rattle.crx_compact.proofs.{EpochTexts.blank-after, Words.{columns-are, unwrap_or, Tail, Past}}
 use Rattle.crx_compact.specs.AnyWriter.{row_before}
@@ -58,7 +60,8 @@ rows-back base satellites lines reads few h = absurd h
 -- ---- few indicators before
 
 few-here : (types : List Count) (rows : List WrittenRow) (s : Satellite) (found : Option WrittenRow)
-    → AllByRecursion (IsTypedRow types) (map row_now rows) → named (λ (q : WrittenRow). q.name) s.name rows ≡ found
+    → AllByRecursion (IsTypedRow types) (map row_now rows)
+    → named (λ (q : WrittenRow). q.name) s.name rows ≡ found
     → types_of_satellite types s.name ≡ Some s.count → length (flags_in found) ≤ 2 * s.count
 few-here types rows s None h e k = omega arith
 few-here types rows s (Some r) h e k =

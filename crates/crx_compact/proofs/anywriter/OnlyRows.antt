@@ -1,5 +1,6 @@
 -- Each line that is read is one that some writer may write.
-use Rattle.crx_compact.proofs.Words.{◌≡◌, refl, ℕ, ℤ, zero, suc, List, [], ◌∷◌, ◌++◌, Option, Some, None, Ok, map, length, min, arith, ap, sym, ◌∙◌, ◌*◌, ◌+◌, ◌≤◌, inl, inr, drop}
+use Rattle.crx_compact.proofs.Words.{◌≡◌, refl, ℕ, ℤ, zero, suc, List, [], ◌∷◌, ◌++◌, Option, Some, None, Ok}
+use Rattle.crx_compact.proofs.Words.{map, length, min, arith, ap, sym, ◌∙◌, ◌*◌, ◌+◌, ◌≤◌, inl, inr, drop}
 use Rattle.crx_compact.proofs.Words.{list_all, ReadCell, cells_of, after_cells, first_cell, after_cell}
 use Rattle.crx_compact.proofs.Words.{is_blank}
 use Rattle.crx_compact.proofs.Words.{Code, Missing, Start, Step, code_of, difference, value_of_code}
@@ -10,13 +11,15 @@ use Rattle.crx_compact.proofs.soundness.Soundness.{AreReadCells, RowFacts, line-
 use Rattle.crx_compact.proofs.{EpochTexts.blank-after, PlaceByPlace.at-padded}
 use Rattle.crx_compact.proofs.Words.{ArcTail, Satellite}
 use Rattle.crx_compact.specs.ArcSteps.{arc_after_number, value_of_tail}
-use Rattle.crx_compact.proofs.Words.{ReadRow, past_of_tail, tail_named, cell_of_tail, flags_of_tail, OBSERVATION_WIDTH, columns, is_printable}
+use Rattle.crx_compact.proofs.Words.{ReadRow, past_of_tail, tail_named, cell_of_tail}
+use Rattle.crx_compact.proofs.Words.{flags_of_tail, OBSERVATION_WIDTH, columns, is_printable}
 use Rattle.crx_compact.proofs.Words.{at, at-without_end_blanks, patched, and_parts}
 use Rattle.crx_compact.proofs.Characters.{at-by_position}
 use Rattle.crx_compact.proofs.{wayback.Overlays.at_past}
 use Rattle.crx_compact.proofs.SoundTexts.{patched-trimmed, trimmed-again, same-cut, cut-all}
 use Rattle.crx_compact.specs.meaning.AnyWriter.{Arc, WrittenEpoch, code_now, MayFollow, arc_in, flags_in}
-use Rattle.crx_compact.specs.AnyWriter.{value_now, arc_left, epoch_left, row_before, IsSomebodysRow, ReadsSomebodysRow}
+use Rattle.crx_compact.specs.AnyWriter.{value_now, arc_left, epoch_left, row_before}
+use Rattle.crx_compact.specs.AnyWriter.{IsSomebodysRow, ReadsSomebodysRow}
 use Rattle.crx_compact.proofs.anywriter.Rows.{arc_at, tail-found, cell-found, flags-found}
 use Rattle.crx_compact.proofs.anywriter.Arcs.{values-back, tail_at}
 use Rattle.crx_compact.proofs.anywriter.Texts.{with_blanks, one-text}
@@ -32,7 +35,8 @@ pub record ArcBack (found : Option Arc) (code : Code) (value : Option ℤ) : Typ
 
 -- the number of a code, by the value that it gives
 number-back : (n : ℕ) (d y : ℤ) (ys : List ℤ)
-    → difference (min (length (y ∷ ys)) n) (value_of_tail (arc_after_number d (tail_at n (y ∷ ys))) ∷ y ∷ ys) ≡ d
+    → difference (min (length (y ∷ ys)) n) (value_of_tail (arc_after_number d (tail_at n (y ∷ ys))) ∷ y ∷ ys)
+    ≡ d
 number-back n d y ys =
     let c = difference (min (length ys) n) (y ∷ ys) in
     let nums = numbers_of n ys in
@@ -85,7 +89,8 @@ cells-back width found held texts cells same h = absurd h
 
 -- ---- a line by its cells
 
-one-cell_back : (line : List ℕ) → without_end_blanks (first_cell line ++ 32 ∷ after_cell line) ≡ without_end_blanks line
+one-cell_back : (line : List ℕ)
+    → without_end_blanks (first_cell line ++ 32 ∷ after_cell line) ≡ without_end_blanks line
 one-cell_back [] = refl
 one-cell_back (c ∷ cs) = grind (arith, one-cell_back cs)
 
@@ -99,9 +104,11 @@ pub line-back : (n : ℕ) (line : List ℕ)
 line-back zero line = refl
 line-back (suc n) line =
     sym (one-cell_back line)
-    ∙ same-behind (first_cell line) (after_cell line) (with_blanks (cells_of n (after_cell line)) (after_cells n (after_cell line)))
+    ∙ same-behind (first_cell line) (after_cell line)
+    (with_blanks (cells_of n (after_cell line)) (after_cells n (after_cell line)))
     (line-back n (after_cell line))
-    ∙ ap without_end_blanks (sym (one-text (first_cell line) (cells_of n (after_cell line)) (after_cells n (after_cell line))))
+    ∙ ap without_end_blanks
+    (sym (one-text (first_cell line) (cells_of n (after_cell line)) (after_cells n (after_cell line))))
 
 -- ---- a satellite's line
 

@@ -2,22 +2,30 @@
 use Rattle.std.proofs.lemmas.List.Folds.{flat_map-map}
 use Rattle.crx_compact.proofs.Words.{◌≡◌, refl, ℕ, ℤ, suc, List, [], ◌∷◌, Bool, true, false, Option, Some}
 use Rattle.crx_compact.proofs.Words.{None, map, length, arith, ap, sym, ◌∙◌, ◌≤◌, drop}
-use Rattle.crx_compact.proofs.Words.{list_all, AllByRecursion, option_map, rules, if◌then◌else◌, slice_index_or, get_or_past}
-use Rattle.crx_compact.proofs.Words.{Count, Row, Epoch, Marked, AreWhole, IsWholeEpoch, epoch_text, newest_text, since_full, run_of, arc_of, clock_arc, row_named, stretch, named, codes_of, indicators_before, satellite_line, epoch_line, compact_epoch}
+use Rattle.crx_compact.proofs.Words.{list_all, AllByRecursion, option_map, rules}
+use Rattle.crx_compact.proofs.Words.{if◌then◌else◌, slice_index_or, get_or_past}
+use Rattle.crx_compact.proofs.Words.{Count, Row, Epoch, Marked, AreWhole}
+use Rattle.crx_compact.proofs.Words.{IsWholeEpoch, epoch_text, newest_text, since_full, run_of}
+use Rattle.crx_compact.proofs.Words.{arc_of, clock_arc, row_named, stretch, named, codes_of}
+use Rattle.crx_compact.proofs.Words.{indicators_before, satellite_line, epoch_line, compact_epoch}
 use Rattle.crx_compact.proofs.Words.{without_end_blanks, text_difference}
 use Rattle.crx_compact.proofs.Words.{is_blank, common_steps}
-use Rattle.crx_compact.proofs.Words.{code_at, code_text, code_of-code_text, WRITTEN_ORDER, each_place, map-each_place, index-each_place, each_place-same, length-each_place}
+use Rattle.crx_compact.proofs.Words.{code_at, code_text, code_of-code_text, WRITTEN_ORDER, each_place}
+use Rattle.crx_compact.proofs.Words.{map-each_place, index-each_place, each_place-same, length-each_place}
 use Rattle.crx_compact.proofs.Identifiers.{each-own}
 use Rattle.crx_compact.proofs.anywriter.Texts.{code-characters}
 use Rattle.crx_compact.proofs.wayback.Overlays.{patched-again}
 use Rattle.crx_compact.proofs.wayback.Runs.{marked, rows_before, named-made, begins_full, begins_later}
-use Rattle.crx_compact.proofs.wayback.Rows.{IsRowOf, run-begins, rows-of_run, run-printable, clock-printable, values-again}
+use Rattle.crx_compact.proofs.wayback.Rows.{IsRowOf, run-begins, rows-of_run}
+use Rattle.crx_compact.proofs.wayback.Rows.{run-printable, clock-printable, values-again}
 use Rattle.crx_compact.proofs.wayback.Reading.{no-end_blanks}
 use Rattle.crx_compact.proofs.SoundTexts.{difference-length, trimmed-again}
 use Rattle.std.proofs.Common.{drop_of_length-le}
 use Rattle.crx_compact.proofs.wayback.Facts.{unmarked, text-kept, text-begins}
 use Rattle.crx_compact.specs.AnyWriter.{value_now}
-use Rattle.crx_compact.specs.meaning.AnyWriter.{Arc, WrittenRow, WrittenEpoch, code_now, MayFollow, row_now, epoch_now, nothing_written, arc_in, flags_in, IsRowLine, AreRowLines, AreLinesAfter, AreEpochLines}
+use Rattle.crx_compact.specs.meaning.AnyWriter.{Arc, WrittenRow, WrittenEpoch, code_now, MayFollow}
+use Rattle.crx_compact.specs.meaning.AnyWriter.{row_now, epoch_now, nothing_written, arc_in, flags_in}
+use Rattle.crx_compact.specs.meaning.AnyWriter.{IsRowLine, AreRowLines, AreLinesAfter, AreEpochLines}
 
 -- ---- arcs
 
@@ -28,7 +36,8 @@ arc_written (x ∷ xs) = Some (record { order = WRITTEN_ORDER; newest = x; older
 code-written : (xs : List ℤ) → code_now (arc_written xs) ≡ code_at WRITTEN_ORDER xs
 code-written xs = grind arith
 
-follow : (o : Option ℤ) (os : List (Option ℤ)) → MayFollow (arc_written (stretch os)) (arc_written (stretch (o ∷ os)))
+follow : (o : Option ℤ) (os : List (Option ℤ))
+    → MayFollow (arc_written (stretch os)) (arc_written (stretch (o ∷ os)))
 follow o os = grind arith
 
 value-written : (o : Option ℤ) (os : List (Option ℤ)) → value_now (arc_written (stretch (o ∷ os))) ≡ o
@@ -38,7 +47,11 @@ value-written o os = grind arith
 
 abbrev pub row_written : List Row → Row → WrittenRow
 row_written run row =
-    record { name = row.name; arcs = each_place (length row.values) (λ j. arc_written (arc_of j run)); flags = row.flags }
+    record {
+      name = row.name;
+      arcs = each_place (length row.values) (λ j. arc_written (arc_of j run));
+      flags = row.flags;
+    }
 
 abbrev pub epoch_written : Marked → List Marked → WrittenEpoch
 epoch_written m older =
@@ -119,13 +132,15 @@ row-line types found r rs h arcs flags =
 module _ (types : List Count) (full : Bool) (e : Epoch) (older : List Marked)
     (h : AreWhole types (since_full (marked full e ∷ older))) where
   row-here : (r : Row) → row_named r.name e.rows ≡ Some r → IsRowLine (found_in (base_of full older) r.name)
-      (row_written (run_of r.name (marked full e ∷ older)) r) (satellite_line (run_of r.name (marked full e ∷ older)) r)
+      (row_written (run_of r.name (marked full e ∷ older)) r)
+      (satellite_line (run_of r.name (marked full e ∷ older)) r)
   row-here r own = rw (run-begins full e older r own)
       (row-line types (found_in (base_of full older) r.name) r (rows_before full r.name older)
       (rows-of_run types full e older h r own) (arc-left full r.name older) (flags-left full r.name older r))
 
   rows-here : (rows : List Row) → AllByRecursion (λ (r : Row). row_named r.name e.rows ≡ Some r) rows
-      → AreRowLines (base_of full older) (map (λ (r : Row). row_written (run_of r.name (marked full e ∷ older)) r) rows)
+      → AreRowLines (base_of full older)
+      (map (λ (r : Row). row_written (run_of r.name (marked full e ∷ older)) r) rows)
       (map (λ (r : Row). satellite_line (run_of r.name (marked full e ∷ older)) r) rows)
   rows-here [] own = tt
   rows-here (r ∷ rs) own = (row-here r own.0, rows-here rs own.1)
@@ -140,7 +155,8 @@ old-same types full e older h = refl
 
 lines-after : (types : List Count) (full : Bool) (e : Epoch) (older : List Marked)
     → AreWhole types (since_full (marked full e ∷ older))
-    → AreLinesAfter (base_of full older) (epoch_written (marked full e) older) (epoch_line (marked full e) older)
+    → AreLinesAfter (base_of full older) (epoch_written (marked full e) older)
+    (epoch_line (marked full e) older)
     (code_text (code_at WRITTEN_ORDER (clock_arc (marked full e ∷ older))))
     (map (λ (r : Row). satellite_line (run_of r.name (marked full e ∷ older)) r) e.rows)
 lines-after types full e older h =
@@ -151,7 +167,8 @@ lines-after types full e older h =
           ∙ ap (λ q. without_end_blanks (epoch_text q)) (sym (epoch-same types full e older h.0)));
       spelled = grind (arith, no-end_blanks, code-characters, printable, code_of-code_text, code-written);
       follows = grind (arith, follow);
-      satellites = rows-here types full e older h e.rows (each-own (λ (r : Row). r.name) e.rows h.0.sound.apart);
+      satellites =
+          rows-here types full e older h e.rows (each-own (λ (r : Row). r.name) e.rows h.0.sound.apart);
     }
 
 -- an epoch in full, after any other or none; and one that goes on from the epoch before
@@ -163,7 +180,8 @@ full-lines types e older before h =
 
 pub later-lines : (types : List Count) (e : Epoch) (m : Marked) (older : List Marked)
     → AreWhole types (since_full (marked false e ∷ m ∷ older))
-    → AreEpochLines (Some (epoch_written m older)) (epoch_written (marked false e) (m ∷ older)) (compact_epoch (marked false e ∷ m ∷ older))
+    → AreEpochLines (Some (epoch_written m older)) (epoch_written (marked false e) (m ∷ older))
+    (compact_epoch (marked false e ∷ m ∷ older))
 later-lines types e m older h =
     let lines = lines-after types false e (m ∷ older) h in
     (epoch_written m older, search (rules, begins_later, text-begins), lines)

@@ -3,12 +3,14 @@ use Rattle.crx_compact.proofs.Words.{◌≡◌, refl, ℤ, List, [], ◌∷◌, 
 use Rattle.crx_compact.proofs.Words.{arith, ap, sym}
 use Rattle.crx_compact.proofs.Words.{append_assoc, length-map, map-append, drop-append_seam, subst}
 use Rattle.crx_compact.proofs.Words.{IsWholeEpoch}
-use Rattle.crx_compact.proofs.Words.{Count, Row, Epoch, Marked, AreWhole, since_full, run_of, epoch_line, compact_epoch}
+use Rattle.crx_compact.proofs.Words.{Count, Row, Epoch, Marked, AreWhole}
+use Rattle.crx_compact.proofs.Words.{since_full, run_of, epoch_line, compact_epoch}
 use Rattle.crx_compact.proofs.Words.{map-each_place, map-map, WRITTEN_ORDER, epoch_text, without_end_blanks}
 use Rattle.crx_compact.proofs.Words.{ReadEpoch, Tail, tail_left, common_steps}
 use Rattle.crx_compact.proofs.wayback.Runs.{marked}
 use Rattle.crx_compact.proofs.reading.LineByLine.{steps-agree}
-use Rattle.crx_compact.proofs.anywriter.{Epochs.{any-epoch, held-reads, tail-for}, Own.{arc_written, row_written, epoch_written, epoch-same, full-lines, later-lines}}
+use Rattle.crx_compact.proofs.anywriter.{Epochs.{any-epoch, held-reads, tail-for}, Own.arc_written}
+use Rattle.crx_compact.proofs.anywriter.Own.{row_written, epoch_written, epoch-same, full-lines, later-lines}
 use Rattle.crx_compact.specs.ArcTails.{arc_tail}
 use Rattle.crx_compact.specs.AnyWriter.{arc_left, row_left, epoch_left, IsLeft}
 use Rattle.crx_compact.specs.Tails.{row_tail, tail_of, tail_or_nothing}
@@ -21,7 +23,8 @@ use Rattle.crx_compact.specs.meaning.AnyWriter.{WrittenEpoch, AreEpochLines, epo
 arc-left : (xs : List ℤ) → arc_left (arc_written xs) ≡ arc_tail WRITTEN_ORDER xs
 arc-left xs = grind arith
 
-rows-left : (ms : List Marked) (rows : List Row) → map row_left (map (λ (r : Row). row_written (run_of r.name ms) r) rows)
+rows-left : (ms : List Marked) (rows : List Row)
+    → map row_left (map (λ (r : Row). row_written (run_of r.name ms) r) rows)
     ≡ map (λ (r : Row). row_tail (run_of r.name ms) r) rows
 rows-left ms rows = simp (map-map, map-each_place, arc-left)
 
@@ -62,7 +65,8 @@ each-reads_back types m older raws h k =
     let own = own-lines types m.in_full m.epoch older (tail_left raws) h k in
     let now : WrittenEpoch = epoch_written m older in
     let same : epoch_now now ≡ m.epoch = epoch-same types m.in_full m.epoch older h.0 in
-    let r = any-epoch types own.before raws now (compact_epoch (m ∷ older)) own.left (subst (IsWholeEpoch types) (sym same) h.0)
+    let r = any-epoch types own.before raws now (compact_epoch (m ∷ older)) own.left
+    (subst (IsWholeEpoch types) (sym same) h.0)
     own.lines in
     grind (arith, common_steps, same, r, own-left types m.in_full m.epoch older h)
 

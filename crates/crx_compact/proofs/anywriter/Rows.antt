@@ -2,14 +2,20 @@
 use Rattle.crx_compact.proofs.Words.{◌≡◌, refl, ℕ, ℤ, suc, List, [], ◌∷◌, true, false, Option, Some, None}
 use Rattle.crx_compact.proofs.Words.{Result, Ok, map, length, arith, ap, sym, ◌∙◌, ◌*◌, ◌+◌, drop}
 use Rattle.crx_compact.proofs.Words.{list_all, length-map, slice_index_or, option_map, rules, common_steps}
-use Rattle.crx_compact.proofs.Words.{Code, Missing, Fault, code_of, cells_of, after_cells, cells_read, ReadCell, IsValue, OBSERVATION_WIDTH}
-use Rattle.crx_compact.proofs.Words.{without_end_blanks, patched, character_of, by_position, at, at-without_end_blanks, at-drop, list_all-from_at, is_blank, is_kept, is_printable}
-use Rattle.crx_compact.proofs.Words.{IsSoundRow, satellite_line_read, row_of_cells, past_of_tail, raw_row_tail_after, tail_named, cell_of_tail, flags_of_tail}
-use Rattle.crx_compact.proofs.Words.{arc_of_code, ArcTail, RowTail, named, each_place, begins_epoch, columns, ReadRow}
+use Rattle.crx_compact.proofs.Words.{Code, Missing, Fault, code_of, cells_of, after_cells}
+use Rattle.crx_compact.proofs.Words.{cells_read, ReadCell, IsValue, OBSERVATION_WIDTH}
+use Rattle.crx_compact.proofs.Words.{without_end_blanks, patched, character_of}
+use Rattle.crx_compact.proofs.Words.{by_position, at, at-without_end_blanks, at-drop}
+use Rattle.crx_compact.proofs.Words.{list_all-from_at, is_blank, is_kept, is_printable}
+use Rattle.crx_compact.proofs.Words.{IsSoundRow, satellite_line_read, row_of_cells, past_of_tail}
+use Rattle.crx_compact.proofs.Words.{raw_row_tail_after, tail_named, cell_of_tail, flags_of_tail}
+use Rattle.crx_compact.proofs.Words.{arc_of_code, ArcTail, RowTail, named}
+use Rattle.crx_compact.proofs.Words.{each_place, begins_epoch, columns, ReadRow}
 use Rattle.crx_compact.proofs.Characters.{same_characters, at-by_position, list_all-at}
 use Rattle.crx_compact.proofs.SoundTexts.{patched-trimmed, first-columns, held-columns}
 use Rattle.crx_compact.proofs.{wayback.Runs.named-made, wayback.Rows.value-fits, Words.{map-map, subst}}
-use Rattle.crx_compact.specs.meaning.AnyWriter.{Arc, WrittenRow, WrittenEpoch, code_now, row_now, arc_in, flags_in, IsRowLine}
+use Rattle.crx_compact.specs.meaning.AnyWriter.{Arc, WrittenRow, WrittenEpoch, code_now}
+use Rattle.crx_compact.specs.meaning.AnyWriter.{row_now, arc_in, flags_in, IsRowLine}
 use Rattle.crx_compact.specs.AnyWriter.{value_now, arc_left, row_left, epoch_left, ReadsAnyRow}
 use Rattle.crx_compact.proofs.anywriter.Arcs.{Goes, goes}
 use Rattle.crx_compact.proofs.anywriter.Texts.{AreTexts, spelled-characters, cells-again, line-other}
@@ -34,10 +40,12 @@ pub tail-found : (name : List ℕ) (before : WrittenEpoch) → tail_named name (
 tail-found name before = named-made (λ (r : WrittenRow). r.name) (λ (t : RowTail). t.name)
     (λ n r. row_left r) (λ n r. refl) name before.rows
 
-pub cell-found : (found : Option WrittenRow) (j : ℕ) → cell_of_tail j (option_map row_left found) ≡ arc_left (arc_in found j)
+pub cell-found : (found : Option WrittenRow) (j : ℕ)
+    → cell_of_tail j (option_map row_left found) ≡ arc_left (arc_in found j)
 cell-found x j = grind (arith, common_steps, at-map, arc_left)
 
-pub flags-found : (found : Option WrittenRow) → flags_of_tail (option_map row_left found) ≡ without_end_blanks (flags_in found)
+pub flags-found : (found : Option WrittenRow)
+    → flags_of_tail (option_map row_left found) ≡ without_end_blanks (flags_in found)
 flags-found found = grind arith
 
 -- ---- its codes
@@ -50,7 +58,8 @@ abbrev cell_now : Option Arc → ReadCell
 cell_now arc = record { code = code_now arc; value = value_now arc }
 
 cells-good : (value : ℕ → Code → Result (Option ℤ) Fault) (ts : List (List ℕ)) (arcs : List (Option Arc))
-    → map code_of ts ≡ codes_wanted arcs → ((j : ℕ) → value j (code_now (arc_at arcs j)) ≡ Ok (value_now (arc_at arcs j)))
+    → map code_of ts ≡ codes_wanted arcs
+    → ((j : ℕ) → value j (code_now (arc_at arcs j)) ≡ Ok (value_now (arc_at arcs j)))
     → cells_read value ts ≡ Ok (map cell_now arcs)
 cells-good value [] [] e h = refl
 cells-good value (t ∷ ts) (a ∷ arcs) e h = cc
@@ -59,7 +68,8 @@ cells-good value ts arcs e h = absurd (cc e)
 
 arcs-left : (arcs : List (Option Arc)) (b : ℕ → Option ArcTail)
     → ((j : ℕ) → arc_of_code (code_now (arc_at arcs j)) (b j) ≡ arc_left (arc_at arcs j))
-    → each_place (length (map code_now arcs)) (λ j. arc_of_code (slice_index_or (map code_now arcs) j Missing) (b j))
+    → each_place (length (map code_now arcs))
+    (λ j. arc_of_code (slice_index_or (map code_now arcs) j Missing) (b j))
     ≡ map arc_left arcs
 arcs-left [] b h = refl
 arcs-left (a ∷ arcs) b h = cc (h 0, arcs-left arcs (λ j. b (suc j)) (λ j. h (suc j)))

@@ -16,8 +16,10 @@ use mir.ValLaws.{of_z_fits}
 use borrow.Rule.Slice.PartMut.{put_mid}
 use Rattle.std.proofs.{Math.Nat.add-zero, Common.subst}
 use Rattle.std.specs.Prelude.{◌↔◌}
-use Rattle.std.proofs.{lemmas.List.{drop_all, length-take, length-take-le, take_all, take_at, take_more, take-append-drop}, Math.Nat.pow-le-pow_right}
-use Rattle.crx_compact.specs.Arcs.{IsBelow, AreBelow, value_bound, kept_tail, IsArcInRange, IsNewestWithin, whole_arc}
+use Rattle.std.proofs.lemmas.List.{drop_all, length-take, length-take-le, take_all, take_at}
+use Rattle.std.proofs.{lemmas.List.{take_more, take-append-drop}, Math.Nat.pow-le-pow_right}
+use Rattle.crx_compact.specs.Arcs.{IsBelow, AreBelow, value_bound, kept_tail}
+use Rattle.crx_compact.specs.Arcs.{IsArcInRange, IsNewestWithin, whole_arc}
 use Rattle.crx_compact.specs.Arcs.{order_bound}
 use Rattle.crx_compact.specs.meaning.Differences.{newest}
 use Rattle.crx_compact.proofs.PlaceByPlace.{from-place}
@@ -345,14 +347,16 @@ highest-short width order count last value ds e k h = highest-below 0 (differenc
 pub near-highest : (order : ℕ) (value : ℤ) (ds new : List ℤ) → order < 4 → order < length new
     → IsBelow value_bound value → AreBelow value_bound (take order ds)
     → take (order + 1) new ≡ differences_after value (take order ds)
-    → to_z w64 (of_z w64 (slice_index_or new order (pos 0))) ≡ highest (differences_after value (take order ds))
+    → to_z w64 (of_z w64 (slice_index_or new order (pos 0)))
+    ≡ highest (differences_after value (take order ds))
 near-highest order value ds new few long h hs after =
     let all = differences_after value (take order ds) in
     let last : take (order + 1) new ≡ take order new ++ slice_index_or new order (pos 0) ∷ [] =
     take_more new order (pos 0) long in
     let is : slice_index_or new order (pos 0) ≡ highest all =
     sym (highest-last (take order new) (slice_index_or new order (pos 0))) ∙ ap highest (sym last ∙ after) in
-    let short = highest-below 0 all (omega (arith, few, length-after value (take order ds), length-take order ds))
+    let short =
+    highest-below 0 all (omega (arith, few, length-after value (take order ds), length-take order ds))
     (after-below value_bound value (take order ds) h hs) in
     rw is (same-bits (highest all) (omega (arith, ints, short)))
 

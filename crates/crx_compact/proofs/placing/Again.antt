@@ -8,7 +8,8 @@ use Rattle.crx_compact.proofs.placing.SteppedRows.{among-placed, row-at, row-her
 use Rattle.std.proofs.{lemmas.Option.{get_or_from_slice_get, slice_get-map}, lemmas.Grind.common_steps}
 use Rattle.std.proofs.Common.{All, get_or, map, slice_get, true}
 use Rattle.indexmap.specs.IndexMap.{IndexMap, IsUnique}
-use Rattle.crx_compact.specs.{Entries.{Entry, IsOrder, KeepsTypes, in_order, placed_rows}, HeldRows.IsAwaitedSatellite}
+use Rattle.crx_compact.specs.Entries.{Entry, IsOrder, KeepsTypes, in_order, placed_rows}
+use Rattle.crx_compact.specs.HeldRows.{IsAwaitedSatellite}
 use Rattle.crx_compact.specs.EpochLinesRead.{HaveComeAgain, IsAgain}
 use Rattle.crx_compact.specs.Placing.{SatelliteTail, row_of_entry}
 use Rattle.crx_header.specs.meaning.ObservationTypes.{count_of}

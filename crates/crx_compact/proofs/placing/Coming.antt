@@ -41,7 +41,8 @@ module _ (name : List ℕ) (placed live found : ℕ) (os es fs : List Entry) (at
 
     -- the rows, with one more
     rows-more : (entry : Entry) (new : List Entry) → take (placed + 1) new ≡ take placed os ++ entry ∷ []
-        → map row_of_entry (take (placed + 1) new) ≡ map row_of_entry (take placed os) ++ row_of_entry entry ∷ []
+        → map row_of_entry (take (placed + 1) new)
+        ≡ map row_of_entry (take placed os) ++ row_of_entry entry ∷ []
     rows-more entry new e = grind (arith, common_steps, row_of_entry, map-append)
 
     -- what is found among rows is what is found among their entries
@@ -53,7 +54,8 @@ module _ (name : List ℕ) (placed live found : ℕ) (os es fs : List Entry) (at
     pub come-awaited : (new : List Entry) → placed ≤ found → found < live → IsPutNext placed found os new
         → HasCome name (placed_rows placed live os es) (placed_rows (placed + 1) live new fs)
     come-awaited new behind before put =
-        let in_range = found-in_range placed live os found (name, at.satellite) apart at.there behind before in
+        let in_range =
+        found-in_range placed live os found (name, at.satellite) apart at.there behind before in
         let named = named-map (λ (row : RowTail). row.name) row_of_entry name (drop placed (take live os)) in
         let more = rows-more (name, at.satellite) new (put.come (name, at.satellite) at.there) in
         record {
@@ -64,7 +66,8 @@ module _ (name : List ℕ) (placed live found : ℕ) (os es fs : List Entry) (at
 
     -- any other one comes
     pub come-anew : (revived new : List Entry) → placed ≤ live → live ≤ found → slice_get revived live
-        ≡ Some (name, emptied at.satellite) → take live revived ≡ take live os → IsPutNext placed live revived new
+        ≡ Some (name, emptied at.satellite) → take live revived ≡ take live os
+        → IsPutNext placed live revived new
         → HasCome name (placed_rows placed live os es) (placed_rows (placed + 1) (live + 1) new fs)
     come-anew revived new few behind there front put =
         let blank : Entry = (name, emptied at.satellite) in

@@ -3,7 +3,8 @@ use Rattle.std.proofs.Common.{◌≡◌, ℕ, List, [], ◌∷◌, ◌++◌, len
 use Rattle.std.proofs.Common.{Option, Some, None, IfSome, is_some, refl, sym, ◌∙◌, arith}
 use Rattle.std.proofs.{Common.{Bool, false}, lemmas.Slice.Eq.bytes_eq-Decides}
 use Rattle.std.proofs.lemmas.Grind.{common_steps}
-use Rattle.std.proofs.{lemmas.List.length-map, Math.Seq.take-append_seam, lemmas.List.Quantifiers.position-Some}
+use Rattle.std.proofs.{lemmas.List.length-map, Math.Seq.take-append_seam}
+use Rattle.std.proofs.lemmas.List.Quantifiers.{position-Some}
 use Rattle.std.proofs.lemmas.Option.{get_or_from_slice_get, none-some, slice_get-map}
 use Rattle.std.specs.{Str.bytes_eq, Map.{keys_of, lookup}}
 use Rattle.crx_header.specs.meaning.Satellites.{is_among}

@@ -25,13 +25,15 @@ module _ {order places : List ℕ} (es : List Entry) (is : IsOrder order places 
   pub length-in_order : length (in_order order es) ≡ length es
   length-in_order = length-map order (entry_at es) ∙ is.counted
 
-  pub there-in_order : (place : ℕ) (e : Entry) → place < length es → slice_get es (get_or order place 0) ≡ Some e
+  pub there-in_order : (place : ℕ) (e : Entry) → place < length es
+      → slice_get es (get_or order place 0) ≡ Some e
       → slice_get (in_order order es) place ≡ Some e
   there-in_order place e within there =
       search (rules, slice_get-map, entry_at, option_map, slice_get-get_or, get_or_from_slice_get)
 
   -- one that isn't known isn't among them
-  pub none-in_order : (name : List ℕ) → is_among key_of name es ≡ false → is_among key_of name (in_order order es) ≡ false
+  pub none-in_order : (name : List ℕ) → is_among key_of name es ≡ false
+      → is_among key_of name (in_order order es) ≡ false
   none-in_order name none =
       list_any_none (λ (e : Entry). bytes_eq (key_of e) name) (in_order order es) (λ i d less.
       let below = is.index i (omega (arith, less, length-in_order)) in
@@ -60,7 +62,8 @@ module _ {order places : List ℕ} (es : List Entry) (is : IsOrder order places 
       grind (arith, counted, far, forth, back, turned, key i, key j))
 
   -- another entry at an index is in the index's place
-  pub set-in_order : (place : ℕ) (e : Entry) → place < length es → in_order order (set es (get_or order place 0) e)
+  pub set-in_order : (place : ℕ) (e : Entry) → place < length es
+      → in_order order (set es (get_or order place 0) e)
       ≡ set (in_order order es) place e
   set-in_order place e within =
       let new = set es (get_or order place 0) e in

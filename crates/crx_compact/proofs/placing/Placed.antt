@@ -2,8 +2,10 @@
 use Rattle.crx_compact.proofs.Words.{◌≡◌, slice_index_or, take, ℕ, ◌+◌, ◌<◌, ◌≤◌, Bool, true, false, List}
 use Rattle.crx_compact.proofs.Words.{length, slice_get, refl}
 use Rattle.crx_compact.proofs.Words.{Some, None, ap, arith, sym, rules, bytes_eq, is_among}
-use Rattle.crx_compact.proofs.{Words.{PlacedRows, RowTail}, placing.EntryChanges.{changed-is, enough-room, little-room}}
-use Rattle.crx_compact.proofs.placing.Coming.{come-anew, emptied, come-awaited, is-new, repeated, unknown-no_row}
+use Rattle.crx_compact.proofs.Words.{PlacedRows, RowTail}
+use Rattle.crx_compact.proofs.placing.EntryChanges.{changed-is, enough-room, little-room}
+use Rattle.crx_compact.proofs.placing.Coming.{come-anew, emptied, come-awaited}
+use Rattle.crx_compact.proofs.placing.Coming.{is-new, repeated, unknown-no_row}
 use Rattle.crx_compact.proofs.placing.EntryChanges.{shown-same}
 use Rattle.crx_compact.proofs.placing.Rooms.{unknown}
 use Rattle.std.proofs.{Common.{IsTrue, ◌↔◌, List, ◌∙◌, map, set, slice_get, subst, swap}}
@@ -20,7 +22,8 @@ use Rattle.crx_compact.specs.Placing.{AnswersPlacing, HasAskedRoom, HasCome, IsP
 use Rattle.crx_compact.specs.Placing.{room_of_entry}
 
 -- it isn't known
-pub placed-unknown : {name : List ℕ} {count : ℕ} (placed live : ℕ) (os es : List Entry) → is_among key_of name os
+pub placed-unknown : {name : List ℕ} {count : ℕ} (placed live : ℕ) (os es : List Entry)
+    → is_among key_of name os
     ≡ false → is_among key_of name es ≡ false
     → AnswersPlacing name count (placed_rows placed live os es) (placed_rows placed live os es) None
 placed-unknown {name} {count} placed live os es absent none = search (rules, unknown-no_row, unknown)
@@ -80,8 +83,10 @@ module _ {S : Type 0} (m : IndexMap (List ℕ) SatelliteTail S) (unique : IsUniq
         search (rules, placed-next, entry_at, map-swap, put-exchanged, length-map, apart)
 
     -- any other one comes
-    pub placed-anew : has ≡ true → placed ≤ live → live ≤ place → {after : SatelliteTail} → after ≡ emptied at.satellite
-        → {moved next others : List ℕ} → moved ≡ swap order place live → IsOrder moved others (length m.entries)
+    pub placed-anew : has ≡ true → placed ≤ live → live ≤ place → {after : SatelliteTail}
+        → after ≡ emptied at.satellite
+        → {moved next others : List ℕ} → moved ≡ swap order place live
+        → IsOrder moved others (length m.entries)
         → next ≡ swap moved live placed
         → AnswersPlacing name count now
         (placed_rows (placed + 1) (live + 1) (in_order next (set_value_at m.entries index after))
@@ -99,10 +104,12 @@ module _ {S : Type 0} (m : IndexMap (List ℕ) SatelliteTail S) (unique : IsUniq
         come roomy (shown-same room_of_entry m.entries index name at.satellite after at.there (cc empty))
         (come-anew name
         placed live place (in_order order m.entries) m.entries es here apart (in_order moved es)
-        (in_order next es) few beyond (ap (λ o. slice_get o live) moved-is ∙ revived-there live place _ blank beyond below
+        (in_order next es) few beyond
+        (ap (λ o. slice_get o live) moved-is ∙ revived-there live place _ blank beyond below
         ∙ ap (λ (s : SatelliteTail). Some (name, s)) empty)
         (ap (take live) moved-is ∙ revived-front live place _ blank beyond below)
-        (subst (IsPutNext placed live (in_order moved es)) (sym (ap (map (entry_at es)) f ∙ map-swap _ moved live placed))
+        (subst (IsPutNext placed live (in_order moved es))
+        (sym (ap (map (entry_at es)) f ∙ map-swap _ moved live placed))
         (put-exchanged placed live (in_order moved es) few
         (omega (arith, stands, beyond, ordered.counted, length-map moved (entry_at es)))
         (apart-in_order es (subst (IsOrder moved others) (sym long) ordered)

@@ -5,7 +5,8 @@ use Rattle.std.proofs.{Common.{arith, refl}, Math.ListN.get_or-map}
 use Rattle.std.proofs.{lemmas.List.{drop-map, get_or-take, length-take, take-map}}
 use Rattle.std.proofs.lemmas.Grind.{common_steps}
 use Rattle.indexmap.specs.IndexMap.{set_value_at}
-use Rattle.crx_compact.specs.{Entries.{Entry, IsOrder, entry_at, in_order}, Placing.{HasAskedRoom, PlacedRows, SatelliteTail, row_of_entry}}
+use Rattle.crx_compact.specs.Entries.{Entry, IsOrder, entry_at, in_order}
+use Rattle.crx_compact.specs.Placing.{HasAskedRoom, PlacedRows, SatelliteTail, row_of_entry}
 use Rattle.crx_compact.proofs.placing.EntryChanges.{shown-same}
 
 -- an entry that shows the same row changes no row
@@ -17,14 +18,16 @@ rows-same es i name before after there flags cells =
 
 -- the first ones of the entries show what those before showed
 pub rows-before : (es known new : List Entry) → take (length es) known ≡ es
-    → map row_of_entry new ≡ map row_of_entry known → take (length es) (map row_of_entry new) ≡ map row_of_entry es
+    → map row_of_entry new ≡ map row_of_entry known
+    → take (length es) (map row_of_entry new) ≡ map row_of_entry es
 rows-before es known new front same = cc (front, same, take-map row_of_entry (length es) known)
 
 -- all that were there are still there
 pub none-lost : (old new : List Entry) → take (length old) new ≡ old → length old ≤ length new
 none-lost old new is = grind (arith, common_steps, length-take)
 
-rows-front : (es new : List Entry) → take (length es) (map row_of_entry new) ≡ map row_of_entry es → (ks : List ℕ)
+rows-front : (es new : List Entry)
+    → take (length es) (map row_of_entry new) ≡ map row_of_entry es → (ks : List ℕ)
     → ((q : ℕ) → q < length ks → slice_index_or ks q 0 < length es)
     → map row_of_entry (in_order ks new) ≡ map row_of_entry (in_order ks es)
 rows-front es new front [] below = refl
@@ -40,7 +43,8 @@ module _ (order places longer : List ℕ) (es new : List Entry) (is : IsOrder or
     (begins : take (length order) longer ≡ order)
     (front : take (length es) (map row_of_entry new) ≡ map row_of_entry es) where
   pub front-same : (count : ℕ) → count ≤ length es
-      → map row_of_entry (take count (in_order longer new)) ≡ map row_of_entry (take count (in_order order es))
+      → map row_of_entry (take count (in_order longer new))
+      ≡ map row_of_entry (take count (in_order order es))
   front-same count within =
       let front_is = rows-front es new front (take count order) in
       grind (
@@ -61,5 +65,6 @@ module _ (order places longer : List ℕ) (es new : List Entry) (is : IsOrder or
   range-same placed live within = cc (drop-map _ placed _, front-same live within, drop-map _ placed _)
 
 -- room that was asked for twice
-pub asked-more : {one two three : PlacedRows} → HasAskedRoom one two → HasAskedRoom two three → HasAskedRoom one three
+pub asked-more : {one two three : PlacedRows} → HasAskedRoom one two → HasAskedRoom two three
+    → HasAskedRoom one three
 asked-more first next = grind (arith, common_steps)

@@ -19,7 +19,8 @@ pub put-exchanged : (placed found : ℕ) (old : List Entry) → placed ≤ found
     → IsDistinct bytes_eq (keys_of old) → IsPutNext placed found old (swap old found placed)
 put-exchanged placed found old order is apart =
     elim (cases_eq placed found) [
-      | inl e ↦ rw (← e) (subst (IsPutNext placed placed old) (sym (swap_self old placed)) (put-same placed old))
+      | inl e ↦
+          rw (← e) (subst (IsPutNext placed placed old) (sym (swap_self old placed)) (put-same placed old))
       | inr differs ↦
           let first = is-there old placed (omega (arith, order, is)) in
           let moved = λ (entry : Entry) (there : slice_get old found ≡ Some entry).
@@ -34,7 +35,8 @@ put-exchanged placed found old order is apart =
     ]
 
 -- one that means nothing is brought to the first place behind those that do
-module _ (live place : ℕ) (old : List Entry) (blank : Entry) (behind : live ≤ place) (within : place < length old)
+module _ (live place : ℕ) (old : List Entry) (blank : Entry) (behind : live ≤ place)
+    (within : place < length old)
   where
     counted : length (set old place blank) ≡ length old
     counted = length-set old place blank
@@ -42,8 +44,10 @@ module _ (live place : ℕ) (old : List Entry) (blank : Entry) (behind : live �
     first : IsThere (set old place blank) live
     first = is-there (set old place blank) live (omega (arith, behind, within, counted))
 
-    revived : swap (set old place blank) place live ≡ set (set (set old place blank) place first.item) live blank
-    revived = swap-is (set old place blank) place live blank first.item (set-there old place blank within) first.there
+    revived : swap (set old place blank) place live
+        ≡ set (set (set old place blank) place first.item) live blank
+    revived = swap-is (set old place blank) place live blank first.item
+        (set-there old place blank within) first.there
 
     pub revived-there : slice_get (swap (set old place blank) place live) live ≡ Some blank
     revived-there = grind (arith, revived, set-there, length-set)

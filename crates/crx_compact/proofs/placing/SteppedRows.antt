@@ -11,7 +11,8 @@ use Rattle.std.proofs.Common.{set, ℤ}
 use Rattle.crx_compact.proofs.placing.EntryChanges.{changed-is, room-there, shown-same}
 use Rattle.std.proofs.{Math.Seq.{take-set-lt, set-append_seam}, lemmas.Grind.common_steps}
 use Rattle.std.proofs.lemmas.List.{drop-set-lt, map-set, length-take, length-append}
-use Rattle.crx_compact.specs.{Cells.{arcs_of_cells, codes_of_cells}, Entries.{Entry, IsOrder, in_order, placed_rows}}
+use Rattle.crx_compact.specs.Cells.{arcs_of_cells, codes_of_cells}
+use Rattle.crx_compact.specs.Entries.{Entry, IsOrder, in_order, placed_rows}
 use Rattle.crx_compact.specs.Placing.{IsLeftAt, IsStoredAt, SatelliteTail, cells_for, room_of_entry}
 use Rattle.crx_compact.specs.Placing.{row_tail_of, row_of_entry}
 use Rattle.indexmap.specs.{IndexMap.{IndexMap, IsUnique, set_value_at}}
@@ -45,8 +46,10 @@ pub row-at : (placed : ℕ) {i : ℕ} {es : List Entry} {e : Entry} → i < leng
     → slice_get es i ≡ Some e → IsRowAt placed i es e
 row-at placed {i} {es} {e} within entry = grind (arith, common_steps, slice_get-map, get-take)
 
-pub row-here : {order places : List ℕ} (es : List Entry) → IsOrder order places (length es) → (placed : ℕ) {i : ℕ}
-    {index : ℕ} {e : Entry} → i < length (rows_of placed (in_order order es)) → index ≡ slice_index_or order i 0
+pub row-here : {order places : List ℕ} (es : List Entry) → IsOrder order places (length es)
+    → (placed : ℕ) {i : ℕ}
+    {index : ℕ} {e : Entry} → i < length (rows_of placed (in_order order es))
+    → index ≡ slice_index_or order i 0
     → slice_get es index ≡ Some e → IsRowAt placed i (in_order order es) e
 row-here {order} es is placed {i} within same there = row-at placed within (there-in_order es is i _
     (row-below placed order es within is.counted) (ap (slice_get es) (sym same) ∙ there))
@@ -104,7 +107,8 @@ pub last-within : (name : List ℕ) (before come : PlacedRows) (place : ℕ) →
 last-within name before come place has last =
     omega (arith, last, ap length has.rows, length-append before.rows (row_or_blank name before.rest ∷ []))
 
--- what is stored of it is the row of the epoch before, or nothing; where it is left otherwise, so is the last row
+-- what is stored of it is the row of the epoch before, or nothing;
+-- where it is left otherwise, so is the last row
 pub record IsLastStored (name : List ℕ) (place : ℕ) (before come : PlacedRows) (satellite : SatelliteTail)
     : Type 0 where
   pub is : row_tail_of name satellite ≡ row_or_blank name before.rest

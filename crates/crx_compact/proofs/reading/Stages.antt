@@ -23,7 +23,8 @@ line-good types line held before e good =
 
 -- ---- what columns store
 
-pub state-rows : (is_kept : Bool) (expected : Expected) (count : ℕ) (history : OpenHistory) → expected ≡ SatelliteLine
+pub state-rows : (is_kept : Bool) (expected : Expected) (count : ℕ) (history : OpenHistory)
+    → expected ≡ SatelliteLine
     → columns_state is_kept expected count history ≡ Reading (with_rows (tail_of_history history) count)
 state-rows is_kept expected count history at = cc (at)
 

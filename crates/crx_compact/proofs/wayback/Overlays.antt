@@ -64,7 +64,16 @@ latest-take_past n (w ∷ ws) p h = cc (at-take_past n w p h, latest-take_past n
 pub overlaid-take : (n : ℕ) (marks : List (List ℕ))
     → overlaid (map (take n) marks) ≡ without_end_blanks (take n (overlaid marks))
 overlaid-take n marks =
-    grind (arith, same_characters, at-longest, latest-take, at-overlaid, at-take, latest-take_past, at-take_past)
+    grind (
+      arith,
+      same_characters,
+      at-longest,
+      latest-take,
+      at-overlaid,
+      at-take,
+      latest-take_past,
+      at-take_past,
+    )
 
 -- ---- columns
 

@@ -1,6 +1,8 @@
 -- The text of an epoch's line is read as its columns and satellites; and texts of codes.
-use Rattle.crx_compact.proofs.Words.{◌≡◌, refl, true, false, List, ◌∷◌, [], ℕ, drop, Ok, ◌+◌, ◌*◌, arith, and_parts, rules, length, Row}
-use Rattle.crx_compact.proofs.Words.{Epoch, Count, IsWholeEpoch, begins_epoch, columns, epoch_text, satellites_of_text, few_kept}
+use Rattle.crx_compact.proofs.Words.{◌≡◌, refl, true, false, List, ◌∷◌, [], ℕ, drop}
+use Rattle.crx_compact.proofs.Words.{Ok, ◌+◌, ◌*◌, arith, and_parts, rules, length, Row}
+use Rattle.crx_compact.proofs.Words.{Epoch, Count, IsWholeEpoch, begins_epoch}
+use Rattle.crx_compact.proofs.Words.{columns, epoch_text, satellites_of_text, few_kept}
 use Rattle.crx_compact.proofs.Words.{at-append_past}
 use Rattle.crx_compact.proofs.Words.{list_all, without_end_blanks, at-without_end_blanks, common_steps}
 use Rattle.crx_compact.proofs.wayback.Facts.{head-counted, typed-rows, text-head, length-text, names-read}

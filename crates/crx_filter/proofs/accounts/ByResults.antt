@@ -17,7 +17,8 @@ pub accounts-for_file : (choices : Choices) (file : List ℕ)
     → AccountsForFile choices file (compacted file choices)
 accounts-for_file choices file good = grind (arith, common_steps, file-accounted, append-nil, error_text)
 
-pub accounts-for_text : (choices : Choices) (text : List ℕ) → AccountsForText choices.skip text (expanded text choices)
+pub accounts-for_text : (choices : Choices) (text : List ℕ)
+    → AccountsForText choices.skip text (expanded text choices)
 accounts-for_text choices text good = grind (arith, common_steps, text-accounted, append-nil, error_text)
 
 -- ---- by what holds of a result

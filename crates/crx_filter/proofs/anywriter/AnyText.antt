@@ -42,7 +42,8 @@ warned-read (item ∷ before) = grind (arith, warned-read before)
 
 -- ---- an epoch's lines
 
-rows-many : (base : WrittenEpoch) (rows : List WrittenRow) (lines : List (List ℕ)) → AreRowLines base rows lines
+rows-many : (base : WrittenEpoch) (rows : List WrittenRow) (lines : List (List ℕ))
+    → AreRowLines base rows lines
     → length lines ≡ length rows
 rows-many base [] [] h = refl
 rows-many base [] (line ∷ lines) h = absurd h
@@ -62,7 +63,8 @@ like-unit items units unit k h = grind (arith, common_steps, types_of-push)
 -- ---- a unit's lines
 
 -- a unit that is read at its lines, and what it leaves
-record UnitRead (items : List (Item ReadEpoch)) (unit : FileUnit Epoch) (lines : List (List ℕ)) (now : Option WrittenEpoch) : Type 0 where
+record UnitRead (items : List (Item ReadEpoch)) (unit : FileUnit Epoch) (lines : List (List ℕ))
+    (now : Option WrittenEpoch) : Type 0 where
   read : FileUnit ReadEpoch
   place : compact_place items (map Content lines) ≡ Done read (length lines)
   same : rinex_unit read ≡ unit
@@ -81,18 +83,21 @@ module _ (items : List (Item ReadEpoch)) (units : List (FileUnit Epoch)) (before
       (tail_left (raws_kept (Accepted (EventRecord line) ∷ items)))
   record-left line b e = grind (arith, common_steps, by_bool, empties_state, none-left)
 
-  epoch-unit : (now : WrittenEpoch) (lines : List (List ℕ)) → IsInPlace (as_items units) (Observation (epoch_now now))
+  epoch-unit : (now : WrittenEpoch) (lines : List (List ℕ))
+      → IsInPlace (as_items units) (Observation (epoch_now now))
       → AreEpochLines before now lines → UnitRead items (Observation (epoch_now now)) lines (Some now)
   epoch-unit now [] h lines = absurd lines
   epoch-unit now (line ∷ []) h lines = absurd lines
   epoch-unit now (line ∷ clock ∷ rows) h lines =
       let whole : IsWholeEpoch (types_in_force items) (epoch_now now) =
       subst (λ t. IsWholeEpoch t (epoch_now now)) (sym k.types) h.2 in
-      let reads = any-epoch (types_in_force items) before (raws_kept items) now (line ∷ clock ∷ rows) left whole lines in
+      let reads = any-epoch (types_in_force items) before (raws_kept items) now
+      (line ∷ clock ∷ rows) left whole lines in
       let here = ap (λ ls. epoch_at (types_in_force items) (raws_kept items) ls)
       (sym (append-nil (map Content (line ∷ clock ∷ rows)))) ∙ reads.reads [] in
       let other = no-event (types_in_force items) lines.0 now line clock rows whole lines.2 before lines.1 in
-      let count : 2 + length now.rows ≡ length (line ∷ clock ∷ rows) = omega (arith, rows-many lines.0 now.rows rows lines.2.satellites) in
+      let count : 2 + length now.rows ≡ length (line ∷ clock ∷ rows) =
+      omega (arith, rows-many lines.0 now.rows rows lines.2.satellites) in
       record {
         read = Observation (record { raw = reads.raw; epoch = epoch_now now });
         place = grind (arith, common_steps, here, other, count, body-place);
@@ -124,7 +129,8 @@ module _ (items : List (Item ReadEpoch)) (units : List (FileUnit Epoch)) (before
 
 -- ---- some units after others
 
-pub record AreReadOn (skip : Bool) (items : List (Item ReadEpoch)) (number : ℕ) (block units : List (FileUnit Epoch))
+pub record AreReadOn (skip : Bool) (items : List (Item ReadEpoch)) (number : ℕ)
+    (block units : List (FileUnit Epoch))
     (lines : List (List ℕ)) (last : Option WrittenEpoch) : Type 0 where
   pub more : List (Item ReadEpoch)
   pub reads : reading_from compact_place skip items number (map Content lines)
@@ -134,7 +140,8 @@ pub record AreReadOn (skip : Bool) (items : List (Item ReadEpoch)) (number : ℕ
   pub left : IsLeft last (tail_left (raws_kept (more ++ items)))
 
 pub read-on : (skip : Bool) (items : List (Item ReadEpoch)) (number : ℕ) (block units : List (FileUnit Epoch))
-    (lines : List (List ℕ)) (start last : Option WrittenEpoch) → IsLike items block → IsLeft start (tail_left (raws_kept items))
+    (lines : List (List ℕ)) (start last : Option WrittenEpoch) → IsLike items block
+    → IsLeft start (tail_left (raws_kept items))
     → AreInPlace (as_items (units ++ block)) → AreLinesOn block start units lines last
     → AreReadOn skip items number block units lines last
 read-on skip items number block [] lines start last like left h k = rw (k.0, k.1)
@@ -144,7 +151,8 @@ read-on skip items number block (unit ∷ units) lines start last like left h k 
     let u = unit-read (r.more ++ items) (units ++ block) k.0 r.like r.left last unit k.2 h.0 k.5 in
     rw k.4 (record {
       more = Accepted u.read ∷ r.more;
-      reads = unit-more compact_place compact-forward skip items (r.more ++ items) number k.1 k.2 u.read r.reads u.place;
+      reads = unit-more compact_place compact-forward skip items
+          (r.more ++ items) number k.1 k.2 u.read r.reads u.place;
       known = cc (u.same, r.known);
       like = grind (arith, common_steps, r, u, like-unit (r.more ++ items) (units ++ block) u.read r.like);
       left = u.left;
@@ -156,10 +164,13 @@ read-on skip items number block (unit ∷ units) lines start last like left h k 
 pub of-nothing : (units : List (FileUnit Epoch)) (lines : List (List ℕ)) (last : Option WrittenEpoch)
     → ◌≡◌ {A = Type 0} (AreLinesOn [] None units lines last) (AreLinesOf units lines last)
 of-nothing [] lines last = refl
-of-nothing (unit ∷ units) lines last = λ i. (before : Option WrittenEpoch) × (first : List (List ℕ)) × (more : List (List ℕ))
-    × of-nothing units first before i × (lines ≡ first ++ more) × AreLinesOfUnit (as_items (append-nil units i)) before unit more last
+of-nothing (unit ∷ units) lines last = λ i. (before : Option WrittenEpoch) × (first : List (List ℕ))
+    × (more : List (List ℕ))
+    × of-nothing units first before i × (lines ≡ first ++ more)
+    × AreLinesOfUnit (as_items (append-nil units i)) before unit more last
 
-pub record AreRead (skip : Bool) (number : ℕ) (units : List (FileUnit Epoch)) (lines : List (List ℕ)) (last : Option WrittenEpoch)
+pub record AreRead (skip : Bool) (number : ℕ) (units : List (FileUnit Epoch)) (lines : List (List ℕ))
+    (last : Option WrittenEpoch)
     : Type 0 where
   pub items : List (Item ReadEpoch)
   pub reads : reading_from compact_place skip [] number (map Content lines)
@@ -168,18 +179,21 @@ pub record AreRead (skip : Bool) (number : ℕ) (units : List (FileUnit Epoch)) 
   pub like : IsLike items units
   pub left : IsLeft last (tail_left (raws_kept items))
 
-pub all-read : (skip : Bool) (number : ℕ) (units : List (FileUnit Epoch)) (lines : List (List ℕ)) (last : Option WrittenEpoch)
+pub all-read : (skip : Bool) (number : ℕ) (units : List (FileUnit Epoch)) (lines : List (List ℕ))
+    (last : Option WrittenEpoch)
     → AreInPlace (as_items units) → AreLinesOf units lines last → AreRead skip number units lines last
 all-read skip number units lines last h k =
     let r = read-on skip [] number [] units lines None last
-    (record { header = refl; start = refl; left = refl; counts = λ some. refl; types = refl }) (none-left None)
+    (record { header = refl; start = refl; left = refl; counts = λ some. refl; types = refl })
+    (none-left None)
     (rw append-nil h) (rw (of-nothing units lines last) k) in
     grind (arith, common_steps, append-nil, at)
 
 -- ---- the text
 
 -- where units are read, there is no warning
-pub units-silent : (items : List (Item ReadEpoch)) (units : List (FileUnit Epoch)) → rinex_items items ≡ as_items units
+pub units-silent : (items : List (Item ReadEpoch)) (units : List (FileUnit Epoch))
+    → rinex_items items ≡ as_items units
     → warnings_in items ≡ []
 units-silent items units known = sym (warned-read items) ∙ ap warnings_in known ∙ none-warned units
 
@@ -218,6 +232,7 @@ first-units units text choices placed h =
     let lines = Content h.version ∷ Content h.program ∷ map Content h.lines in
     let r = all-read skip 3 units h.lines h.last (in-place units placed) h.written in
     let two = two-read h.version h.program (map Content h.lines) h.first h.second in
-    let read : compact_reading skip lines ≡ record { items = r.items; stop = AtLines (3 + length h.lines) [] } =
+    let read : compact_reading skip lines
+    ≡ record { items = r.items; stop = AtLines (3 + length h.lines) [] } =
     reading-at skip lines (h.version ∷ h.program ∷ []) 2 two ∙ r.reads in
     grind (arith, common_steps, lines, r, read, printed-read r.items, expanded-first choices lines)

@@ -1,4 +1,5 @@
--- A reading of compact text that gave no fault and no warning: its lines are those of the units that it shows.
+-- A reading of compact text that gave no fault and no warning:
+-- its lines are those of the units that it shows.
 use Rattle.crx_filter.proofs
 use proofs.Words.{arith, common_steps, ℕ, ◌≡◌, Bool, List, [], ◌∷◌, ◌++◌, map, Option, None, refl}
 use proofs.Words.{append_assoc, map-append, ReadLine, Content, FileUnit, Item, ReadEpoch}
@@ -10,7 +11,8 @@ use Rattle.crx_compact.specs.meaning.AnyWriter.{WrittenEpoch}
 use proofs.anywriter.OnlyUnits.{Standing, unit-back}
 
 -- some lines are those of units that items show, and then others
-pub record LinesBack (all : List ReadLine) (items : List (Item ReadEpoch)) (rest : List ReadLine) : Type 0 where
+pub record LinesBack (all : List ReadLine) (items : List (Item ReadEpoch))
+    (rest : List ReadLine) : Type 0 where
   pub units : List (FileUnit Epoch)
   pub own : List (List ℕ)
   pub last : Option WrittenEpoch
@@ -43,5 +45,6 @@ EndsBack lines w = w.fault ≡ None → Back lines w.items []
 
 pub reading-back : (skip : Bool) (number : ℕ) (lines : List ReadLine)
     → EndsBack lines (whole_reading compact_place skip number lines)
-reading-back skip number lines = whole-kept compact_place skip (Back lines) (back-kept skip lines) number lines
+reading-back skip number lines =
+    whole-kept compact_place skip (Back lines) (back-kept skip lines) number lines
     (λ none. grind (arith, common_steps))

@@ -16,7 +16,8 @@ use proofs.anywriter.{AnyText.any-text, OwnText.units-in_place, OnlyReadings.{En
 none-warned : (ws : List At) (o : Option At) → status_after ws o ≡ 0 → (ws ≡ []) × (o ≡ None)
 none-warned ws o h3 = grind (arith, common_steps)
 
-pub only-text : (text : List ℕ) (choices : Choices) → FilterResult.status (expanded text choices) ≡ 0 → IsCompactText text
+pub only-text : (text : List ℕ) (choices : Choices) → FilterResult.status (expanded text choices) ≡ 0
+    → IsCompactText text
 only-text text choices e =
     let skip = choices.skip in
     let lines = map as_read (lines_of text) in

@@ -22,13 +22,15 @@ use Rattle.crx_compact.proofs.anywriter.{Epochs.any-epoch, OnlyEpochs.{only-epoc
 
 -- ---- what is known of some items, the units that they show, and the epoch that later lines may go on from
 
-pub record Standing (items : List (Item ReadEpoch)) (units : List (FileUnit Epoch)) (before : Option WrittenEpoch) : Type 0 where
+pub record Standing (items : List (Item ReadEpoch)) (units : List (FileUnit Epoch))
+    (before : Option WrittenEpoch) : Type 0 where
   pub known : rinex_items items ≡ as_items units
   pub left : tail_left (raws_kept items) ≡ option_map epoch_left before
   pub whole : (b : WrittenEpoch) → before ≡ Some b → IsWholeEpoch (types_in_force items) (epoch_now b)
   pub good : AreGoodEpochs items
 
-pub record UnitBack (items : List (Item ReadEpoch)) (units : List (FileUnit Epoch)) (before : Option WrittenEpoch)
+pub record UnitBack (items : List (Item ReadEpoch)) (units : List (FileUnit Epoch))
+    (before : Option WrittenEpoch)
     (unit : FileUnit ReadEpoch) (lines : List ReadLine) : Type 0 where
   pub own : List (List ℕ)
   pub cut : lines ≡ map Content own
@@ -58,15 +60,18 @@ module _ (items : List (Item ReadEpoch)) (units : List (FileUnit Epoch)) (before
       let types = types_in_force items in
       let raws = raws_kept items in
       let found = only-epoch types before raws lines read count s.left s.whole e in
-      let good = reads-whole types raws lines read count (counts-in_force items) (marks-printable items s.good) e in
+      let good =
+      reads-whole types raws lines read count (counts-in_force items) (marks-printable items s.good) e in
       let whole : IsWholeEpoch types (epoch_now found.now) = rw found.epoch good.whole in
-      let any = any-epoch types before raws found.now found.own (λ b e. s.left ∙ ap (option_map epoch_left) e) whole found.written in
+      let any = any-epoch types before raws found.now found.own
+      (λ b e. s.left ∙ ap (option_map epoch_left) e) whole found.written in
       let split : map Content found.own ++ drop count lines ≡ lines = cc (
         found.cut,
         take-append-drop count lines,
       ) in
       let same : record { raw = any.raw; epoch = epoch_now found.now } ≡ read =
-      done-things (record { raw = any.raw; epoch = epoch_now found.now }) read (2 + length found.now.rows) count
+      done-things (record { raw = any.raw; epoch = epoch_now found.now }) read
+      (2 + length found.now.rows) count
       (sym (any.reads (drop count lines)) ∙ ap (epoch_at types raws) split ∙ e) in
       record {
         own = found.own;

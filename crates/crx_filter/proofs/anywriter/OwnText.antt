@@ -20,14 +20,18 @@ use proofs.wayback.Units.{settled, no-returns, units_in, units-again}
 pub use proofs.wayback.NormalForm.{units-printed}
 use proofs.wayback.WayBack.{IsSettled, lines-same, lines-clean}
 use Rattle.crx_filter.specs.meaning.{Expanded.empties_state, UnitsAndText.{MakeAFile, as_items}}
-use Rattle.crx_filter.specs.meaning.{CompactText.{AreLinesOfUnit, AreLinesOf, IsCompactTextOf, AreUnitsInPlace, AreWholeFile}, Stretches.AreLinesOn}
+use Rattle.crx_filter.specs.meaning.CompactText.{AreLinesOfUnit, AreLinesOf, IsCompactTextOf}
+use Rattle.crx_filter.specs.meaning.{CompactText.{AreUnitsInPlace, AreWholeFile}, Stretches.AreLinesOn}
 use Rattle.crx_filter.specs.CompactText.{OwnTextIsOne}
-use Rattle.crx_compact.specs.{Laws.AreWhole, meaning.Compaction.since_full, meaning.AnyWriter.{WrittenEpoch, AreEpochLines}}
-use Rattle.crx_compact.proofs.{wayback.Runs.marked, anywriter.Own.{epoch_written, epoch-same, full-lines, later-lines}}
+use Rattle.crx_compact.specs.{Laws.AreWhole, meaning.Compaction.since_full}
+use Rattle.crx_compact.specs.meaning.AnyWriter.{WrittenEpoch, AreEpochLines}
+use Rattle.crx_compact.proofs.wayback.Runs.{marked}
+use Rattle.crx_compact.proofs.anywriter.Own.{epoch_written, epoch-same, full-lines, later-lines}
 
 -- ---- the units among some items
 
-pub units-append : (later before : List (Item Epoch)) → units_in (later ++ before) ≡ units_in later ++ units_in before
+pub units-append : (later before : List (Item Epoch))
+    → units_in (later ++ before) ≡ units_in later ++ units_in before
 units-append [] before = refl
 units-append (item ∷ later) before = grind (arith, units-append later before)
 
@@ -36,14 +40,17 @@ pub printed-append : (later before : List (Item Epoch))
 printed-append [] before = sym (append-nil (printed_items before))
 printed-append (item ∷ later) before = grind (arith, common_steps, printed-append later before, append_assoc)
 
--- ---- the epoch that the lines after some items may go on from, where those after a block go on from the first
+-- ---- the epoch that the lines after some items may go on from,
+-- where those after a block go on from the first
 
-abbrev pub state_on : Option WrittenEpoch → Option ℕ → List (Item Epoch) → List (Item Epoch) → Option WrittenEpoch
+abbrev pub state_on : Option WrittenEpoch → Option ℕ → List (Item Epoch) → List (Item Epoch)
+    → Option WrittenEpoch
 state_on start every block [] = start
 state_on start every block (Accepted (HeaderLine line) ∷ later) = None
 state_on start every block (Accepted (EventLine line) ∷ later) = state_on start every block later
 state_on start every block (Accepted (EventRecord line) ∷ later) =
-    if empties_state (records_count_types (later ++ block)) line then None else state_on start every block later
+    if empties_state (records_count_types (later ++ block)) line then None
+    else state_on start every block later
 state_on start every block (Accepted (Observation epoch) ∷ later) =
     Some (epoch_written (marked_now every (later ++ block) epoch) (marked_epochs every (later ++ block)))
 state_on start every block (Warned at ∷ later) = state_on start every block later
@@ -63,8 +70,10 @@ module _ (start : Option WrittenEpoch) (choices : Choices) (block : List (Item E
   IsWholeAfter types m items = AreWhole types (since_full (m ∷ marked_epochs choices.every (items ++ block)))
 
   own-epoch : (types : List Count) (epoch : Epoch) (items : List (Item Epoch)) (full : Bool)
-      → GoAnew choices block (Accepted (Observation epoch) ∷ items) → is_in_full choices.every (items ++ block) ≡ full
-      → IsWholeAfter types (marked full epoch) items → AreEpochLines (before_all items) (epoch_of (marked full epoch) items)
+      → GoAnew choices block (Accepted (Observation epoch) ∷ items)
+      → is_in_full choices.every (items ++ block) ≡ full
+      → IsWholeAfter types (marked full epoch) items
+      → AreEpochLines (before_all items) (epoch_of (marked full epoch) items)
       (compact_epoch (marked full epoch ∷ marked_epochs choices.every (items ++ block)))
   own-epoch types epoch items true anew e h =
       full-lines types epoch (marked_epochs choices.every (items ++ block)) (before_all items) h
@@ -73,9 +82,11 @@ module _ (start : Option WrittenEpoch) (choices : Choices) (block : List (Item E
       (marked_now choices.every (items ++ block) last) (marked_epochs choices.every (items ++ block)) h
   own-epoch types epoch (item ∷ items) false anew e h = grind (arith, common_steps, not-interrupted)
 
-  own-unit : (items : List (Item Epoch)) (unit : FileUnit Epoch) → AreInPlace (Accepted unit ∷ (items ++ block))
+  own-unit : (items : List (Item Epoch)) (unit : FileUnit Epoch)
+      → AreInPlace (Accepted unit ∷ (items ++ block))
       → GoAnew choices block (Accepted unit ∷ items) → AreLinesOfUnit (as_items (units_in (items ++ block)))
-      (before_all items) unit (body_unit choices.every (items ++ block) unit) (before_all (Accepted unit ∷ items))
+      (before_all items) unit (body_unit choices.every (items ++ block) unit)
+      (before_all (Accepted unit ∷ items))
   own-unit items (HeaderLine line) h anew = (refl, refl)
   own-unit items (EventLine line) h anew = (refl, refl)
   own-unit items (EventRecord line) h anew = grind (arith, common_steps, units-like)
@@ -83,14 +94,16 @@ module _ (start : Option WrittenEpoch) (choices : Choices) (block : List (Item E
       let all = items ++ block in
       let whole = whole-next choices.every all epoch h in (
         epoch_of (marked_now choices.every all epoch) items,
-        epoch-same (types_in_force all) (is_in_full choices.every all) epoch (marked_epochs choices.every all) whole.0,
+        epoch-same (types_in_force all) (is_in_full choices.every all) epoch
+            (marked_epochs choices.every all) whole.0,
         refl,
         own-epoch (types_in_force all) epoch items (is_in_full choices.every all) anew refl whole,
       )
 
   -- the lines of some items after a block
   pub own-on : (items : List (Item Epoch)) → AreInPlace (items ++ block) → GoAnew choices block items
-      → AreLinesOn (units_in block) start (units_in items) (lines_on choices.every items block) (before_all items)
+      → AreLinesOn (units_in block) start (units_in items) (lines_on choices.every items block)
+      (before_all items)
   own-on [] h anew = (refl, refl)
   own-on (Warned at ∷ items) h anew = own-on items h.1 (λ e. begins-rest choices block (Warned at) items
       (anew e))
@@ -114,7 +127,10 @@ pub own-lines : (choices : Choices) (items : List (Item Epoch)) → AreInPlace i
 own-lines choices items h =
     let same : lines_on choices.every items [] ≡ lines_back choices.every items =
     sym (written-on choices.every items []) ∙ ap (lines_back choices.every) (append-nil items) in
-    rw (← same, ← of-nothing (units_in items) (lines_on choices.every items []) (state_after choices.every items))
+    rw (
+      ← same,
+      ← of-nothing (units_in items) (lines_on choices.every items []) (state_after choices.every items),
+    )
     (own-on None choices [] items (rw append-nil h) (λ e. absurd (cc e)))
 
 pub units-in_place : (units : List (FileUnit Epoch)) → AreInPlace (as_items units) → AreUnitsInPlace units
@@ -137,7 +153,8 @@ pub own-cut : (choices : Choices) (before : List (Item Epoch)) (more : List ℕ)
 own-cut choices before more dated h begun =
     grind (arith, lines-same, front-cut, version-clean, program-clean, lines-clean)
 
-pub own-items : (choices : Choices) (items : List (Item Epoch)) → is_date choices.date ≡ true → IsSettled items
+pub own-items : (choices : Choices) (items : List (Item Epoch))
+    → is_date choices.date ≡ true → IsSettled items
     → HaveNoReturns items → IsCompactTextOf (units_in items) (lines_text (compact_lines choices items))
 own-items choices items dated h none = record {
   version = version_line;

@@ -7,17 +7,21 @@ use proofs.Words.{FileUnit}
 use proofs.Words.{common_steps, ReadEpoch, Choices, Item, records_left, Reading, reading_from}
 use proofs.Words.{continued_reading}
 use proofs.Words.{warnings_in, compact_place, expanded, Stretch, up_to_next}
-use Rattle.crx_filter.specs.meaning.{CompactText.AreUnitsInPlace, Stretches.{AreLinesOn, begins_no_event}, UnitsAndText.as_items}
+use Rattle.crx_filter.specs.meaning.CompactText.{AreUnitsInPlace}
+use Rattle.crx_filter.specs.meaning.{Stretches.{AreLinesOn, begins_no_event}, UnitsAndText.as_items}
 use Rattle.crx_filter.specs.meaning.Damage.{IsDamaged, epochs_among, IsSalvaged}
 use Rattle.crx_compact.specs.meaning.AnyWriter.{WrittenEpoch}
 use Rattle.std.proofs.lemmas.List.{append_cancel_right, length-reverse, Folds.list_all-append}
 use proofs.anywriter.AnyText.{AreReadOn, read-on, in-place, units-silent}
-use proofs.damage.{GoingOn.with_warnings, SavedText.{epochs_of, epochs-append, epochs-known, warnings-append, warnings-with}}
+use proofs.damage.GoingOn.{with_warnings}
+use proofs.damage.SavedText.{epochs_of, epochs-append, epochs-known, warnings-append, warnings-with}
 use proofs.reading.{ForwardCompact.compact-forward, Resuming.resumed}
 use proofs.stretches.OpenReading.{few-warned, open-items, pending, stretch-more}
-use proofs.stretches.{StretchesRead.{IsStepRead, header-on, one-stretch, step-printed, step-whole}, StretchesSaved.{come, front, old, sound, written-for}}
+use proofs.stretches.StretchesRead.{IsStepRead, header-on, one-stretch, step-printed, step-whole}
+use proofs.stretches.StretchesSaved.{come, front, old, sound, written-for}
 
-module _ (before : List (FileUnit Epoch)) (s : Stretch) (damaged : List ℕ) (d : IsDamaged before s damaged) where
+module _ (before : List (FileUnit Epoch)) (s : Stretch) (damaged : List ℕ)
+    (d : IsDamaged before s damaged) where
   abbrev start : List (Item ReadEpoch)
   start = (front before (s ∷ []) damaged d.stretch).items
 
@@ -36,7 +40,8 @@ module _ (before : List (FileUnit Epoch)) (s : Stretch) (damaged : List ℕ) (d 
       ∙ ap (λ r. continued_reading compact_place true r lines) (front before (s ∷ []) damaged d.stretch).reads
 
   one : IsStepRead before s lines_before start
-  one = one-stretch before s [] lines_before start (sound before (s ∷ []) damaged d.stretch) (come before (s ∷ []) damaged d.stretch)
+  one = one-stretch before s [] lines_before start (sound before (s ∷ []) damaged d.stretch)
+      (come before (s ∷ []) damaged d.stretch)
 
   abbrev more : List (Item ReadEpoch)
   more = one.kept.more ++ with_warnings one.kept.warnings one.first.news
@@ -51,20 +56,29 @@ module _ (before : List (FileUnit Epoch)) (s : Stretch) (damaged : List ℕ) (d 
 
   -- ---- the epochs whose lines stand at the block's beginning
 
-  own-epochs : (units : List (FileUnit Epoch)) (lines : List (List ℕ)) (last : Option WrittenEpoch) (rest : List ReadLine)
+  own-epochs : (units : List (FileUnit Epoch)) (lines : List (List ℕ)) (last : Option WrittenEpoch)
+      (rest : List ReadLine)
       → AreUnitsInPlace (units ++ before) → records_left (as_items (units ++ before)) ≡ 0
       → AreLinesOn before ((d.stretch).text).last units lines last → s.instead ≡ map Content lines ++ rest
       → (more : List Epoch) × (epochs_of one.first.news ≡ epochs_among units ++ more)
   own-epochs units lines last rest placed closed k e =
       let f = front before (s ∷ []) damaged d.stretch in
-      let o : AreReadOn true start number before units lines last = read-on true start number before units lines
+      let o : AreReadOn true start number before units lines last =
+      read-on true start number before units lines
       ((d.stretch).text).last last f.like f.left (in-place (units ++ before) placed) k in
       let next : List (Item ReadEpoch) = o.more ++ start in
       let quiet = ((d.stretch).each).0.allowed in
       let later = stretch-more next (lines_before ++ map Content lines) rest (record {
         header = (o.like).header ∙ header-on units before (d.stretch).header;
         none = (o.like).left ∙ closed;
-      }) (inl (number + length lines, [], refl, compact-forward.wants next, after-front (map Content lines) ∙ o.reads))
+      })
+      (inl (
+        number + length lines,
+        [],
+        refl,
+        compact-forward.wants next,
+        after-front (map Content lines) ∙ o.reads,
+      ))
       (and_parts (list_all begins_no_event (map Content lines)) (list_all begins_no_event rest)
       (rw (e, list_all-append) at quiet)).1 in
       let same : one.first.news ++ start ≡ (later.news ++ o.more) ++ start =
@@ -86,18 +100,21 @@ module _ (before : List (FileUnit Epoch)) (s : Stretch) (damaged : List ℕ) (d 
 -- ---- the law
 
 pub all-saved : (before : List (FileUnit Epoch)) (s : Stretch) (damaged : List ℕ) (expanding : Choices)
-    → expanding.skip ≡ true → (d : IsDamaged before s damaged) → IsSalvaged before s damaged d (expanded damaged expanding)
+    → expanding.skip ≡ true → (d : IsDamaged before s damaged)
+    → IsSalvaged before s damaged d (expanded damaged expanding)
 all-saved before s damaged expanding skips d =
     let step = one before s damaged d in
     let items = start before s damaged d in
     let news = more before s damaged d in
     let w = written-for before (s ∷ []) damaged d.stretch expanding skips
-    ((lines_before before s damaged d ++ s.instead) ++ map Content s.lines) (simp (append_assoc, append-nil)) news
+    ((lines_before before s damaged d ++ s.instead) ++ map Content s.lines)
+    (simp (append_assoc, append-nil)) news
     (up_to_next before s) step.come in
     let all = with_warnings w.end.warnings (news ++ items) in
     rw w.is (record {
       epochs = epochs_of step.first.news;
-      whole = step-whole before s (lines_before before s damaged d) items step (front before (s ∷ []) damaged d.stretch).like.types
+      whole = step-whole before s (lines_before before s damaged d) items step
+          (front before (s ∷ []) damaged d.stretch).like.types
           w.good;
       warnings = reverse (warnings_in all);
       few = simp (length-reverse, append_assoc, warnings-with, warnings-append, length-append)

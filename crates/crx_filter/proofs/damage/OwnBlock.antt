@@ -22,7 +22,8 @@ use Rattle.crx_lines.proofs.PieceLemmas.{pieces-first}
 use proofs.anywriter.OwnText.{units-append, units-printed, units-in_place, state_after, state_on, own-on}
 use proofs.anywriter.OwnText.{printed-append}
 use proofs.damage.SavedText.{among-append}
-use proofs.damage.{DamagedText.{front-cut, instead-read, text-append}, DamageStays.all-saved, ItemTexts.{rest-in_place, text-parts}}
+use proofs.damage.DamagedText.{front-cut, instead-read, text-append}
+use proofs.damage.{DamageStays.all-saved, ItemTexts.{rest-in_place, text-parts}}
 use proofs.damage.{TextAfter.lines_on}
 use proofs.{reading.Each.header-append, wayback.First.all-weaker}
 use proofs.stretches.{OwnStretches.{file-good, file-settled, own-damage, text_of_own}}
@@ -44,17 +45,20 @@ abbrev items_of : List Epoch → List (Item Epoch)
 items_of [] = []
 items_of (epoch ∷ later) = items_of later ++ Accepted (Observation epoch) ∷ []
 
-epochs-items : (before : List (Item Epoch)) (epochs : List Epoch) → with_epochs before epochs ≡ items_of epochs ++ before
+epochs-items : (before : List (Item Epoch)) (epochs : List Epoch)
+    → with_epochs before epochs ≡ items_of epochs ++ before
 epochs-items before [] = refl
 epochs-items before (epoch ∷ later) = epochs-items (Accepted (Observation epoch) ∷ before) later
     ∙ sym (append_assoc (items_of later) (Accepted (Observation epoch) ∷ []) before)
 
 items-append : (one two : List Epoch) → items_of (one ++ two) ≡ items_of two ++ items_of one
 items-append [] two = sym (append-nil (items_of two))
-items-append (epoch ∷ one) two = cc (items-append one two, append_assoc (items_of two) (items_of one) (Accepted (Observation epoch) ∷ []))
+items-append (epoch ∷ one) two =
+    cc (items-append one two, append_assoc (items_of two) (items_of one) (Accepted (Observation epoch) ∷ []))
 
 on-append : (every : Option ℕ) (later items before : List (Item Epoch))
-    → lines_on every (later ++ items) before ≡ lines_on every items before ++ lines_on every later (items ++ before)
+    → lines_on every (later ++ items) before
+    ≡ lines_on every items before ++ lines_on every later (items ++ before)
 on-append every [] items before = sym (append-nil (lines_on every items before))
 on-append every (item ∷ later) items before = grind (arith, on-append every later items before, append_assoc)
 
@@ -81,17 +85,27 @@ epochs-among (epoch ∷ later) =
 
 -- ---- the lines in place of the block's
 
-inside-read : (lines : List InputLine) → list_all may_replace lines ≡ true → list_all is_inside (map as_read lines) ≡ true
+inside-read : (lines : List InputLine) → list_all may_replace lines ≡ true
+    → list_all is_inside (map as_read lines) ≡ true
 inside-read [] e = refl
 inside-read (line ∷ lines) e =
-    grind (arith, common_steps, and_parts, not-true, by_bool, inside-read lines (and_parts (may_replace line) _ e).1)
+    grind (
+      arith,
+      common_steps,
+      and_parts,
+      not-true,
+      by_bool,
+      inside-read lines (and_parts (may_replace line) _ e).1,
+    )
 
-may-come : (lines : List InputLine) → list_all may_replace lines ≡ true → list_all may_come_instead lines ≡ true
+may-come : (lines : List InputLine) → list_all may_replace lines ≡ true
+    → list_all may_come_instead lines ≡ true
 may-come = grind (arith, common_steps, all-weaker, not-true)
 
 -- ---- a damaged text
 
-module _ (input : List ℕ) (choices : Choices) (damaged : List ℕ) (d : IsOwnDamaged input choices damaged) where
+module _ (input : List ℕ) (choices : Choices) (damaged : List ℕ)
+    (d : IsOwnDamaged input choices damaged) where
   abbrev epochs : List Epoch
   epochs = d.first ∷ d.others
 
@@ -114,14 +128,19 @@ module _ (input : List ℕ) (choices : Choices) (damaged : List ℕ) (d : IsOwnD
       record { good = good; no_returns = whole-copied NoReturn choices.skip lines good plain }
 
   parts : (read_of_file input choices).items ≡ d.after ++ block
-  parts = cc (same-reading choices.skip (map as_read (lines_of input)) (d.standard).good, d.parts, epochs-items d.before epochs)
+  parts = cc (
+    same-reading choices.skip (map as_read (lines_of input)) (d.standard).good,
+    d.parts,
+    epochs-items d.before epochs,
+  )
 
   block-good : AreGood block
   block-good = good-before d.after block (subst AreGood parts (file-good input choices read-whole))
 
   first-in_place : AreInPlace (Accepted (Observation d.first) ∷ d.before)
   first-in_place = rest-in_place (items_of d.others) (Accepted (Observation d.first) ∷ d.before)
-      (rw (append_assoc (items_of d.others) (Accepted (Observation d.first) ∷ []) d.before) at block-good.in_place)
+      (rw (append_assoc (items_of d.others) (Accepted (Observation d.first) ∷ []) d.before)
+      at block-good.in_place)
 
   no-event : is_event_line full ≡ false
   no-event = ((epoch-stands choices.every d.before d.first first-in_place).no_event).0
@@ -130,7 +149,8 @@ module _ (input : List ℕ) (choices : Choices) (damaged : List ℕ) (d : IsOwnD
   first-clean = (subst (AllByRecursion IsClean) (sym (epochs-lines choices d.before epochs))
       (kept-clean choices (items_of epochs) d.before block-good)).0
 
-  first-piece : pieces_of (lines_text (full ∷ []) ++ d.instead) ≡ record { bytes = full; is_ended = true } ∷ pieces_of d.instead
+  first-piece : pieces_of (lines_text (full ∷ []) ++ d.instead)
+      ≡ record { bytes = full; is_ended = true } ∷ pieces_of d.instead
   first-piece = rw (append-nil (full ++ 10 ∷ []), append_assoc full (10 ∷ []) d.instead)
       (pieces-first full d.instead first-clean.one_line)
 
@@ -164,10 +184,12 @@ module _ (input : List ℕ) (choices : Choices) (damaged : List ℕ) (d : IsOwnD
   }
 
   -- its stretch is such a block as anybody's
-  text-cut : map as_read (lines_of (lines_text (full ∷ []) ++ d.instead)) ≡ Content full ∷ map as_read (lines_of d.instead)
+  text-cut : map as_read (lines_of (lines_text (full ∷ []) ++ d.instead))
+      ≡ Content full ∷ map as_read (lines_of d.instead)
   text-cut = front-cut (full ∷ []) d.instead (first-clean, tt)
 
-  abbrev own-damaged : (dated : is_date choices.date ≡ true) → IsDamaged (units_in d.before) (as_stretch choices.every d.before stretch)
+  abbrev own-damaged : (dated : is_date choices.date ≡ true)
+      → IsDamaged (units_in d.before) (as_stretch choices.every d.before stretch)
       (text_of_own input choices damaged dated own-stretches)
   own-damaged dated = record {
     stretch = own-damage input choices damaged dated own-stretches;
@@ -196,9 +218,11 @@ module _ (input : List ℕ) (choices : Choices) (damaged : List ℕ) (d : IsOwnD
       (text_of_own input choices damaged dated own-stretches) expanding skips (own-damaged dated) in
       let same = ap (λ t. expanded t expanding) own-stretches.text in
       let before-good = good-before (items_of epochs) d.before block-good in
-      let after : drop (length (printed_items (with_epochs d.before epochs))) (printed_items (whole_of input).items)
+      let after : drop (length (printed_items (with_epochs d.before epochs)))
+      (printed_items (whole_of input).items)
       ≡ printed_items (as_items (units_in d.after)) =
-      rw (d.parts, printed-append d.after (with_epochs d.before epochs), drop-append_seam) (sym (units-printed d.after)) in
+      rw (d.parts, printed-append d.after (with_epochs d.before epochs), drop-append_seam)
+      (sym (units-printed d.after)) in
       record {
         epochs = k.epochs;
         whole = grind (arith, common_steps, k, before-good, units-like d.before before-good.in_place);
@@ -217,8 +241,10 @@ module _ (input : List ℕ) (choices : Choices) (damaged : List ℕ) (d : IsOwnD
         fault = cc (same, k.fault);
         own = λ count rest e.
             let units = units-append (own count) d.before in
-            let found = k.own (units_in (own count)) (lines_of_epochs choices d.before (take (suc count) epochs))
-            (state_on (state_after choices.every d.before) choices.every d.before (own count)) (map Content rest)
+            let found =
+            k.own (units_in (own count)) (lines_of_epochs choices d.before (take (suc count) epochs))
+            (state_on (state_after choices.every d.before) choices.every d.before (own count))
+            (map Content rest)
             (units-in_place _ (rw units at (units-placed (own count ++ d.before) (own-good count).in_place)))
             (cc (
               units,
@@ -227,7 +253,8 @@ module _ (input : List ℕ) (choices : Choices) (damaged : List ℕ) (d : IsOwnD
               (epochs-left d.before (take (suc count) epochs) (first-in_place.0).1).0,
             ))
             (rw (epochs-lines choices d.before (take (suc count) epochs))
-            (own-on (state_after choices.every d.before) choices d.before (own count) (own-good count).in_place
+            (own-on (state_after choices.every d.before) choices d.before (own count)
+            (own-good count).in_place
             (λ e. epochs-anew choices d.before d.first (take count d.others) d.starts)))
             (cc (
               text-cut,
@@ -244,8 +271,10 @@ module _ (input : List ℕ) (choices : Choices) (damaged : List ℕ) (d : IsOwnD
       let settled = file-settled input choices read-whole in
       let whole = subst AreInPlace parts settled.in_place in
       let header = header-append (items_of epochs) d.before (first-in_place.0).0 in
-      let own : compact_lines choices block ≡ compact_lines choices d.before ++ lines_of_epochs choices d.before epochs =
-      rw (epochs-lines choices d.before epochs) (text-parts choices (items_of epochs) d.before block-good.in_place header (first-in_place.0).0) in
+      let own : compact_lines choices block
+      ≡ compact_lines choices d.before ++ lines_of_epochs choices d.before epochs =
+      rw (epochs-lines choices d.before epochs)
+      (text-parts choices (items_of epochs) d.before block-good.in_place header (first-in_place.0).0) in
       rw (same-reading choices.skip (map as_read (lines_of input)) (d.standard).good)
       (rw (
         d.parts,

@@ -40,17 +40,22 @@ warnings-with (at ∷ older) items = ap (λ w. at ∷ w) (warnings-with older it
 abbrev pub epochs_of : List (Item ReadEpoch) → List Epoch
 epochs_of items = epochs_among (units_in (rinex_items items))
 
-rinex-append : (later before : List (Item ReadEpoch)) → rinex_items (later ++ before) ≡ rinex_items later ++ rinex_items before
+rinex-append : (later before : List (Item ReadEpoch))
+    → rinex_items (later ++ before) ≡ rinex_items later ++ rinex_items before
 rinex-append [] before = refl
 rinex-append (item ∷ later) before = grind (arith, rinex-append later before)
 
-pub among-append : (later before : List (FileUnit Epoch)) → epochs_among (later ++ before) ≡ epochs_among before ++ epochs_among later
+pub among-append : (later before : List (FileUnit Epoch))
+    → epochs_among (later ++ before) ≡ epochs_among before ++ epochs_among later
 among-append [] before = sym (append-nil (epochs_among before))
 among-append (unit ∷ later) before = grind (arith, common_steps, among-append later before, append_assoc)
 
-pub epochs-append : (later before : List (Item ReadEpoch)) → epochs_of (later ++ before) ≡ epochs_of before ++ epochs_of later
+pub epochs-append : (later before : List (Item ReadEpoch))
+    → epochs_of (later ++ before) ≡ epochs_of before ++ epochs_of later
 epochs-append later before = grind (arith, common_steps, rinex-append, units-append, among-append, units_in)
 
-pub epochs-known : (items : List (Item ReadEpoch)) (units : List (FileUnit Epoch)) → rinex_items items ≡ as_items units
+pub epochs-known : (items : List (Item ReadEpoch)) (units : List (FileUnit Epoch))
+    → rinex_items items ≡ as_items units
     → epochs_of items ≡ epochs_among units
-epochs-known items units known = ap (λ is. epochs_among (units_in is)) known ∙ ap epochs_among (units-again units)
+epochs-known items units known =
+    ap (λ is. epochs_among (units_in is)) known ∙ ap epochs_among (units-again units)

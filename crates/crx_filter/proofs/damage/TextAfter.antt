@@ -11,11 +11,14 @@ lines_on every (Accepted unit ∷ later) before = lines_on every later before ++
     (later ++ before) unit
 lines_on every (Warned at ∷ later) before = lines_on every later before
 
-pub written-on : (every : Option ℕ) (later before : List (Item Epoch)) → written_lines (body_unit every) (later ++ before)
+pub written-on : (every : Option ℕ) (later before : List (Item Epoch))
+    → written_lines (body_unit every) (later ++ before)
     ≡ written_lines (body_unit every) before ++ lines_on every later before
 written-on every [] before = sym (append-nil (written_lines (body_unit every) before))
-written-on every (item ∷ later) before = grind (arith, common_steps, written-on every later before, append_assoc)
+written-on every (item ∷ later) before =
+    grind (arith, common_steps, written-on every later before, append_assoc)
 
-pub begins-rest : (choices : Choices) (block : List (Item Epoch)) (item : Item Epoch) (items : List (Item Epoch))
+pub begins-rest : (choices : Choices) (block : List (Item Epoch)) (item : Item Epoch)
+    (items : List (Item Epoch))
     → BeginsAnew choices block (item ∷ items) → BeginsAnew choices block items
 begins-rest choices block item items h = grind (arith, common_steps)

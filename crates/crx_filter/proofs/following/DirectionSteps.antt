@@ -31,7 +31,8 @@ compaction-goes choices taken = record {
 }
 
 pub expansion-goes : IsLawfulDirection expansion (λ choices. choices) (λ choices lines. []) expansion_state
-    (λ choices lines line. expansion_outgrows (compact_reading choices.skip (map as_read lines)) (as_read line))
+    (λ choices lines line.
+    expansion_outgrows (compact_reading choices.skip (map as_read lines)) (as_read line))
     expansion_filter
 expansion-goes choices taken = record {
   follows = grind (arith, common_steps, expanded-on choices, flat_map-append);

@@ -150,7 +150,8 @@ module _ (choices : Choices) where
   agree-begins items line = grind (arith, common_steps, agree-content)
 
   pub agree-continues : (items : List (Item ReadEpoch))
-      (lines : List ReadLine) (line : ReadLine) (so_far : OpenRawEpoch) → compact_open items lines ≡ Some so_far
+      (lines : List ReadLine) (line : ReadLine) (so_far : OpenRawEpoch)
+      → compact_open items lines ≡ Some so_far
       → Agrees items (lines ++ line ∷ []) (made_of_raw_step (next_step so_far line))
   agree-continues items [] line so_far opens = absurd (none-some so_far opens)
   agree-continues items (first ∷ rest) line so_far opens =

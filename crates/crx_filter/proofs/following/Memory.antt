@@ -40,7 +40,8 @@ header-takes {E = E} takes items is_first line h =
 
 -- a record of an event
 record-takes : {E : Type 0} (takes : ℕ → Bool) (items : List (Item E)) (line : List ℕ)
-    → (are_lacking (types_in_force items) && (records_count_types items && is_some (count_of_types_line line)))
+    → (are_lacking (types_in_force items)
+    && (records_count_types items && is_some (count_of_types_line line)))
     ≡ true → place_takes takes items 0
     (first_line (Content line ∷ []) (event_record (records_count_types items))) ≡ true
 record-takes {E = E} takes items line h = grind (arith, common_steps, and_parts, counts-well)

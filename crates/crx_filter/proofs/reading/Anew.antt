@@ -196,7 +196,8 @@ module _ (one_number : Type 0) (skip : Bool) where
 
   -- after the one and the other items, so many units are read alike
   abbrev ReadAlike : ℕ → List (Item ReadEpoch) → List (Item ReadEpoch) → ℕ → ℕ → List ReadLine → Type 0
-  ReadAlike units a b m n lines = (one_number → m ≡ n) → Alike a b (reading_within compact_place skip units a m
+  ReadAlike units a b m n lines = (one_number → m ≡ n)
+      → Alike a b (reading_within compact_place skip units a m
       lines) (reading_within compact_place skip units b n lines)
 
   lines-stopped : (a b : List (Item ReadEpoch)) (m n : ℕ) (lines : List ReadLine)

@@ -15,8 +15,8 @@ none-after items lines h3 = grind (arith, common_steps)
 
 module _ {E : Type 0} (place : List (Item E) → List ReadLine → Place (FileUnit E)) (skip : Bool)
     (Keeps : List (Item E) → List ReadLine → Type 0) where
-  -- what holds of the items so far and of the lines from there on, after each step too; it holds of the lines that
-  -- are left where a reading stops
+  -- what holds of the items so far and of the lines from there on, after each step too;
+  -- it holds of the lines that are left where a reading stops
   pub record IsKept : Type 0 where
     pub here : (items : List (Item E)) (lines : List ReadLine) (unit : FileUnit E) (count : ℕ) → place
         items lines ≡ Done unit count → Keeps items lines → Keeps (Accepted unit ∷ items) (drop count lines)
@@ -33,8 +33,10 @@ module _ {E : Type 0} (place : List (Item E) → List ReadLine → Place (FileUn
   abbrev pub KeptAt : Reading E → Type 0
   KeptAt r = (lines : List ReadLine) × Keeps r.items lines × IsLeft r.items r.stop lines
 
-  pub looked-kept : (items : List (Item E)) (read : ℕ → List ReadLine → Reading E) (number : ℕ) (lines : List ReadLine)
-      → ((n : ℕ) → Keeps items (drop n lines)) → ((n : ℕ) (ls : List ReadLine) → Keeps items ls → KeptAt (read n ls))
+  pub looked-kept : (items : List (Item E)) (read : ℕ → List ReadLine → Reading E) (number : ℕ)
+      (lines : List ReadLine)
+      → ((n : ℕ) → Keeps items (drop n lines))
+      → ((n : ℕ) (ls : List ReadLine) → Keeps items ls → KeptAt (read n ls))
       → KeptAt (looked_for read items number lines)
   looked-kept items read number [] h next = ([], h 0, refl)
   looked-kept items read number (line ∷ lines) h next = by_bool (can_go_on line)
@@ -49,8 +51,10 @@ module _ {E : Type 0} (place : List (Item E) → List ReadLine → Place (FileUn
       (Accepted unit ∷ items) (number + count) (drop count lines) (k.here items lines unit count e h)))
       (λ offset fault e.
       let at : At = record { line = number + offset; fault = fault } in
-      rw (within-wrong place skip units items number lines offset fault e) (by_bool (is_skipped skip items fault)
-      (λ on. rw (on, after_fault) (looked-kept (Warned at ∷ items) (reading_within place skip units (Warned at ∷ items))
+      rw (within-wrong place skip units items number lines offset fault e)
+      (by_bool (is_skipped skip items fault)
+      (λ on. rw (on, after_fault)
+      (looked-kept (Warned at ∷ items) (reading_within place skip units (Warned at ∷ items))
       (number + max offset 1) (drop (max offset 1) lines)
       (λ n. rw (drop-drop n (max offset 1) lines) (k.passed items lines at (max offset 1 + n) on h))
       (within-kept k units (Warned at ∷ items)))) (λ off. rw (off, after_fault) (
@@ -74,7 +78,8 @@ module _ {E : Type 0} (place : List (Item E) → List ReadLine → Place (FileUn
           → Keeps (WholeReading.items (ended_with skip items (number + length rest) o)) []
       by_fault None e f = rw (left, none-after items rest e) at h
       by_fault (Some fault) e f = by_bool (is_skipped skip items fault)
-          (λ on. rw (on, ended_with) (rw (drop_all (length lines) lines (omega arith)) at (k.passed items lines
+          (λ on. rw (on, ended_with)
+          (rw (drop_all (length lines) lines (omega arith)) at (k.passed items lines
           (record { line = number + length rest; fault = fault }) (length lines) on h)))
           (λ off. let never = rw (off, ended_with) at f in absurd (cc never))
 

@@ -19,7 +19,8 @@ use Rattle.crx_filter.{proofs.steps.Given.given-either, specs.CheckByLine.totals
 use Rattle.crx_filter.specs.{CheckingParts.{AreCounted, AreNamed, HasNoRow, NotesLine, is_reading}}
 use Rattle.crx_filter.specs.{CompactionByLine.is_before_header, declared.checking.Noted.Noted}
 use Rattle.crx_filter.specs.{DirectionParts.{DirectionParts, DirectionTakes, Reads}}
-use Rattle.crx_filter.specs.{DirectionParts.{ComesAfter, brings_nothing, state_by}, LineByLine.Quiet as LineQuiet}
+use Rattle.crx_filter.specs.DirectionParts.{ComesAfter, brings_nothing, state_by}
+use Rattle.crx_filter.specs.LineByLine.{Quiet as LineQuiet}
 use Rattle.crx_filter.specs.{Rooms.{HaveTypes, LackTypes}, RinexReaders.RefusesRinexLine, Stages.is_ended}
 use Rattle.crx_filter.specs.{Totals.{totals_held, HasPrinted}, meaning.Directions.fault_so_far}
 use Rattle.crx_filter.specs.meaning.Standard.{Findings, report_lines}
@@ -93,7 +94,8 @@ module _ (serves : Choices → Type 0) (before after : RinexReader) (totals : He
   rejected-reads fault same rejects none = grind (arith, common_steps, made-same)
 
   pub refused-reads : (fault : Fault) → IsSameReader before after → is_open_stage before.stage ≡ false
-      → RefusesRinexLine (made_there before content) before content (LackTypes before.stage before.types) fault
+      → RefusesRinexLine (made_there before content) before content
+      (LackTypes before.stage before.types) fault
       → ready ≡ [] → Reads check_by_line serves (parts_with before (totals_held totals)) content
       (HaveTypes before.stage before.types) (Err fault) ready
       (parts_with after (totals_held totals))
@@ -185,11 +187,13 @@ module _ (before after : RinexReader) (old new : Noted) (line : InputLine) (numb
   }
 
 -- or has refused a line as its reader did
-pub refused-takes : {served : Choices → Type 0} {before after : DirectionParts OpenEpoch Totals} {number count : ℕ}
+pub refused-takes : {served : Choices → Type 0} {before after : DirectionParts OpenEpoch Totals}
+    {number count : ℕ}
     {line : InputLine} {room : Type 0} {fault : Fault} {ready : List (List ℕ)}
     {knows : Choices → List InputLine → Type 0}
     → Reads check_by_line served before line.content room (Err fault) ready after
-    → DirectionTakes check_by_line (λ choices. no_choices) (λ choices. check_reading) served before number line room
+    → DirectionTakes check_by_line (λ choices. no_choices)
+    (λ choices. check_reading) served before number line room
     (Err fault) ready after (λ choices. true) count count knows knows
 refused-takes reads = grind (arith, common_steps)
 
@@ -212,7 +216,8 @@ IsPut names name then = (other : List ℕ) → is_identifier other ≡ true
 
 -- whether a row's satellite is among some rows, by their table
 pub named-answer : (names : List Bool) (rows : List ObservationRow) (row : ObservationRow)
-    → AreNamed names rows → is_identifier row.name ≡ true → (is_new : Bool) → is_new ≡ not (has_identifier names row.name)
+    → AreNamed names rows → is_identifier row.name ≡ true → (is_new : Bool)
+    → is_new ≡ not (has_identifier names row.name)
     → has_satellite row.name rows ≡ not is_new
 named-answer names rows row named sound is_new is =
     sym (named row.name sound) ∙ sym (ap not is ∙ not-not (has_identifier names row.name))

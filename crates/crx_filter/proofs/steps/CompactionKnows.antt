@@ -100,7 +100,8 @@ module _ (served : Choices → Type 0) (room : Type 0) (before after : Compactio
   made = made_at before.reader line.content (kept_of before)
 
   abbrev Takes : Result Bool Fault → List (List ℕ) → Type 0
-  Takes result ready = DirectionTakes compaction (λ cs. cs) compaction_state served (compaction_parts before) number
+  Takes result ready =
+      DirectionTakes compaction (λ cs. cs) compaction_state served (compaction_parts before) number
       line room result ready (compaction_parts after) (serves_in after) before.index after.index
       (knows_in before) (knows_in after)
 
@@ -109,11 +110,13 @@ module _ (served : Choices → Type 0) (room : Type 0) (before after : Compactio
       → RefusesRinexLine made before.reader line.content lacks fault → (lacks → room → ⊥)
       → after.reader.types ≡ before.reader.types → after.index ≡ before.index
       → KeepsRooms before.encoder.rooms after.encoder.rooms
-      → ((choices : Choices) → served choices → serves_in after choices ≡ true) → ready ≡ [] → Takes (Err fault) ready
+      → ((choices : Choices) → served choices → serves_in after choices ≡ true) → ready ≡ []
+      → Takes (Err fault) ready
   refused-takes refuses enough typed counted kept serving none =
       grind (arith, common_steps, epochs-kept)
 
-  module _ (short : length line.content ≤ LINE_LIMIT) (kept : KeepsRooms before.encoder.rooms after.encoder.rooms) where
+  module _ (short : length line.content ≤ LINE_LIMIT)
+      (kept : KeepsRooms before.encoder.rooms after.encoder.rooms) where
     noted : (makes : Made Epoch OpenEpoch) → made ≡ makes → ((s : RunState OpenEpoch Written)
         → is_again (step_of_made compaction s (as_read line) makes).answer ≡ false)
         → AddsHeld after.encoder.rooms makes → (choices : Choices) (lines : List InputLine)
@@ -135,11 +138,13 @@ module _ (served : Choices → Type 0) (room : Type 0) (before after : Compactio
     -- it completes no unit
     pub moved-takes : {ready : List (List ℕ)} → MovesReader made before.reader after.reader
         → kept_of after ≡ kept_of before
-        → ((choices : Choices) → served choices → serves_in after choices ≡ true) → ready ≡ [] → Takes (Ok false) ready
+        → ((choices : Choices) → served choices → serves_in after choices ≡ true) → ready ≡ []
+        → Takes (Ok false) ready
     moved-takes moves same serving none = grind (arith, common_steps, noted)
 
     -- it completes a unit
-    unit-takes : (unit : FileUnit Epoch) {ready : List (List ℕ)} → Completed made unit before.reader after.reader
+    unit-takes : (unit : FileUnit Epoch) {ready : List (List ℕ)}
+        → Completed made unit before.reader after.reader
         → AddsHeld after.encoder.rooms (Completes unit) → ((choices : Choices) (number : ℕ) → served choices
         → (ready ≡ compact_written (state_by choices number (compaction_parts before)) unit)
         × (kept_of after ≡ written_kept (state_by choices number (compaction_parts before)) unit))

@@ -1,7 +1,8 @@
 -- From the steps of an engine of either direction to what every engine answers, and to the lines it has
 -- taken.
 use Rattle.crx_filter.proofs
-use proofs.Words.{common_steps, arith, ℕ, ◌≡◌, inl, inr, ◌+◌, true, false, List, [], ◌∷◌, map, length, Some, None}
+use proofs.Words.{common_steps, arith, ℕ, ◌≡◌, inl, inr, ◌+◌, true}
+use proofs.Words.{false, List, [], ◌∷◌, map, length, Some, None}
 use proofs.Words.{Result, Ok, Err, refl, ap, sym, subst, ◌∙◌, append-nil, ◌≤◌, rules, and_parts, reverse}
 use proofs.Words.{InputLine, is_long, ReadLine, Content, Overlong, as_read, At, LINE_LIMIT}
 use proofs.Words.{Choices, step_made, Steps, is_again, fed_once, fed_twice, fed, LookingOn}
@@ -11,11 +12,13 @@ use proofs.Words.{by_bool, Completes, false≢true, answer_of_step, noticed_by, 
 use proofs.Words.{failed_by, Bool}
 use Rattle.std.specs.Prelude.{IfOk}
 use Rattle.crx_filter.specs.DirectionParts.{EngineParts, HasEnough, IsAfterLines, ComesAfter}
-use Rattle.crx_filter.specs.{EngineLaws.{GoesLineByLine, IsLawfulDirection}, EngineLines.HasTaken, EngineSteps.out_of_memory}
+use Rattle.crx_filter.specs.EngineLaws.{GoesLineByLine, IsLawfulDirection}
+use Rattle.crx_filter.specs.{EngineLines.HasTaken, EngineSteps.out_of_memory}
 use Rattle.crx_filter.specs.EngineState.{EngineGoes, KnowsAfter, TakesEnd, TakesLine}
 use Rattle.crx_filter.specs.EngineState.{engine_seen, engine_state, engine_took}
 use Rattle.std.proofs.Common.{append_assoc}
-use Rattle.crx_filter.specs.{Laws.{Fed, is_ready}, LineByLine.{Answer, Failed, state_end_with}, declared.direction.Direction.Ghosts}
+use Rattle.crx_filter.specs.{Laws.{Fed, is_ready}, LineByLine.{Answer, Failed, state_end_with}}
+use Rattle.crx_filter.specs.declared.direction.Direction.{Ghosts}
 use Rattle.crx_runs.specs.Engines.{Awaited, IsAwaited, awaited_notices, EngineAnswers}
 use Rattle.crx_runs.specs.{declared.engine.Step.{Step, TheVariants.Warned}, meaning.Filters.Filter}
 use proofs.Pending.{again-lines, quiet-next, taken-either}
@@ -112,7 +115,8 @@ module _ {U O K : Type 0} {direction : Direction U O K} {closing_after : List In
           let none : ready ≡ [] = quiet-next direction first (as_read line) made s refl in
           let before = (filter.so_far lines).warnings in
           let added = (goes.follows lines line).warnings ∙ ap (λ (f : Fed O K). before ++ reverse f.warned)
-          (fed-again first (as_read line) made s refl) ∙ ap (λ (ws : List At). before ++ ws) (noticed-last second
+          (fed-again first (as_read line) made s refl)
+          ∙ ap (λ (ws : List At). before ++ ws) (noticed-last second
           next) ∙ sym (append_assoc before (next ∷ []) (noticed_by second)) in
           (showing lines _ (rw none at s), refl, (noticed_by second, added))
       first-time result s = fed-answers [] (noticed_by (answer_of_step result)) result
@@ -165,13 +169,15 @@ module _ {U O K : Type 0} {direction : Direction U O K} {closing_after : List In
       elim (taken-either direction state_after_lines before lines notices line taken awaited) as
       (λ _. EngineAnswers filter shows has_ended ready lines notices (Some line) result) [
         | inl h ↦
-            let allows = subst (λ (s : RunState O K). takes_memory direction s (as_read line) ≡ true) h.1 allowed in
+            let allows =
+            subst (λ (s : RunState O K). takes_memory direction s (as_read line) ≡ true) h.1 allowed in
             let same = ap (λ (s : RunState O K). s.number) h.1 ∙ goes.number lines in
             rw (h.0, is) (inl (refl, ap (λ n. n + 1) same, goes.memory_first lines line needed allows))
         | inr h ↦
             let again = comes-again direction (state_after_lines (map as_read lines)) before _ h.0 [] h.2 in
             let same = again.number ∙ goes.number lines in
-            rw (h.1, is) (inl (refl, ap (λ n. n + 1) same, goes.memory_again lines line before h.0 needed h.2 allowed))
+            rw (h.1, is)
+            (inl (refl, ap (λ n. n + 1) same, goes.memory_again lines line before h.0 needed h.2 allowed))
       ]
 
   -- ---- the end of the input

@@ -2,7 +2,8 @@
 use Rattle.crx_filter.proofs.Words
 use Rattle.crx_filter.specs
 use Words.{common_steps, arith, ◌≡◌, ℕ, ◌+◌, Bool, true, false, ◌&&◌, List, [], Option, Some, None, Result}
-use Words.{Ok, Err, Content, Overlong, At, Fault, LineTooLong, OutOfMemory, Count, Choices, RunState, Direction}
+use Words.{Ok, Err, Content, Overlong, At, Fault, LineTooLong}
+use Words.{OutOfMemory, Count, Choices, RunState, Direction}
 use Words.{Rejects, made_in, is_skipped_in, may_skip, is_skippable, failed_step, state_next}
 use Words.{begins_epoch, step_made, is_held, phase_of_stage, Stage, false≢true, InputLine}
 use Words.{ReadLine, Steps, as_read, length, LINE_LIMIT, ◌≤◌, refl}

@@ -48,7 +48,8 @@ pub known-room : (rooms : List (List ℕ × ℕ)) (epochs : List Epoch) → Have
     → (brought : List Satellite) → are_known brought epochs ≡ true → HaveTypesRoom brought rooms
 known-room rooms epochs each brought e = λ k d within.
     let s = get_or brought k d in
-    let passes = AllPass-from_list_all (λ (satellite : Satellite). list_any (has_satellite_for satellite) epochs)
+    let passes =
+    AllPass-from_list_all (λ (satellite : Satellite). list_any (has_satellite_for satellite) epochs)
     brought e k d within in
     found (has_satellite_for s) (λ (epoch : Epoch). HaveTypesRoom (satellites_had epoch) rooms)
     (HasRoom s.name s.count rooms) epochs each passes (λ epoch was has. found (is_satellite_for s)

@@ -8,19 +8,24 @@ use proofs.Words.{tail_of_items, Completes, made_in, RunState, state_next, step_
 use proofs.Words.{false-true, All, All-cons, Phase, LineStep, begins_epoch, past_of_line, Past, kept_in}
 use proofs.Words.{phase_of_stage, is_long, compact_open, phase_of, RawEpoch, Result, Ok, Err, ◌+◌}
 use proofs.Words.{ReadEpoch, Made, is_again, Count, epoch_begun, satellites_of_line, none-some}
-use proofs.{Words.{LINE_LIMIT, Reading, ◌≤◌}, following.{Collecting.{add_made, given-epochs, given-past}, ExpandedOn.phase_by}}
+use proofs.Words.{LINE_LIMIT, Reading, ◌≤◌}
+use proofs.following.{Collecting.{add_made, given-epochs, given-past}, ExpandedOn.phase_by}
 use proofs.following.ExpandedOn.{satellites_expanded, expansion-collects, of_held}
-use proofs.steps.{EngineAnswers.{as-read-short, as-read-within}, EngineFaults.after-error, Enough.{epochs-kept, known-room}, Given.counts-there}
+use proofs.steps.{EngineAnswers.{as-read-short, as-read-within}, EngineFaults.after-error}
+use proofs.steps.{Enough.{epochs-kept, known-room}, Given.counts-there}
 use proofs.steps.{Given.{given-either, types-there}, HeldRows.{all-made, rows-of_types}}
 use proofs.steps.HeldRows.{types-of_rows}
 use Rattle.crx_compact.proofs.{AnnouncedRows.satellites-again, reading.RawTailing.line-left}
 use Rattle.crx_compact.specs.HeldRows.{past_of_tail}
-use Rattle.crx_compact.specs.OpenEpochs.{ColumnsState, HeldEpoch, Idle, Reading as ReadingOn, opened_raw, rows_before}
+use Rattle.crx_compact.specs.OpenEpochs.{ColumnsState, HeldEpoch, Idle}
+use Rattle.crx_compact.specs.OpenEpochs.{Reading as ReadingOn, opened_raw, rows_before}
 use Rattle.crx_compact.specs.OpenEpochs.{tail_for_line, tail_held}
 use Rattle.crx_compact.specs.{Placing.HaveTypesRoom, ReadingRooms.{HaveCellsRoom, HeldColumns}}
-use Rattle.crx_filter.specs.DirectionParts.{DirectionParts, DirectionTakes, ComesAfter, answer_for, brings_nothing}
+use Rattle.crx_filter.specs.DirectionParts.{DirectionParts, DirectionTakes}
+use Rattle.crx_filter.specs.DirectionParts.{ComesAfter, answer_for, brings_nothing}
 use Rattle.crx_filter.specs.{CompactReaders.{ReadsCompactLine, compact_reader_parts}, DirectionParts.state_by}
-use Rattle.crx_filter.specs.{ExpansionParts.expansion_parts, EpochRooms.{HaveEpochsRoom, HaveRoomInColumns, KeepsRoomInColumns}}
+use Rattle.crx_filter.specs.ExpansionParts.{expansion_parts}
+use Rattle.crx_filter.specs.EpochRooms.{HaveEpochsRoom, HaveRoomInColumns, KeepsRoomInColumns}
 use Rattle.crx_filter.specs.EpochRooms.{compact_epochs}
 use Rattle.crx_filter.specs.{EpochRooms.rows_held, Rooms.{HasRoomInExpansion}}
 use Rattle.crx_filter.specs.Rooms.{HasRoomToBegin, may_begin, do_types_count}
@@ -31,7 +36,8 @@ use Rattle.crx_filter.specs.declared.{stage.Stage.{Stage}}
 use Rattle.crx_filter.specs.meaning.Memory.{are_known, are_types_awaited, brought, expansion_outgrows}
 use Rattle.crx_filter.specs.meaning.Memory.{accepted_epochs, satellites_had}
 use Rattle.crx_compact.specs.meaning.CompactPlaces.{BegunEpoch}
-use Rattle.std.{proofs.lemmas.{Bool.{not-false, or_parts}, List.Elements.All-map, Option.same_Some, Simd.map-map}}
+use Rattle.std.proofs.lemmas.{Bool.{not-false, or_parts}, List.Elements.All-map}
+use Rattle.std.proofs.lemmas.{Option.same_Some, Simd.map-map}
 use Rattle.std.{specs.Option.option_map}
 use Rattle.std.specs.Prelude.{IfOk}
 
@@ -52,7 +58,8 @@ found-read choices lines = map-map satellites_had (λ (read : ReadEpoch). read.e
 found-of_epochs : (choices : Choices) (lines : List InputLine) (rooms : List (List ℕ × ℕ))
     → HaveEpochsRoom rooms (compact_epochs choices lines) → HaveRoomAgain rooms (found choices lines)
 found-of_epochs choices lines rooms has = subst (HaveRoomAgain rooms) (found-read choices lines)
-    (All-map (λ (ss : List Satellite). HaveTypesRoom ss rooms) satellites_had (compact_epochs choices lines) has)
+    (All-map (λ (ss : List Satellite). HaveTypesRoom ss rooms) satellites_had
+    (compact_epochs choices lines) has)
 
 epochs-of_found : (choices : Choices) (lines : List InputLine) (rooms : List (List ℕ × ℕ))
     → HaveRoomAgain rooms (found choices lines) → HaveEpochsRoom rooms (compact_epochs choices lines)
@@ -87,7 +94,8 @@ adds-held found columns now line made kept newest each = each
 
 -- its satellites
 abbrev satellites_by : List Count → List ℕ → Option Past → List Satellite
-satellites_by types line past = brought (λ (begun : BegunEpoch). begun.satellites) (epoch_begun types line past)
+satellites_by types line past =
+    brought (λ (begun : BegunEpoch). begun.satellites) (epoch_begun types line past)
 
 -- by what the line is read after
 begins-within : (types : List Count) (past : Option Past) (tail : Option Tail) (line : List ℕ)
@@ -165,7 +173,8 @@ module _ (e : Expansion) (choices : Choices) (lines : List InputLine) (line : In
           → past_of_line raws line.content ≡ past_of_line [] line.content
       anew raws begins = rw begins refl
 
-  pub has-enough : is_long line ≡ false → HaveEpochsRoom e.reader.columns.value.rooms (compact_epochs choices lines)
+  pub has-enough : is_long line ≡ false
+      → HaveEpochsRoom e.reader.columns.value.rooms (compact_epochs choices lines)
       → expansion_outgrows reading (as_read line) ≡ false → HasRoomInExpansion e.reader line.content
   has-enough short held none =
       let is = as-read-short line short in
@@ -177,7 +186,8 @@ module _ (e : Expansion) (choices : Choices) (lines : List InputLine) (line : In
             e.reader.stage _
             (first_lines (map as_read lines)) (phase_of compact_open reading)) counts none);
         epoch = λ may. subst (λ (counts : List Count). HasRoomToBegin counts (tail_held
-            e.reader.columns.value.state) line.content e.reader.columns.value.rooms) (sym (types-there expansion
+            e.reader.columns.value.state) line.content e.reader.columns.value.rooms)
+            (sym (types-there expansion
             expansion_state choices lines line (expansion_parts e) given)) (begins-within
             (types_in_force reading.items) _ (tail_held e.reader.columns.value.state) line.content
             (compact_epochs choices lines) e.reader.columns.value.rooms (past-there is may) held
@@ -186,7 +196,8 @@ module _ (e : Expansion) (choices : Choices) (lines : List InputLine) (line : In
 
   -- what is known then of a line that was taken
   known-if_taken : (after : DirectionParts OpenRawEpoch (Option Tail)) (result : Result Bool Fault)
-      (ready : List (List ℕ)) (columns : HeldColumns) → as_read line ≡ Content line.content → IfOk result (λ b. record {
+      (ready : List (List ℕ)) (columns : HeldColumns) → as_read line ≡ Content line.content
+      → IfOk result (λ b. record {
         answer = answer_for b;
         handed_out = ready;
         next = state_by choices (length lines + 1) after;
@@ -200,7 +211,8 @@ module _ (e : Expansion) (choices : Choices) (lines : List InputLine) (line : In
         epochs-of_found choices (with_next lines line) columns.rooms
             (subst (HaveRoomAgain columns.rooms) (sym (given-epochs expansion of_held expansion_state choices
             (satellites_expanded choices) (expansion-collects choices) lines line (expansion_parts e) given
-            (sym (ap (λ (s : LineStep OpenRawEpoch (Option Tail)). is_again s.answer) taken) ∙ answered-once b)))
+            (sym (ap (λ (s : LineStep OpenRawEpoch (Option Tail)). is_again s.answer) taken)
+            ∙ answered-once b)))
             (adds-held (found choices lines) columns now (as_read line) made
             (sym (ap (λ (s : LineStep OpenRawEpoch (Option Tail)). s.next.kept) taken) ∙ kept) held.1
             (found-of_epochs choices lines columns.rooms held.0))),
@@ -210,7 +222,8 @@ module _ (e : Expansion) (choices : Choices) (lines : List InputLine) (line : In
 -- a reader's answer to a line is that of an expansion
 pub reader-takes : (old new : CompactReader) (block : PendingLines) {served : Choices → Type 0} (number : ℕ)
     (line : InputLine) (result : Result Bool Fault) (ready : List (List ℕ)) → length line.content ≤ LINE_LIMIT
-    → ReadsCompactLine old line.content result ready new → KeepsRoomInColumns old.columns.value new.columns.value
+    → ReadsCompactLine old line.content result ready new
+    → KeepsRoomInColumns old.columns.value new.columns.value
     → DirectionTakes expansion (λ cs. cs) expansion_state served (compact_reader_parts old) number line
     (HasRoomInExpansion old line.content) result ready (compact_reader_parts new) (λ choices. true) 0 0
     (λ choices lines. HaveRoomInColumns old.columns.value (compact_epochs choices lines))
@@ -225,7 +238,8 @@ reader-takes old new block number line result ready short reads kept =
       reads = grind (arith, common_steps, reads.takes);
       serving = λ choices served. refl;
       counts = grind (arith, common_steps);
-      notes = λ choices lines given known counted. known-if_taken (expansion_of old block) choices lines line given
+      notes = λ choices lines given known counted.
+          known-if_taken (expansion_of old block) choices lines line given
           (compact_reader_parts new) result ready new.columns.value
           (as-read-within line line.content short refl) (reads.takes choices (length lines) tt) refl
           (later (compact_epochs choices lines) known);

@@ -15,7 +15,8 @@ use Rattle.crx_compact.specs.Placing.{HasRoom, HaveTypesRoom, KeepsRooms, satell
 use Rattle.crx_compact.specs.ReadingRooms.{HaveCellsRoom, HeldColumns}
 use Rattle.crx_compact.specs.{Tails.RowTail, meaning.{Cells.ReadCell}}
 use Rattle.crx_compact.specs.meaning.CompactPlaces.{clock_line_read}
-use Rattle.{crx_filter.specs.EpochRooms.{HaveHeldRoom, rows_held}, crx_text.proofs.EachPlace.length-each_place}
+use Rattle.crx_filter.specs.EpochRooms.{HaveHeldRoom, rows_held}
+use Rattle.crx_text.proofs.EachPlace.{length-each_place}
 use Rattle.std.{proofs.lemmas.List.Elements.{All-map}, specs.Prelude.{⊤, slice_get}}
 
 -- ---- rows as satellites
@@ -88,12 +89,14 @@ step-satellites begun line = by_clock begun.clock
 -- ---- after a line
 
 step-held : (satellites : List Satellite) (rooms : List (List ℕ × ℕ)) (step : RawStep)
-    → StepHas satellites step → HaveTypesRoom satellites rooms → HaveCellsRoom (rows_held (state_after step)) rooms
+    → StepHas satellites step → HaveTypesRoom satellites rooms
+    → HaveCellsRoom (rows_held (state_after step)) rooms
 step-held satellites rooms (Going begun) same has = grind (arith, common_steps, rows-of_types)
 step-held satellites rooms (Whole held) same has = grind (arith, common_steps, rows-of_types)
 step-held satellites rooms (Faulty fault) same has = grind (arith, common_steps)
 
-held-on : (state : ColumnsState) (line : List ℕ) (rooms : List (List ℕ × ℕ)) → HaveCellsRoom (rows_held state) rooms
+held-on : (state : ColumnsState) (line : List ℕ) (rooms : List (List ℕ × ℕ))
+    → HaveCellsRoom (rows_held state) rooms
     → HaveCellsRoom (rows_held (state_after (step_in state (Content line)))) rooms
 held-on (Idle tail) line rooms has = All-nil (λ (row : RowTail). HasRoom row.name (length row.cells) rooms)
 held-on (Reading begun) line rooms has = step-held (map satellite_of_tail begun.rows) rooms

@@ -1,11 +1,14 @@
 -- How many lines have been taken after a step, and where lines are borrowed.
-use Rattle.crx_filter.proofs.Words.{common_steps, arith, ◌≡◌, inl, inr, ℕ, false, List, [], Result, Some, length}
-use Rattle.crx_filter.proofs.Words.{length-append, InputLine, ReadLine, At, Choices, Direction, RunState, Made, ap}
+use Rattle.crx_filter.proofs.Words.{common_steps, arith, ◌≡◌, inl, inr, ℕ}
+use Rattle.crx_filter.proofs.Words.{false, List, [], Result, Some, length}
+use Rattle.crx_filter.proofs.Words.{length-append, InputLine, ReadLine, At}
+use Rattle.crx_filter.proofs.Words.{Choices, Direction, RunState, Made, ap}
 use Rattle.crx_filter.proofs.Words.{made_in}
 use Rattle.crx_filter.proofs.{Words.{Steps, answer_of_step, step_made, step_of_made}, Pending.{quiet-next}}
 use Rattle.crx_filter.specs.{Laws.is_ready, LineByLine.state_end_with}
 use Rattle.crx_runs.specs.Engines.{Awaited, EngineAnswers, HasStepped, taken_after, IsDrainedAfter}
-use Rattle.{crx_runs.specs.{declared.engine.Step.Step, meaning.Filters.Filter}, std.proofs.Common.{IfOk, OnErr}}
+use Rattle.crx_runs.specs.{declared.engine.Step.Step, meaning.Filters.Filter}
+use Rattle.std.proofs.Common.{IfOk, OnErr}
 
 -- only where the answer is that lines are ready are some borrowed
 drained-where : (ready : List (List ℕ)) (result : Result Step At) → (is_ready (answer_of_step result) ≡ false

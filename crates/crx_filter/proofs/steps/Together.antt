@@ -109,7 +109,8 @@ module _ (before mid : RinexReader) (encoder new : EncoderState) (line : List �
   pub row-lost : (after : RinexReader) → KeepsRooms encoder.rooms new.rooms
       → new ≡ record (forgotten encoder []) { rooms = new.rooms } → after.types
       ≡ mid.types → is_open_stage after.stage ≡ false → ((kept : Written) → RefusesRinexLine (made_at before
-      line kept) before line (HasRoomForRow before.types line encoder.rooms → ⊥) OutOfMemory) → HasRefusedRow before encoder line OutOfMemory after new
+      line kept) before line (HasRoomForRow before.types line encoder.rooms → ⊥) OutOfMemory)
+      → HasRefusedRow before encoder line OutOfMemory after new
   row-lost after kept is typed closed refuses =
       grind (arith, common_steps, closed-together, forgotten, served-closed)
 

@@ -25,7 +25,8 @@ more-begin : (lines more : List (List ℕ)) → BeginWithMark lines → BeginWit
 more-begin [] more h = absurd h
 more-begin (line ∷ others) more h = h
 
-pub units-begin : (block units : List (FileUnit Epoch)) (unit : FileUnit Epoch) (lines : List (List ℕ)) (now : Option WrittenEpoch)
+pub units-begin : (block units : List (FileUnit Epoch)) (unit : FileUnit Epoch) (lines : List (List ℕ))
+    (now : Option WrittenEpoch)
     → AreInPlace (as_items (unit ∷ (units ++ block))) → header_has_ended (as_items block) ≡ true
     → records_left (as_items block) ≡ 0 → AreLinesOn block None (unit ∷ units) lines now → BeginWithMark lines
 units-begin block [] unit lines now h header left k = grind (arith, common_steps, and_parts)
@@ -34,7 +35,8 @@ units-begin block (next ∷ units) unit lines now h header left k =
 
 -- ---- the reading
 
-pub record AreKeptRead (block kept : List (FileUnit Epoch)) (items : List (Item ReadEpoch)) (before r : Reading ReadEpoch)
+pub record AreKeptRead (block kept : List (FileUnit Epoch)) (items : List (Item ReadEpoch))
+    (before r : Reading ReadEpoch)
     : Type 0 where
   pub warnings : List At
   pub few : length warnings + pending r.stop ≤ pending before.stop
@@ -50,11 +52,13 @@ pub record CanGoOnAs (block : List (FileUnit Epoch)) (items : List (Item ReadEpo
   pub between : IsBetweenUnits items
   pub types : types_in_force items ≡ types_in_force (as_items block)
 
-pub like-block : (block : List (FileUnit Epoch)) (items : List (Item ReadEpoch)) → CanGoOnAs block items → IsLike items block
+pub like-block : (block : List (FileUnit Epoch)) (items : List (Item ReadEpoch)) → CanGoOnAs block items
+    → IsLike items block
 like-block block items h = grind (arith, common_steps, started)
 
 pub units-kept : (block kept : List (FileUnit Epoch)) (lines : List (List ℕ)) (last : Option WrittenEpoch)
-    (items : List (Item ReadEpoch)) (so_far : List ReadLine) → CanGoOnAs block items → AreInPlace (as_items (kept ++ block))
+    (items : List (Item ReadEpoch)) (so_far : List ReadLine) → CanGoOnAs block items
+    → AreInPlace (as_items (kept ++ block))
     → AreLinesOn block None kept lines last → IsOpen items (reading_from compact_place true [] 3 so_far)
     → AreKeptRead block kept items (reading_from compact_place true [] 3 so_far)
     (reading_from compact_place true [] 3 (so_far ++ map Content lines))
@@ -74,12 +78,14 @@ units-kept block (unit ∷ kept) lines last items so_far h placed k stops =
     r = reading_from compact_place true [] 3 so_far
 
     by_first : (ls : List (List ℕ)) → AreLinesOn block None (unit ∷ kept) ls last → BeginWithMark ls
-        → AreKeptRead block (unit ∷ kept) items r (reading_from compact_place true [] 3 (so_far ++ map Content ls))
+        → AreKeptRead block (unit ∷ kept) items r
+        (reading_from compact_place true [] 3 (so_far ++ map Content ls))
     by_first [] k begins = absurd begins
     by_first (line ∷ others) k begins =
         let at = open-continued items r line (map Content others) h.between stops begins in
         let x : List (Item ReadEpoch) = with_warnings at.warnings items in
-        let o : AreReadOn true x at.number block (unit ∷ kept) (line ∷ others) last = read-on true x at.number block
+        let o : AreReadOn true x at.number block (unit ∷ kept) (line ∷ others) last =
+        read-on true x at.number block
         (unit ∷ kept) (line ∷ others) None last (like-block block x (record {
           header = h.header;
           left = h.left;
@@ -88,12 +94,14 @@ units-kept block (unit ∷ kept) lines last items so_far h placed k stops =
         })) (none-left (tail_left (raws_kept x))) placed k in
         let reads : reading_from compact_place true [] 3 (so_far ++ map Content (line ∷ others))
         ≡ record { items = o.more ++ x; stop = AtLines (at.number + length (line ∷ others)) [] } =
-        resumed compact_place compact-forward true [] 3 so_far (map Content (line ∷ others)) ∙ at.same ∙ o.reads in
+        resumed compact_place compact-forward true [] 3 so_far (map Content (line ∷ others))
+        ∙ at.same ∙ o.reads in
         record {
           warnings = at.warnings;
           few = rw reads (omega (arith, at.few));
           more = o.more;
           known = o.known;
           like = o.like;
-          stops = inl (at.number + length (line ∷ others), [], refl, compact-forward.wants (o.more ++ x), reads);
+          stops =
+              inl (at.number + length (line ∷ others), [], refl, compact-forward.wants (o.more ++ x), reads);
         }

@@ -15,7 +15,8 @@ use Rattle.crx_filter.specs.OwnStretches.{up_to_own_next, with_own, own_text}
 use Rattle.crx_filter.specs.OwnStretches.{may_come_instead, AreOwnStretches, HasOwnStretches, SavesOwn}
 use Rattle.crx_filter.specs.OwnStretches.{KeepsOwnRest, BeginsWithOwn}
 use proofs.anywriter.{AnyText.first-units}
-use proofs.anywriter.{OwnText.{units-append, units-printed, state_after, state_on, own-on, own-cut, own-lines, whole-items}}
+use proofs.anywriter.OwnText.{units-append, units-printed, state_after}
+use proofs.anywriter.OwnText.{state_on, own-on, own-cut, own-lines, whole-items}
 use proofs.damage.{ItemTexts.rest-in_place, TextAfter.begins-rest}
 use proofs.stretches.StretchesCut.{AreGood, good-before, good-up_to, as_stretch, as_stretches, stretches-cut}
 use proofs.stretches.StretchesSaved.{rest-kept}
@@ -39,8 +40,10 @@ file-whole file choices h = whole-items (read_of_file file choices).items (file-
 
 -- ---- text that begins with the lines of its first units
 
-abbrev pub begins-own : (choices : Choices) (before : List (Item Epoch)) (more : List ℕ) → is_date choices.date ≡ true → AreGood before
-    → is_at_start before ≡ false → BeginsWithUnits (units_in before) (lines_text (compact_lines choices before) ++ more)
+abbrev pub begins-own : (choices : Choices) (before : List (Item Epoch)) (more : List ℕ)
+    → is_date choices.date ≡ true → AreGood before
+    → is_at_start before ≡ false
+    → BeginsWithUnits (units_in before) (lines_text (compact_lines choices before) ++ more)
 begins-own choices before more dated h begun = record {
   version = version_line;
   program = program_line choices.date;
@@ -53,7 +56,8 @@ begins-own choices before more dated h begun = record {
   written = own-lines choices before h.in_place;
 }
 
-pub units-before : (later before : List (FileUnit Epoch)) → AreUnitsInPlace (later ++ before) → AreUnitsInPlace before
+pub units-before : (later before : List (FileUnit Epoch)) → AreUnitsInPlace (later ++ before)
+    → AreUnitsInPlace before
 units-before [] before h = h
 units-before (unit ∷ later) before h = units-before later before h.1
 
@@ -63,7 +67,8 @@ pub whole-first : (file : List ℕ) (choices expanding : Choices) (text : List �
 whole-first file choices expanding text dated h = by_units h.before
     (good-before h.after h.before (rw (← h.parts) (file-good file choices h.file_good)))
     (units-before (units_in h.after) (units_in h.before) (subst AreUnitsInPlace
-    (ap units_in h.parts ∙ units-append h.after h.before) (file-whole file choices h.file_good).in_place)) h.text_is
+    (ap units_in h.parts ∙ units-append h.after h.before) (file-whole file choices h.file_good).in_place))
+    h.text_is
   where
     by_units : (before : List (Item Epoch)) → AreGood before → AreUnitsInPlace (units_in before)
         → text ≡ lines_text (compact_lines choices before) ++ h.more
@@ -72,7 +77,8 @@ whole-first file choices expanding text dated h = by_units h.before
     by_units (item ∷ before) good placed e =
         subst (λ ls. Begins (expanded text expanding).output (lines_text ls)) (units-printed (item ∷ before))
         (first-units (units_in (item ∷ before)) text expanding placed
-        (subst (BeginsWithUnits (units_in (item ∷ before))) (sym e) (begins-own choices (item ∷ before) h.more dated good refl)))
+        (subst (BeginsWithUnits (units_in (item ∷ before))) (sym e)
+        (begins-own choices (item ∷ before) h.more dated good refl)))
 
 -- ---- its stretches
 
@@ -98,7 +104,8 @@ next-closed choices next (s ∷ later) h closed = (h.0).between
 -- the units up to the next stretch, as those of a text
 units-next : (before : List (Item Epoch)) (s : OwnStretch)
     → units_in (up_to_own_next before s) ≡ units_in s.kept ++ (units_in s.lost ++ units_in before)
-units-next before s = units-append s.kept (up_to_own_end before s) ∙ ap (λ us. units_in s.kept ++ us) (units-append s.lost before)
+units-next before s = units-append s.kept (up_to_own_end before s)
+    ∙ ap (λ us. units_in s.kept ++ us) (units-append s.lost before)
 
 one-stretch : (choices : Choices) (before : List (Item Epoch)) (s : OwnStretch) (later : List OwnStretch)
     → AreOwnStretches choices before (s ∷ later) → AreInPlace (up_to_own_next before s)
@@ -135,8 +142,10 @@ own-as choices before (s ∷ later) h good closed =
 
 -- ---- what is saved of it
 
-saves-own : (every : Option ℕ) (before : List (Item Epoch)) (stretches : List OwnStretch) (lines : List (List ℕ))
-    → AreGood (with_own before stretches) → Saves (units_in before) (as_stretches every before stretches) lines
+saves-own : (every : Option ℕ) (before : List (Item Epoch)) (stretches : List OwnStretch)
+    (lines : List (List ℕ))
+    → AreGood (with_own before stretches)
+    → Saves (units_in before) (as_stretches every before stretches) lines
     → SavesOwn before stretches lines
 saves-own every before [] lines good h = h
 saves-own every before (s ∷ later) lines good h = (
@@ -180,7 +189,8 @@ pub own-rest : (file : List ℕ) (choices expanding : Choices) (damaged : List �
     → is_date choices.date ≡ true → expanding.skip ≡ true → (d : HasOwnStretches file choices damaged)
     → KeepsOwnRest file choices damaged d (expanded damaged expanding)
 own-rest file choices expanding damaged dated skips d =
-    let k = rest-kept (units_in d.before) (stretches_of_own file choices damaged dated d) (text_of_own file choices damaged dated d)
+    let k = rest-kept (units_in d.before) (stretches_of_own file choices damaged dated d)
+    (text_of_own file choices damaged dated d)
     expanding skips (own-damage file choices damaged dated d) in
     let same = ap (λ t. expanded t expanding) d.text in
     grind (

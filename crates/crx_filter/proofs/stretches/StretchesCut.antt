@@ -8,8 +8,10 @@ use Words.{header_has_ended, lines_after, OfCopiedLines, HaveNoReturns, AreInPla
 use Rattle.crx_filter.proofs.damage.{ItemTexts.{rest-in_place, text-parts}, DamagedText.each-ended}
 use Rattle.crx_filter.proofs.damage.{DamagedText.{lines-append, front-cut}, TextAfter.{lines_on, written-on}}
 use Rattle.crx_filter.proofs.reading.Each.{header-append, all-parts}
-use Rattle.crx_filter.proofs.wayback.{Cut.{IsClean, CanStand}, Reading.lines_back, Units.units_in, WayBack.lines-clean}
-use Rattle.crx_filter.specs.{meaning.Stretches.stretches_lines, OwnStretches.{OwnStretch, up_to_own_end, up_to_own_next}}
+use Rattle.crx_filter.proofs.wayback.{Cut.{IsClean, CanStand}, Reading.lines_back}
+use Rattle.crx_filter.proofs.wayback.{Units.units_in, WayBack.lines-clean}
+use Rattle.crx_filter.specs.meaning.Stretches.{stretches_lines}
+use Rattle.crx_filter.specs.OwnStretches.{OwnStretch, up_to_own_end, up_to_own_next}
 use Rattle.crx_filter.specs.OwnStretches.{with_own, own_text, AreOwnStretches}
 
 -- ---- the units of a file, and those before some of them
@@ -58,7 +60,8 @@ as_stretch every before s = record {
 
 abbrev pub as_stretches : Option ℕ → List (Item Epoch) → List OwnStretch → List Stretch
 as_stretches every before [] = []
-as_stretches every before (s ∷ later) = as_stretch every before s ∷ as_stretches every (up_to_own_next before s) later
+as_stretches every before (s ∷ later) =
+    as_stretch every before s ∷ as_stretches every (up_to_own_next before s) later
 
 -- ---- the lines of the text
 

@@ -8,7 +8,8 @@ use proofs.Words.{expanded_lines, AreInPlace, Stretch, up_to_end, up_to_next, wi
 use proofs.Words.{AreStretches, common_steps}
 use Rattle.crx_filter.specs.meaning.{Stretches.{Saves, stretches_lines}, UnitsAndText.as_items}
 use proofs.Words.{map-append}
-use proofs.damage.{ItemTexts.rest-in_place, GoingOn.with_warnings, SavedText.{lines-append, lines-warned, epochs_of}}
+use proofs.damage.{ItemTexts.rest-in_place, GoingOn.with_warnings}
+use proofs.damage.SavedText.{lines-append, lines-warned, epochs_of}
 use proofs.{reading.Each.{all-append, header-append}, stretches.KeptUnits.{AreKeptRead, units-kept}}
 use proofs.stretches.OpenReading.{AreEpochs, IsOpen, IsStretchRead, stretch-more}
 use proofs.stretches.OpenReading.{epochs-types}
@@ -18,15 +19,19 @@ use proofs.wayback.{ExpandedStandard.printed-read, ExpandedWhole.AreGoodEpochs}
 
 pub header-on : (units block : List (FileUnit Epoch)) → header_has_ended (as_items block) ≡ true
     → header_has_ended (as_items (units ++ block)) ≡ true
-header-on units block h = rw (map-append Accepted units block) (header-append (as_items units) (as_items block) h)
+header-on units block h =
+    rw (map-append Accepted units block) (header-append (as_items units) (as_items block) h)
 
-pub rest-placed : (units block : List (FileUnit Epoch)) → AreInPlace (as_items (units ++ block)) → AreInPlace (as_items block)
-rest-placed units block h = rest-in_place (as_items units) (as_items block) (rw (map-append Accepted units block) at h)
+pub rest-placed : (units block : List (FileUnit Epoch)) → AreInPlace (as_items (units ++ block))
+    → AreInPlace (as_items block)
+rest-placed units block h =
+    rest-in_place (as_items units) (as_items block) (rw (map-append Accepted units block) at h)
 
 -- ---- where a reading is
 
 -- these lines were read as these items, which leave the same state as these units
-pub record WereReadAs (so_far : List ReadLine) (items : List (Item ReadEpoch)) (before : List (FileUnit Epoch)) : Type 0 where
+pub record WereReadAs (so_far : List ReadLine) (items : List (Item ReadEpoch))
+    (before : List (FileUnit Epoch)) : Type 0 where
   pub stops : IsOpen items (reading_from compact_place true [] 3 so_far)
   pub between : IsBetweenUnits items
   pub types : types_in_force items ≡ types_in_force (as_items before)
@@ -43,7 +48,8 @@ pub placed-up_to : (before : List (FileUnit Epoch)) (stretches : List Stretch)
     → AreInPlace (as_items (with_stretches before stretches)) → AreInPlace (as_items before)
 placed-up_to before [] h = h
 placed-up_to before (s ∷ later) h =
-    rest-placed s.lost before (rest-placed s.kept (up_to_end before s) (placed-up_to (up_to_next before s) later h))
+    rest-placed s.lost before
+    (rest-placed s.kept (up_to_end before s) (placed-up_to (up_to_next before s) later h))
 
 -- the units up to the next stretch, or the end, are whole
 pub next-closed : (next : List (FileUnit Epoch)) (later : List Stretch) → AreSound next later
@@ -51,14 +57,16 @@ pub next-closed : (next : List (FileUnit Epoch)) (later : List Stretch) → AreS
 next-closed next [] sound = sound.closed
 next-closed next (s ∷ later) sound = IsStretch.begins (sound.each).0
 
-sound-later : (before : List (FileUnit Epoch)) (s : Stretch) (later : List Stretch) → AreSound before (s ∷ later)
+sound-later : (before : List (FileUnit Epoch)) (s : Stretch) (later : List Stretch)
+    → AreSound before (s ∷ later)
     → AreSound (up_to_next before s) later
 sound-later before s later sound = grind (arith, common_steps, header-on)
 
 -- ---- one stretch
 
 -- what is read of its lines, and then of those that are kept
-pub record IsStepRead (before : List (FileUnit Epoch)) (s : Stretch) (so_far : List ReadLine) (items : List (Item ReadEpoch))
+pub record IsStepRead (before : List (FileUnit Epoch)) (s : Stretch) (so_far : List ReadLine)
+    (items : List (Item ReadEpoch))
     : Type 0 where
   pub first : IsStretchRead items (reading_from compact_place true [] 3 (so_far ++ s.instead))
   pub kept : AreKeptRead (up_to_end before s) s.kept (first.news ++ items)
@@ -67,7 +75,8 @@ pub record IsStepRead (before : List (FileUnit Epoch)) (s : Stretch) (so_far : L
   pub come : WereReadAs ((so_far ++ s.instead) ++ map Content s.lines)
       ((kept.more ++ with_warnings kept.warnings first.news) ++ items) (up_to_next before s)
 
-pub one-stretch : (before : List (FileUnit Epoch)) (s : Stretch) (later : List Stretch) (so_far : List ReadLine)
+pub one-stretch : (before : List (FileUnit Epoch)) (s : Stretch) (later : List Stretch)
+    (so_far : List ReadLine)
     (items : List (Item ReadEpoch)) → AreSound before (s ∷ later) → WereReadAs so_far items before
     → IsStepRead before s so_far items
 one-stretch before s later so_far items sound come =
@@ -118,7 +127,8 @@ news-whole (Accepted (Observation read) ∷ news) items h good = all-append _ _ 
 news-whole (Warned at ∷ news) items h good = news-whole news items h good
 news-whole (Accepted unit ∷ news) items h good = absurd h
 
-module _ (before : List (FileUnit Epoch)) (s : Stretch) (so_far : List ReadLine) (items : List (Item ReadEpoch))
+module _ (before : List (FileUnit Epoch)) (s : Stretch) (so_far : List ReadLine)
+    (items : List (Item ReadEpoch))
     (one : IsStepRead before s so_far items) where
   pub step-printed : expanded_lines (one.kept.more ++ with_warnings one.kept.warnings one.first.news)
       ≡ flat_map printed_epoch (epochs_of one.first.news) ++ printed_items (as_items s.kept)
@@ -131,10 +141,12 @@ module _ (before : List (FileUnit Epoch)) (s : Stretch) (so_far : List ReadLine)
 
 -- ---- all stretches
 
-pub record AreStretchesRead (before : List (FileUnit Epoch)) (stretches : List Stretch) (so_far : List ReadLine)
+pub record AreStretchesRead (before : List (FileUnit Epoch)) (stretches : List Stretch)
+    (so_far : List ReadLine)
     (items : List (Item ReadEpoch)) : Type 0 where
   pub more : List (Item ReadEpoch)
-  pub come : WereReadAs (so_far ++ stretches_lines stretches) (more ++ items) (with_stretches before stretches)
+  pub come : WereReadAs (so_far ++ stretches_lines stretches) (more ++ items)
+      (with_stretches before stretches)
   pub saves : AreGoodEpochs (more ++ items) → Saves before stretches (expanded_lines more)
 
 pub stretches-read : (before : List (FileUnit Epoch)) (stretches : List Stretch) (so_far : List ReadLine)
@@ -148,9 +160,11 @@ stretches-read before [] so_far items sound come = record {
 stretches-read before (s ∷ later) so_far items sound come =
     let one = one-stretch before s later so_far items sound come in
     let own : List (Item ReadEpoch) = one.kept.more ++ with_warnings one.kept.warnings one.first.news in
-    let rest = stretches-read (up_to_next before s) later ((so_far ++ s.instead) ++ map Content s.lines) (own ++ items)
+    let rest = stretches-read (up_to_next before s) later
+    ((so_far ++ s.instead) ++ map Content s.lines) (own ++ items)
     (sound-later before s later sound) one.come in
-    let lines : ((so_far ++ s.instead) ++ map Content s.lines) ++ stretches_lines later ≡ so_far ++ stretches_lines (s ∷ later) =
+    let lines : ((so_far ++ s.instead) ++ map Content s.lines) ++ stretches_lines later
+    ≡ so_far ++ stretches_lines (s ∷ later) =
     simp append_assoc in
     record {
       more = rest.more ++ own;

@@ -92,7 +92,8 @@ pub written-all : (P Q : List ℕ → Type 0) (lines_of_unit : List (Item Epoch)
     → OfCopiedLine Q unit → AllByRecursion P (lines_of_unit before unit)) → (items : List (Item Epoch))
     → AreInPlace items → OfCopiedLines Q items → AllByRecursion P (written_lines lines_of_unit items)
 written-all P Q lines each [] h k = tt
-written-all P Q lines each (Accepted unit ∷ before) h k = all-append P (written_lines lines before) (lines before unit)
+written-all P Q lines each (Accepted unit ∷ before) h k =
+    all-append P (written_lines lines before) (lines before unit)
     (written-all P Q lines each before h.1 k.1) (each before unit h k.0)
 written-all P Q lines each (Warned at ∷ before) h k = written-all P Q lines each before h.1 k
 

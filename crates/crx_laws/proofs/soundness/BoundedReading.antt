@@ -136,7 +136,8 @@ row-read row line read h facts =
       cells = each_place-all (λ (c : Option ArcTail). IfSome c (IsBoundedArc ORDER_LIMIT)) (length codes) cell
           (λ place. arc-read (slice_index_or codes place Missing) (slice_index_or row.cells place None)
           (all-index HasOrder Missing codes place tt (cells-ordered ((past_of_row row.cells row.flags).value
-          row.name) texts facts.cells facts.are_read)) (all-index IsBoundedCell None row.cells place tt h.cells));
+          row.name) texts facts.cells facts.are_read))
+          (all-index IsBoundedCell None row.cells place tt h.cells));
     })
 
 all-there : {X : Type 0} (P : X → Type 0) (xs : List X) (place : ℕ) (x : X)

@@ -4,7 +4,8 @@ use Rattle.crx_compact.proofs.arc.go_on_near.Goals as goal
 
 pub returns-clause-after : goal.returns-clause-after
 returns-clause-after c =
-    near-after c.args.order c.args.value c.args.differences.now c.put_four.new.differences _ _ _ refl refl refl
+    near-after c.args.order c.args.value c.args.differences.now c.put_four.new.differences
+    _ _ _ refl refl refl
     (simp (same-bits, c.ranges.value) at c.put_four.ensures) c.requires.few (search rules) c.requires.next
     c.requires.below
 

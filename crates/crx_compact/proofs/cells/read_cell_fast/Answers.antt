@@ -1,4 +1,5 @@
-use Rattle.std.proofs.Common.{to_z, of_z, rules, w64, OnSome, arith, ◌≡◌, ◌+◌, ◌≤◌, ◌∙◌, Bool, true, false, cond, ltb}
+use Rattle.std.proofs.Common.{to_z, of_z, rules, w64, OnSome, arith, ◌≡◌}
+use Rattle.std.proofs.Common.{◌+◌, ◌≤◌, ◌∙◌, Bool, true, false, cond, ltb}
 use Rattle.std.proofs.Common.{ℕ, List, [], ◌∷◌, ap, sym, refl, drop, length}
 use Rattle.std.proofs.lemmas.Int.{to_z-of_z}
 use Rattle.std.proofs.lemmas.List.{set-get_or}

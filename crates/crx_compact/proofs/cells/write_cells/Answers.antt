@@ -1,4 +1,5 @@
-use Rattle.crx_compact.proofs.Words.{◌≡◌, ◌≤◌, ◌<◌, ◌∙◌, sym, ap, [], slice_set, drop, take_all, refl, List, Option, None, ℕ, get_or, arith, length, take}
+use Rattle.crx_compact.proofs.Words.{◌≡◌, ◌≤◌, ◌<◌, ◌∙◌, sym, ap, [], slice_set, drop, take_all}
+use Rattle.crx_compact.proofs.Words.{refl, List, Option, None, ℕ, get_or, arith, length, take}
 use Rattle.crx_compact.proofs.Words.{length-set, take_more_set, ArcTail, common_steps, take_at}
 use Rattle.crx_compact.proofs.CellsFor.{cell-there, blanks-put, missing-arcs, missing-codes, same-cells}
 use Rattle.crx_compact.proofs.Words.{length-take-le, ◌+◌, ◌-◌, length-each_place}

@@ -1,6 +1,7 @@
 use Rattle.crx_compact.proofs.Words.{◌≡◌, ◌≤◌, ◌+◌, ◌*◌, ◌++◌, drop, length, take, each_place, flat_map}
 use Rattle.crx_compact.proofs.Words.{cell_text}
-use Rattle.crx_compact.specs.{declared.cells.TheConstants.CELL_ROOM, Arcs.whole_arcs, Cells.{arc_at_place, code_at_place}}
+use Rattle.crx_compact.specs.declared.cells.TheConstants.{CELL_ROOM}
+use Rattle.crx_compact.specs.{Arcs.whole_arcs, Cells.{arc_at_place, code_at_place}}
 use Rattle.crx_compact.proofs.cells.write_cells.Given as goal
 
 -- the arcs from the place on are still the first ones

@@ -12,7 +12,8 @@ returns-clause-written c =
     get_or_default c.args.far.now c.args.index [] c.index-far-index.result c.requires.within
     ∙ sym c.index-far-index.is in
     let new = get_or-set_same c.args.far.now c.args.index c.push-code.new.far [] c.requires.within in
-    rw (old, new) (search (rules, c.write_cell.ensures.within, code_text_length, c.push-code.ensures.printable))
+    rw (old, new)
+    (search (rules, c.write_cell.ensures.within, code_text_length, c.push-code.ensures.printable))
 
 pub returns-clause-others : goal.returns-clause-others
 returns-clause-others c = search rules

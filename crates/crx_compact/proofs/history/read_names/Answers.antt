@@ -7,7 +7,8 @@ use Rattle.crx_compact.proofs.{Words.{padded_among, RowTail}}
 use Rattle.crx_compact.proofs.placing.SteppedRows.{IsLastStored, come-stored, last-within}
 use Rattle.std.proofs.lemmas.List.{Elements.All-push}
 use Rattle.crx_compact.proofs.Naming.{named-bad, named-twice, named-more, named-all, next-name}
-use Rattle.crx_compact.proofs.{NamesCome.{HasNameCome, among-rows, awaited-one, name-comes, refused-by, unasked}}
+use Rattle.crx_compact.proofs.NamesCome.{HasNameCome, among-rows, awaited-one}
+use Rattle.crx_compact.proofs.NamesCome.{name-comes, refused-by, unasked}
 use Rattle.crx_text.proofs.EachPlace.{drop_all-each_place}
 use Rattle.crx_compact.specs.Placing.{HasCome, IsPlaced}
 use Rattle.crx_compact.proofs.{Results.from_some, placing.Placed.placed-asked}

@@ -59,7 +59,8 @@ loop-index-preserved c =
     let text = c.args.text.now in
     let index = c.loop-index.index in
     let satellite : Satellite = record { name = name; count = c.in-Some.field-0 } in
-    let fresh : is_among (λ (n : List ℕ). n) name (names_in text index) ≡ false = elim c.if-marks-mark.branch [
+    let fresh : is_among (λ (n : List ℕ). n) name (names_in text index) ≡ false =
+    elim c.if-marks-mark.branch [
       | then-marks-mark+else-loop-before-test w ↦
           subst (λ n. is_among (λ (n : List ℕ). n) name (names_in text n) ≡ false) (omega arith)
           w.loop-before.invariant

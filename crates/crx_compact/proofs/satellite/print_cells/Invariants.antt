@@ -6,7 +6,8 @@ use Rattle.crx_compact.proofs.satellite.print_cells.Given as goal
 abbrev pub invariant-loop-pair : goal.invariant-loop-pair
 invariant-loop-pair l = record {
   cells : (far : List (List ℤ)) (count : ℕ) → length l.flags ≡ 2 * count → length l.arcs ≤ count
-      → AreFirstPrinted (2 * l.pair) count (map shown_value (cells_for count (whole_arcs l.arcs far))) l.flags l.at
+      → AreFirstPrinted (2 * l.pair) count
+      (map shown_value (cells_for count (whole_arcs l.arcs far))) l.flags l.at
       l.initial.bytes l.bytes;
   long : length l.bytes ≡ length l.initial.bytes;
 }

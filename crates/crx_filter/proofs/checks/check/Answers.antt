@@ -1,4 +1,5 @@
-use Rattle.crx_filter.proofs.Words.{◌≡◌, common_steps, arith, check_filter, checked, Device, At, None, Some, ap}
+use Rattle.crx_filter.proofs.Words.{◌≡◌, common_steps, arith, check_filter}
+use Rattle.crx_filter.proofs.Words.{checked, Device, At, None, Some, ap}
 use Rattle.crx_filter.proofs.Words.{◌∙◌, true≢false}
 use Rattle.crx_filter.proofs.{Kept.{kept, judges-standard}, following.CheckLawful.{check-lawful, run-judged}}
 use Rattle.crx_filter.{proofs.standard.Lossless.says-so, specs.meaning.Standard.report_status}

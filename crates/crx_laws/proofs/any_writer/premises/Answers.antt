@@ -5,7 +5,8 @@ use Rattle.crx_text.specs.meaning.Codes.{coded_number}
 use Rattle.crx_compact.specs.meaning.AnyWriter.{Arc, IsRowLine, AreEpochLines}
 use Rattle.crx_filter.specs.meaning.CompactText.{IsCompactTextOf}
 use Rattle.crx_filter.proofs.anywriter.OwnText.{whole-file}
-use Rattle.crx_laws.specs.WildText.{wild_units, wild_text, body, first_line, second_line, lines_before, second_lines, third_lines, event, comment}
+use Rattle.crx_laws.specs.WildText.{wild_units, wild_text, body, first_line, second_line}
+use Rattle.crx_laws.specs.WildText.{lines_before, second_lines, third_lines, event, comment}
 use Rattle.crx_laws.proofs.Wild.{make-file, arc_one, row-is, row_with, epoch_with, lines-before}
 use Rattle.crx_laws.proofs.any_writer.premises.Goals as goal
 
@@ -25,10 +26,18 @@ unfolding coded_number digits
 third-row = row-is (Some (row_with arc_two)) arc_three (codes "1000") [] _ (inr refl) refl refl refl refl
 
 second-epoch : AreEpochLines (Some (epoch_with 0 arc_one)) (epoch_with 1 arc_two) second_lines
-second-epoch = (epoch_with 0 arc_one, refl, record { marked = refl; spelled = refl; follows = tt; satellites = (second-row, tt) })
+second-epoch = (
+  epoch_with 0 arc_one,
+  refl,
+  record { marked = refl; spelled = refl; follows = tt; satellites = (second-row, tt) },
+)
 
 third-epoch : AreEpochLines (Some (epoch_with 1 arc_two)) (epoch_with 2 arc_three) third_lines
-third-epoch = (epoch_with 1 arc_two, refl, record { marked = refl; spelled = refl; follows = tt; satellites = (third-row, tt) })
+third-epoch = (
+  epoch_with 1 arc_two,
+  refl,
+  record { marked = refl; spelled = refl; follows = tt; satellites = (third-row, tt) },
+)
 
 wild : IsCompactTextOf wild_units wild_text
 wild = record {

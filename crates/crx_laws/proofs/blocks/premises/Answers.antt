@@ -1,12 +1,14 @@
 -- by computation
-use Rattle.crx_filter.proofs.Words.{refl, rules, [], ◌∷◌, map, Some, None, Content, Accepted, Observation, EventLine, EventRecord}
+use Rattle.crx_filter.proofs.Words.{refl, rules, [], ◌∷◌, map, Some, None, Content}
+use Rattle.crx_filter.proofs.Words.{Accepted, Observation, EventLine, EventRecord}
 use Rattle.std.specs.Fmt.{digits}
 use Rattle.crx_text.specs.meaning.Codes.{coded_number}
 use Rattle.crx_filter.proofs.{anywriter.OwnText.whole-file, stretches.OwnStretches.units-before}
 use Rattle.crx_filter.specs.meaning.CompactText.{AreUnitsInPlace}
 use Rattle.crx_laws.proofs.Wild.{make-file, full_arc, epoch_with, header_lines, lines-of_header, kept-lines}
 use Rattle.crx_laws.specs.SmallFiles.{epoch_at_second as epoch_of}
-use Rattle.crx_laws.specs.WildText.{comment, epoch_at_second, event, first_line, second_line, wild_header, wild_stretch, wild_units}
+use Rattle.crx_laws.specs.WildText.{comment, epoch_at_second, event, first_line}
+use Rattle.crx_laws.specs.WildText.{second_line, wild_header, wild_stretch, wild_units}
 use Rattle.crx_laws.specs.SmallStretches.{first_epoch, second_block}
 use Rattle.crx_text.specs.meaning.Numbers.{size_of, number_of, number_text}
 use Rattle.crx_laws.proofs.blocks.premises.Goals as goal
@@ -14,7 +16,8 @@ use Rattle.crx_laws.proofs.blocks.premises.Goals as goal
 -- the header's units are in their places, as they are in the whole file
 headers : AreUnitsInPlace wild_header
 headers = units-before (epoch_at_second 2 20000202000 ∷ EventRecord comment ∷ EventLine event
-    ∷ epoch_at_second 1 20000100500 ∷ epoch_at_second 0 20000000000 ∷ []) wild_header (whole-file wild_units make-file).in_place
+    ∷ epoch_at_second 1 20000100500 ∷ epoch_at_second 0 20000000000 ∷ []) wild_header
+    (whole-file wild_units make-file).in_place
 
 pub returns : goal.returns
 unfolding digits coded_number size_of number_of number_text

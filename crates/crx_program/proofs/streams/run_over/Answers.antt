@@ -13,10 +13,13 @@ pub returns : goal.returns
 returns g c =
     let input = fresh _ _ c.new-input.result c.new-input.ensures.inner c.new-input.ensures.log
     (ap (λ (d : Std (Uninterrupted g.row.I.Denot)). d.inner) c.waiting.ensures.whole ∙ c.new.ensures.inner)
-    (ap (λ (d : Std (Uninterrupted g.row.I.Denot)). d.failures) c.waiting.ensures.whole ∙ c.new.ensures.failures)
+    (ap (λ (d : Std (Uninterrupted g.row.I.Denot)). d.failures) c.waiting.ensures.whole
+    ∙ c.new.ensures.failures)
     (ap (λ (d : Std (Uninterrupted g.row.I.Denot)). d.ends) c.waiting.ensures.whole ∙ c.new.ensures.ends)
-    (ap (λ (d : Std (Uninterrupted g.row.I.Denot)). d.flushes) c.waiting.ensures.whole ∙ c.new.ensures.flushes)
-    (ap (λ (d : Std (Uninterrupted g.row.I.Denot)). d.is_broken) c.waiting.ensures.whole ∙ c.new.ensures.broken) in
+    (ap (λ (d : Std (Uninterrupted g.row.I.Denot)). d.flushes) c.waiting.ensures.whole
+    ∙ c.new.ensures.flushes)
+    (ap (λ (d : Std (Uninterrupted g.row.I.Denot)). d.is_broken) c.waiting.ensures.whole
+    ∙ c.new.ensures.broken) in
     let output = fresh _ _ c.new-output.result c.new-output.ensures.inner c.new-output.ensures.log
     c.new-2.ensures.inner c.new-2.ensures.failures c.new-2.ensures.ends c.new-2.ensures.flushes
     c.new-2.ensures.broken in

@@ -16,5 +16,6 @@ returns c =
     let past : length line ≤ 16 * c.loop-k.k + 3 =
     omega (arith, c.loop-k-test.false, c.if-length-gt-BEFORE.false, some) in
     record {
-      form = line_printed line (all_print line c.loop-k.k c.loop-k.invariant past) some c.if-line-length-eq32.false;
+      form = line_printed line
+          (all_print line c.loop-k.k c.loop-k.invariant past) some c.if-line-length-eq32.false;
     }

@@ -28,7 +28,8 @@ returns-in-Ok-clause-taken g c =
           c.args.engine.now) lines (Some comes.1.0) [] (refl, refl) (refl, refl) g.E.Engine then
           (g.E.Engine.ready then) c.in-Ok.step (rw c.in-Ok.is at
           c.overlong.ensures.stepped.drained) (rw c.in-Ok.is at (c.overlong.ensures.answers lines []
-          comes.1.0 comes.0 tt comes.1.2)) _ (kept.shows _ []) c.write_step.result _ (once c.write_step.result)
+          comes.1.0 comes.0 tt comes.1.2)) _ (kept.shows _ []) c.write_step.result _
+          (once c.write_step.result)
           (always-ok c.write_step.result (rw c.in-Ok.is at c.overlong.ensures.once))
           c.write_step.ensures.settled);
     })

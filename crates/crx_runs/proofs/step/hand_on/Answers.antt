@@ -29,6 +29,7 @@ returns-clause-failed g c =
     let flushed = c.in-Err.ensures in λ _. (
       g.met.W.Sink.took_both _ _ _ [] [] told.0
           (g.met.W.Sink.took_both _ _ _ [] [] handed.none_taken flushed.none_taken),
-      ap₂ sink_tally_of (flushed.counted ∙ ap one_more handed.good) (flushed.asked ∙ ap one_more handed.unasked)
+      ap₂ sink_tally_of (flushed.counted ∙ ap one_more handed.good)
+          (flushed.asked ∙ ap one_more handed.unasked)
           ∙ ap (λ (t : SinkTally). with_failed_flush t) told.1,
     )

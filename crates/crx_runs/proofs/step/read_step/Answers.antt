@@ -6,7 +6,8 @@ use Rattle.crx_lines.specs.{declared.phase.Phase.TheVariants.Ended, meaning.Devi
 use Rattle.crx_base.specs.meaning.Lines.{InputLine}
 use Rattle.crx_runs.proofs.StepReading.{HasAsked, line-read, overlong-read, stop-read, end-read}
 use Rattle.crx_runs.proofs.{StepReading.{ended-not-open}, RunningSteps.{goes-by, stepped-ok}}
-use Rattle.crx_runs.proofs.{step.read_step.Goals.After-next_line, step.read_step.Given.Over, DeviceSpans.span-joins}
+use Rattle.crx_runs.proofs.step.read_step.Goals.{After-next_line}
+use Rattle.crx_runs.proofs.{step.read_step.Given.Over, DeviceSpans.span-joins}
 use Rattle.crx_runs.specs.Taking.{with_halt}
 use Rattle.crx_runs.proofs.step.read_step.Goals as goal
 
@@ -65,7 +66,8 @@ returns-in-LineTooLong-clause-goes g c = λ r0 w0 m0 lines shown running.
 
 pub returns-in-LineTooLong-clause-stepped : goal.returns-in-LineTooLong-clause-stepped
 returns-in-LineTooLong-clause-stepped g c =
-    let kept = stepped-ok (g.E.Engine.ready c.take_overlong.new.engine ≡ []) (with_halt c.take_overlong.result c.take_overlong.new.halt)
+    let kept = stepped-ok (g.E.Engine.ready c.take_overlong.new.engine ≡ [])
+    (with_halt c.take_overlong.result c.take_overlong.new.halt)
     c.take_overlong.ensures.taken.drained in grind (arith, common_steps, kept)
 
 pub returns-in_default-clause-goes : goal.returns-in_default-clause-goes

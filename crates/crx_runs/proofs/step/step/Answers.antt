@@ -4,7 +4,8 @@ use Rattle.crx_base.specs.declared.fault.Fault.TheVariants.{LineTooLong}
 use Rattle.crx_lines.specs.{Readers.reading, Reading.{HasNoFeed}, Reading.ReaderState}
 use Rattle.crx_lines.specs.declared.phase.Phase.TheVariants.{Open}
 use Rattle.crx_lines.specs.meaning.Devices.{Tally, tally_of}
-use Rattle.crx_runs.proofs.StepReading.{HasAsked, err-not-none, has-no-feed, held-asked, line-read, overlong-read, some-not-none}
+use Rattle.crx_runs.proofs.StepReading.{HasAsked, err-not-none, has-no-feed, held-asked}
+use Rattle.crx_runs.proofs.StepReading.{line-read, overlong-read, some-not-none}
 use Rattle.crx_runs.proofs.RunningSteps.{goes-by, handing-fails, stepped-ok, still-running}
 use Rattle.crx_runs.proofs.{step.step.Goals.After-next_held, step.step.Given.Over, DeviceSpans.span-joins}
 use Rattle.crx_runs.specs.{Running.IsRunning, meaning.Spans.{reader_span, span}}
@@ -44,7 +45,8 @@ returns-in-Err-clause-goes g c = λ r0 w0 m0 lines shown running.
 
 pub returns-in-Err-clause-stepped : goal.returns-in-Err-clause-stepped
 returns-in-Err-clause-stepped g c =
-    let kept = stepped-ok (g.E.Engine.ready c.take_overlong.new.engine ≡ []) (with_halt c.take_overlong.result c.take_overlong.new.halt)
+    let kept = stepped-ok (g.E.Engine.ready c.take_overlong.new.engine ≡ [])
+    (with_halt c.take_overlong.result c.take_overlong.new.halt)
     c.take_overlong.ensures.taken.drained in grind (arith, common_steps, kept)
 
 pub returns-else-not-hand_on-clause-goes : goal.returns-else-not-hand_on-clause-goes

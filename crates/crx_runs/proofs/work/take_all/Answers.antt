@@ -2,7 +2,8 @@ use Rattle.std.proofs.Common.{◌≡◌, true, false, ◌||◌, inl, inr, None, 
 use Rattle.crx_lines.specs.Readers.{reading}
 use Rattle.crx_runs.proofs.{DeviceSpans.span-joins, RunningSteps.{go-on, stopped-end, well-done}}
 use Rattle.crx_runs.proofs.work.take_all.{Given.Over, Goals.{After-step, In-Ok}}
-use Rattle.crx_runs.specs.{Running.{StepGoes, step_with_halt}, Taking.IsDone, meaning.Spans.{reader_span, span}}
+use Rattle.crx_runs.specs.Running.{StepGoes, step_with_halt}
+use Rattle.crx_runs.specs.{Taking.IsDone, meaning.Spans.{reader_span, span}}
 use Rattle.crx_runs.proofs.work.take_all.Goals as goal
 use Rattle.std.proofs.lemmas.Grind.{common_steps}
 

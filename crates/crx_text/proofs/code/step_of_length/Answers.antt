@@ -1,4 +1,5 @@
-use Rattle.std.proofs.Common.{arith, ◌≡◌, ◌+◌, ◌-◌, ◌%◌, ◌^◌, ◌<◌, ◌≤◌, ℕ, List, Bool, Some, length, take, drop, w64}
+use Rattle.std.proofs.Common.{arith, ◌≡◌, ◌+◌, ◌-◌, ◌%◌, ◌^◌, ◌<◌, ◌≤◌, ℕ}
+use Rattle.std.proofs.Common.{List, Bool, Some, length, take, drop, w64}
 use Rattle.std.proofs.{Common.{ap, sym, ◌∙◌}, lemmas.{Grind.common_steps, Int.to_z-of_z}}
 use Rattle.std.specs.{Str.Parse.starts_with_minus}
 use Rattle.crx_text.proofs.CellNumbers.{coded_number-cell}

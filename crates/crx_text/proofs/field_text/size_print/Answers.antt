@@ -1,11 +1,13 @@
-use Rattle.std.proofs.Common.{Bool, true, false, if◌then◌else◌, ◌<◌, length-append, ◌≡◌, ◌+◌, ◌-◌, ◌/◌, ◌%◌, ◌^◌, ◌≤◌, ◌++◌, ◌∷◌, [], ℕ, List, length, replicate}
+use Rattle.std.proofs.Common.{Bool, true, false, if◌then◌else◌, ◌<◌, length-append, ◌≡◌, ◌+◌}
+use Rattle.std.proofs.Common.{◌-◌, ◌/◌, ◌%◌, ◌^◌, ◌≤◌, ◌++◌, ◌∷◌, [], ℕ, List, length, replicate}
 use Rattle.std.proofs.{Common.{take, drop, ap, refl, sym, ◌∙◌, arith}, lemmas.Grind.common_steps}
 use Rattle.std.proofs.lemmas.{List.length-replicate, Simd.{length-zip2, put_chunk_whole}}
 use lib.Lanes.{chunk, pick_l}
 use Rattle.crx_text.proofs.{PrintedDigits.{leading_zeros, zeros_few}, PrintedLanes.{base_row}}
 use Rattle.crx_text.proofs.PrintedTexts.{nine_in, plus, row_of, three_in}
 use Rattle.crx_text.proofs.PrintedTexts.{text_length, signed_text}
-use Rattle.crx_text.specs.{FieldTexts.group_digits, meaning.Numbers.size_text, declared.field_text.TheConstants.BASES}
+use Rattle.crx_text.specs.{FieldTexts.group_digits, meaning.Numbers.size_text}
+use Rattle.crx_text.specs.declared.field_text.TheConstants.{BASES}
 use Rattle.crx_text.proofs.field_text.size_print.Goals.{Joined-is_below, then-is_below, else-is_below}
 use Rattle.crx_text.proofs.field_text.size_print.Goals as goal
 

@@ -1,5 +1,6 @@
 use Rattle.std.proofs.lemmas.Grind.{common_steps}
-use Rattle.std.proofs.Common.{◌≡◌, ◌≤◌, ◌-◌, ◌+◌, ℕ, ℤ, pos, zero, suc, Bool, true, false, if◌then◌else◌, Some}
+use Rattle.std.proofs.Common.{◌≡◌, ◌≤◌, ◌-◌, ◌+◌, ℕ, ℤ, pos, zero, suc}
+use Rattle.std.proofs.Common.{Bool, true, false, if◌then◌else◌, Some}
 use Rattle.std.proofs.Common.{List, ◌∷◌, ◌++◌, length, replicate, w64, arith}
 use Rattle.std.proofs.{Common.{rules, ap, sym, refl, ◌∙◌}, lemmas.{Int.to_z-of_z}}
 use Rattle.std.proofs.lemmas.List.{drop_at, length-replicate, length-take-le, take-append-le, take-replicate}

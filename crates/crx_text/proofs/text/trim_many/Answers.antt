@@ -18,7 +18,8 @@ pub loop-end-preserved : goal.loop-end-preserved
 loop-end-preserved c =
     grind (
       arith,
-      found_none c.args.text.now c.loop-end.end c.loop-end.invariant.0 c.loop-end.invariant.1 16 (c.loop-end.end - 16),
+      found_none c.args.text.now c.loop-end.end c.loop-end.invariant.0 c.loop-end.invariant.1 16
+          (c.loop-end.end - 16),
     )
 
 pub slice_bounds-result-end-then-count-gt0-2 : goal.slice_bounds-result-end-then-count-gt0-2

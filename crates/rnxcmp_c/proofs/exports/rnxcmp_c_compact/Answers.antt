@@ -1,10 +1,12 @@
-use Rattle.rnxcmp_c.proofs.{RunLemmas.{answers-alone, answers-within, take-enough}, Words.{refl, sym, ◌∙◌, subst}}
+use Rattle.rnxcmp_c.proofs.RunLemmas.{answers-alone, answers-within, take-enough}
+use Rattle.rnxcmp_c.proofs.Words.{refl, sym, ◌∙◌, subst}
 use Rattle.rnxcmp_c.proofs.Words.{compacted, AnswersWithin, rooms, Compact}
 use Rattle.crx_filter.proofs.accounts.ByResults.{compaction-keeps}
 use Rattle.rnxcmp_c.proofs.exports.rnxcmp_c_compact.Goals as goal
 
 pub answer_of-requires : goal.answer_of-requires
-answer_of-requires c = take-enough (Compact c.in-Ok.options 0) c.compact-outcome.ensures.runs.2 c.new-written.ensures
+answer_of-requires c =
+    take-enough (Compact c.in-Ok.options 0) c.compact-outcome.ensures.runs.2 c.new-written.ensures
     c.new-reported.ensures refl refl
 
 pub returns-clause-memory : goal.returns-clause-memory
@@ -22,5 +24,6 @@ returns-clause-runs c dated within memory =
 
 pub returns-clause-keeps : goal.returns-clause-keeps
 returns-clause-keeps c dated within memory =
-    compaction-keeps (λ whole. AnswersWithin c.args.max_output whole c.answer_of.result (rooms _ _) (rooms _ _)) _ _
+    compaction-keeps
+    (λ whole. AnswersWithin c.args.max_output whole c.answer_of.result (rooms _ _) (rooms _ _)) _ _
     (returns-clause-runs c dated within memory)

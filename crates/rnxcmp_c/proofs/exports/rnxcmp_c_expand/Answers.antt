@@ -1,5 +1,6 @@
 use Rattle.std.proofs.Common.{rules}
-use Rattle.rnxcmp_c.proofs.{EndedLemmas.{KeepsPromises, keeps-promises}, RunLemmas.{answers-alone, take-enough}}
+use Rattle.rnxcmp_c.proofs.EndedLemmas.{KeepsPromises, keeps-promises}
+use Rattle.rnxcmp_c.proofs.RunLemmas.{answers-alone, take-enough}
 use Rattle.rnxcmp_c.proofs.Kept.{zero-answered}
 use Rattle.crx_filter.proofs.anywriter.OnlyTexts.{only-text}
 use Rattle.rnxcmp_c.proofs.{RunLemmas.answers-within, Words.{◌≤◌, length, map, refl, subst, sym, ap, ◌∙◌}}

@@ -1,5 +1,6 @@
 use Rattle.std.proofs.Common.{arith}
-use Rattle.rnxcmp_c.proofs.{EndedLemmas.{result-where, run-check, run-expansion, task-keeps}, PromiseLemmas.ends-on}
+use Rattle.rnxcmp_c.proofs.EndedLemmas.{result-where, run-check, run-expansion, task-keeps}
+use Rattle.rnxcmp_c.proofs.PromiseLemmas.{ends-on}
 use Rattle.rnxcmp_c.proofs.PromiseLemmas.{ends-promise, ends-refused, ends-was_ended, sound-holds}
 use Rattle.rnxcmp_c.proofs.PromiseLemmas.{sound-stands, stood}
 use Rattle.rnxcmp_c.proofs.{Words.{Holds, Expand, Check}, handle.rnxcmp_c_end.Goals.After-put_in}

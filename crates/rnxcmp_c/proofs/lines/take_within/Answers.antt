@@ -44,7 +44,8 @@ given g c lines whole shown kept =
           let same : line_shown w.of-line.result ≡ piece_line c.deref.result.now c.args.is_ended =
           elim w.if-is_ended.branch [ then-is_ended v ↦ search rules | else-is_ended v ↦ search rules ] in
           rw (w.taken-is, w.halt-is, w.engine-is, w.held-is) (
-            subst (λ (line : InputLine). LineIsGiven (with_halt taken.result taken.new.halt) (g.E.Engine.filter c.args.engine.now)
+            subst (λ (line : InputLine).
+                LineIsGiven (with_halt taken.result taken.new.halt) (g.E.Engine.filter c.args.engine.now)
                 (g.E.Engine.shows taken.new.engine) lines line held.output taken.new.writer held.messages
                 taken.new.messages) (same ∙ ap (λ bs. piece_line bs c.args.is_ended) all)
                 (line-kept _ _ held.output taken.new.writer held.messages taken.new.messages _ _ _ _
@@ -58,8 +59,10 @@ given g c lines whole shown kept =
 pub counted-requires : goal.counted-requires
 counted-requires g c =
     let kept = c.args.held.now.tail.bytes.items in
-    let step = rw (← c.answer.ensures.value) at (given g (goal.at.counted-requires g c).Joined-content-gt-LINE_LIMIT
-    c.requires.shown.1.0 kept c.requires.shown.1.1 (sym (take_all LINE_ROOM kept c.args.held.now.tail.within))) in
+    let step =
+    rw (← c.answer.ensures.value) at (given g (goal.at.counted-requires g c).Joined-content-gt-LINE_LIMIT
+    c.requires.shown.1.0 kept c.requires.shown.1.1
+    (sym (take_all LINE_ROOM kept c.args.held.now.tail.within))) in
     marks-within _ _ _ _ _ _ _ _ c.mark-mark.ensures _ step.0.0 step.0.1
 
 pub returns-clause-step : goal.returns-clause-step

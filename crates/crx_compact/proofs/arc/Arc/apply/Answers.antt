@@ -1,4 +1,5 @@
-use Rattle.crx_compact.proofs.Words.{rules, ◌≡◌, ◌∷◌, ℕ, ℤ, List, Result, Option, is_ok, Code, ArcTail, value_of}
+use Rattle.crx_compact.proofs.Words.{rules, ◌≡◌, ◌∷◌, ℕ, ℤ, List, Result}
+use Rattle.crx_compact.proofs.Words.{Option, is_ok, Code, ArcTail, value_of}
 use Rattle.crx_compact.proofs.Words.{arc_of_code, value_of_code, if◌then◌else◌, Fault}
 use Rattle.crx_compact.proofs.arcs.Arcs.{values-of_codes}
 use Rattle.crx_compact.specs.ArcLaws.{accepted, arc_of_codes}

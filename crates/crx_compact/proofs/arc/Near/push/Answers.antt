@@ -5,7 +5,8 @@ use Rattle.crx_compact.proofs.arcs.Running.{within-below, goes-on-kept, goes-on,
 use Rattle.crx_compact.proofs.arcs.Running.{below-short, near-kept}
 use Rattle.crx_compact.specs.Arcs.{IsArcInRange, whole_arc, kept_tail}
 use Rattle.crx_compact.specs.ArcSteps.{differences_after}
-use Rattle.crx_compact.proofs.arc.Near.push.{Given.Over, Goals.{After-go_on_apart-highest, After-far, In-Some}}
+use Rattle.crx_compact.proofs.arc.Near.push.Given.{Over}
+use Rattle.crx_compact.proofs.arc.Near.push.Goals.{After-go_on_apart-highest, After-far, In-Some}
 use Rattle.crx_compact.proofs.arc.Near.push.Goals as goal
 
 within : (g : Over) (c : In-Some g) → IsWithin g.row.WIDTH c.in-Some.value

@@ -3,14 +3,21 @@ use Rattle.crx_compact.proofs.{LineTexts.{BlockPushed, block-pushed}, block.Bloc
 use Rattle.crx_compact.proofs.block.Block.put.Goals as goal
 
 -- the line is put after the others, with its length after theirs
-pushed : (c : After-put_line) → BlockPushed c.self.inside.lengths.items c.self.inside.bytes.items c.put_line.new.bytes
+pushed : (c : After-put_line)
+    → BlockPushed c.self.inside.lengths.items c.self.inside.bytes.items c.put_line.new.bytes
     c.args.line.now (length c.args.line.now) c.self.inside.count c.self.inside.filled c.self.inside.handed_out
     c.self.inside.handed_out_bytes c.self.inside.front c.use_bytes.new.bytes.cap
 pushed c =
     block-pushed _ _ _ _ _ _ _ _ _ _ _ _ c.self.invariant c.use_bytes.ensures.kept.memory
     (omega (arith, c.requires.left, ap (λ (l : PendingLines). l.left) c.self.view_is)) refl
     (omega (arith, c.requires.short))
-    (search (rules, c.put_line.ensures.put, c.deref_mut.ensures.value, c.use_bytes.ensures.kept.items, c.self.invariant.2))
+    (search (
+      rules,
+      c.put_line.ensures.put,
+      c.deref_mut.ensures.value,
+      c.use_bytes.ensures.kept.items,
+      c.self.invariant.2,
+    ))
     (omega (arith, c.use_bytes.ensures.counted, ap length c.deref_mut.ensures.value, c.requires.short))
 
 pub use_bytes-requires : goal.use_bytes-requires

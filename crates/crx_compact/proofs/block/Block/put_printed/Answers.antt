@@ -32,7 +32,8 @@ pushed c =
     c.use_bytes.ensures.kept.memory
     (omega (arith, c.requires.left, ap (λ (l : PendingLines). l.left) c.self.view_is))
     (omega (arith, c.requires.few))
-    (ap (take c.self.inside.filled) c.as_mut_slice-bytes.ensures.value ∙ c.use_bytes.ensures.kept.items c.self.inside.filled c.self.invariant.2)
+    (ap (take c.self.inside.filled) c.as_mut_slice-bytes.ensures.value
+    ∙ c.use_bytes.ensures.kept.items c.self.inside.filled c.self.invariant.2)
     (omega (arith, c.use_bytes.ensures.counted, ap length c.as_mut_slice-bytes.ensures.value))
     c.print_line-length.ensures
 

@@ -22,10 +22,12 @@ pushed : (c : After-write_line-length) → BlockPushed c.self.inside.lengths.ite
     c.self.inside.count c.self.inside.filled
     c.self.inside.handed_out c.self.inside.handed_out_bytes c.self.inside.front c.use_bytes.new.bytes.cap
 pushed c =
-    row-pushed _ _ _ _ _ _ _ (24 * length c.args.values.now + 800) _ _ _ _ _ _ c.self.invariant c.use_bytes.ensures.kept.memory
+    row-pushed _ _ _ _ _ _ _
+    (24 * length c.args.values.now + 800) _ _ _ _ _ _ c.self.invariant c.use_bytes.ensures.kept.memory
     (omega (arith, c.requires.left, ap (λ (l : PendingLines). l.left) c.self.view_is))
     (omega (arith, c.requires.fits.few))
-    (ap (take c.self.inside.filled) c.as_mut_slice-bytes.ensures.value ∙ c.use_bytes.ensures.kept.items c.self.inside.filled c.self.invariant.2)
+    (ap (take c.self.inside.filled) c.as_mut_slice-bytes.ensures.value
+    ∙ c.use_bytes.ensures.kept.items c.self.inside.filled c.self.invariant.2)
     (omega (arith, c.use_bytes.ensures.counted, ap length c.as_mut_slice-bytes.ensures.value))
     c.write_line-length.ensures.put
 

@@ -12,11 +12,14 @@ before-line : (c : After-read_epoch_line) → tail_for_line (tail_held c.args.se
     ≡ Some (tail_of_history c.if-is_full.self-inside.history)
 before-line c = elim c.if-is_full.branch [
   | then-is_full w ↦ rw w.self-inside-is (search (rules, tail_for_line, tail-idle, tail_of_history))
-  | else-is_full+else-not-self w ↦ rw w.self-inside-is (search (rules, tail_for_line, tail-idle, tail_of_history))
+  | else-is_full+else-not-self w ↦
+      rw w.self-inside-is (search (rules, tail_for_line, tail-idle, tail_of_history))
 ]
 
-rooms : (c : After-read_epoch_line) → AsksRoomToBegin (first_step c.args.types.now (tail_held c.args.self.now.state)
-    (Content c.args.line.now)) c.args.self.now.rooms c.read_epoch_line.new.self.satellites.rooms c.read_epoch_line.result
+rooms : (c : After-read_epoch_line)
+    → AsksRoomToBegin (first_step c.args.types.now (tail_held c.args.self.now.state)
+    (Content c.args.line.now)) c.args.self.now.rooms
+    c.read_epoch_line.new.self.satellites.rooms c.read_epoch_line.result
 rooms c =
     let before : c.if-is_full.self-inside.history.satellites.rooms ≡ c.args.self.now.rooms =
     elim c.if-is_full.branch [
@@ -27,13 +30,16 @@ rooms c =
 
 pub returns-in-Ok-clause-made : goal.returns-in-Ok-clause-made
 returns-in-Ok-clause-made c =
-    let before = before-line (goal.at.returns-in-Ok-clause-made c).After-read_epoch_line in search (rules, before)
+    let before = before-line (goal.at.returns-in-Ok-clause-made c).After-read_epoch_line in
+    search (rules, before)
 
 pub returns-in-Ok-clause-rooms : goal.returns-in-Ok-clause-rooms
-returns-in-Ok-clause-rooms c = rw c.in-Ok.is at (rooms (goal.at.returns-in-Ok-clause-rooms c).After-read_epoch_line)
+returns-in-Ok-clause-rooms c =
+    rw c.in-Ok.is at (rooms (goal.at.returns-in-Ok-clause-rooms c).After-read_epoch_line)
 
 pub returns-in-Err-clause-rooms : goal.returns-in-Err-clause-rooms
-returns-in-Err-clause-rooms c = rw c.in-Err.is at (rooms (goal.at.returns-in-Err-clause-rooms c).After-read_epoch_line)
+returns-in-Err-clause-rooms c =
+    rw c.in-Err.is at (rooms (goal.at.returns-in-Err-clause-rooms c).After-read_epoch_line)
 
 pub returns-in-Ok-clause-block : goal.returns-in-Ok-clause-block
 returns-in-Ok-clause-block c = λ older e.

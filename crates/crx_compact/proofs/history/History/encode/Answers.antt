@@ -97,7 +97,9 @@ loop-row-preserved c =
     (λ j. row_of_parts (c.name-in-Some-row.ensures.value j) (c.values-values.ensures.value j)
     (c.flags.ensures.value j)) in
     let after : Tail = if c.args.in_full then no_tail else tail_of_history c.args.self.now in
-    let written = IfOk-at_ok (IsRowWritten after so_far put c.loop-row.self c.loop-row.lines c.write_row.new.self c.write_row.new.lines)
+    let written =
+    IfOk-at_ok (IsRowWritten after so_far put c.loop-row.self c.loop-row.lines
+    c.write_row.new.self c.write_row.new.lines)
     c.unwrap.ensures (c.write_row.ensures.written after so_far c.loop-row.invariant.written).ok in
     let is_new : c.unwrap.result ≡ true = written.answer
     ∙ ap not (ap (λ (r : Row). has_satellite r.name so_far) parts ∙ row-new rows index row

@@ -1,6 +1,7 @@
 use Rattle.crx_compact.proofs.Words.{rules, ◌≡◌, ◌++◌, ◌+◌, ◌*◌, List, ℕ, ap, ◌∙◌, sym, without_end_blanks}
 use Rattle.crx_compact.proofs.Words.{text_difference, take, length, arith, code_text}
-use Rattle.crx_compact.proofs.Words.{code_of_value, epoch_text, flat_map, OpenHistory, Row, RowTail, row_tail_in}
+use Rattle.crx_compact.proofs.Words.{code_of_value, epoch_text, flat_map}
+use Rattle.crx_compact.proofs.Words.{OpenHistory, Row, RowTail, row_tail_in}
 use Rattle.crx_compact.proofs.{Words.{epoch_by_rows}, SoundTexts.difference-trimmed}
 use Rattle.crx_compact.proofs.{Making.ok-unless}
 use Rattle.std.proofs.lemmas.List.Folds.{flat_map-map}
@@ -33,14 +34,18 @@ returns-clause-written c = λ after rows written.
     let head = c.args.head.now in
     let whole = epoch_text (epoch_by_rows head rows) in
     let width = ap (λ (t : List ℕ). length t) c.columns.ensures.value ∙ c.columns.ensures.sound.width in
-    let first = ap (λ n. take n c.put_first.new.bytes) (sym width) ∙ c.put_first.ensures ∙ c.columns.ensures.value in
+    let first =
+    ap (λ n. take n c.put_first.new.bytes) (sym width) ∙ c.put_first.ensures ∙ c.columns.ensures.value in
     let named = ap (λ (h : OpenHistory). h.satellites.rows) c.self.view_is in
     let is = named ∙ written.rows_after in
-    let counted = c.count.ensures.value ∙ sym c.requires.counted ∙ ap (λ (rs : List RowTail). length rs) (sym named) in
-    let names : flat_map (λ (row : RowTail). row.name) c.self.inside.satellites.rows ≡ flat_map (λ (row : Row). row.name) rows =
+    let counted =
+    c.count.ensures.value ∙ sym c.requires.counted ∙ ap (λ (rs : List RowTail). length rs) (sym named) in
+    let names : flat_map (λ (row : RowTail). row.name) c.self.inside.satellites.rows
+    ≡ flat_map (λ (row : Row). row.name) rows =
     search (rules, flat_map-map, row_tail_in, is) in
     let text : c.trim_end-next_text.result.now ≡ without_end_blanks whole =
-    c.trim_end-next_text.ensures.value ∙ ap (λ n. without_end_blanks (take (41 + 3 * n) c.put_names.new.text)) counted
+    c.trim_end-next_text.ensures.value
+    ∙ ap (λ n. without_end_blanks (take (41 + 3 * n) c.put_names.new.text)) counted
     ∙ ap without_end_blanks (c.put_names.ensures ∙ (λ j. first j ++ names j)) in
     let clock = ap (λ (h : OpenHistory). h.clock) c.self.view_is ∙ written.clock in
     let before = ap (λ (h : OpenHistory). h.text) c.self.view_is ∙ written.text in

@@ -9,7 +9,12 @@ use Rattle.crx_compact.proofs.history.History.print.Goals as goal
 
 pub put_printed-requires-clause-left : goal.put_printed-requires-clause-left
 put_printed-requires-clause-left c =
-    omega (arith, (c.requires.before (omega arith)).left, rows-few c.args.self.now c.requires.announced, c.requires.within)
+    omega (
+      arith,
+      (c.requires.before (omega arith)).left,
+      rows-few c.args.self.now c.requires.announced,
+      c.requires.within,
+    )
 
 -- the row that is printed
 there : (c : After-entry) → slice_get c.args.self.now.satellites.rows (c.args.count - 1)

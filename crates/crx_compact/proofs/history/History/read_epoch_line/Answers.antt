@@ -26,8 +26,10 @@ pub put_first-requires : goal.put_first-requires
 put_first-requires c =
     let at = (goal.at.put_first-requires c).After-bytes-text in
     let read = c.in_ok-read_satellites.ensures.ok in
-    let few = text-few c.args.types.now (tail_of_history c.args.self.now) c.args.line.now read.satellites (same at ∙ read.read) in
-    let short : length c.bytes-text.result.now ≤ 3038 = omega (arith, few, ap (λ (t : List ℕ). length t) (text at)) in
+    let few = text-few c.args.types.now (tail_of_history c.args.self.now) c.args.line.now read.satellites
+    (same at ∙ read.read) in
+    let short : length c.bytes-text.result.now ≤ 3038 =
+    omega (arith, few, ap (λ (t : List ℕ). length t) (text at)) in
     search (rules, short)
 
 -- the rows of the epoch before are awaited
@@ -57,11 +59,13 @@ returns-in_err-read_satellites c =
       err = record {
         answer = subst (λ (made : Result (List Satellite) Fault). AnswersRefusal made
             c.in_err-read_satellites.field-0.0) (sym (same at)) refused.answer;
-        unasked = λ other name count has. subst (HasRoom name count) before (refused.unasked other name count has);
+        unasked =
+            λ other name count has. subst (HasRoom name count) before (refused.unasked other name count has);
         wanting = λ satellites is has. refused.wanting satellites (sym (same at) ∙ is)
             (subst (HaveTypesRoom satellites) (sym before) has);
       };
-      rooms = λ name count has. c.read_satellites.ensures.rooms name count (subst (HasRoom name count) (sym before) has);
+      rooms = λ name count has.
+          c.read_satellites.ensures.rooms name count (subst (HasRoom name count) (sym before) has);
     })
 
 pub returns : goal.returns
@@ -85,5 +89,6 @@ returns c =
         room = found.room;
       };
       err = search rules;
-      rooms = λ name count has. c.read_satellites.ensures.rooms name count (subst (HasRoom name count) (sym before) has);
+      rooms = λ name count has.
+          c.read_satellites.ensures.rooms name count (subst (HasRoom name count) (sym before) has);
     }

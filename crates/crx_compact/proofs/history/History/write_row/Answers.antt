@@ -14,7 +14,8 @@ use Rattle.std.proofs.lemmas.Grind.{common_steps}
 placed : (c : Joined-place) → IsPlaced c.args.name.now (length c.args.values.now) c.self.inside.satellites
     c.match-place.self-inside.satellites c.match-place.is_new
     × KeepsRooms c.self.inside.satellites.rooms c.match-place.self-inside.satellites.rooms
-    × (the_view c.match-place.self-inside ≡ record c.args.self.now { satellites = c.match-place.self-inside.satellites })
+    × (the_view c.match-place.self-inside
+    ≡ record c.args.self.now { satellites = c.match-place.self-inside.satellites })
 placed c = search (rules, arith, placed-asked)
 
 pub returns-in_err-prepare-in-None-clause-written : goal.returns-in_err-prepare-in-None-clause-written
@@ -23,7 +24,8 @@ returns-in_err-prepare-in-None-clause-written c = λ after rows written.
     rw (p.1) (record {
       ok = tt;
       err = sym (come-already after rows c.args.self.now c.args.lines.now.lines
-          c.self.inside.satellites c.args.name.now (ap (λ (h : OpenHistory). h.satellites) c.self.view_is) written)
+          c.self.inside.satellites c.args.name.now
+          (ap (λ (h : OpenHistory). h.satellites) c.self.view_is) written)
           ∙ (c.in-None.ensures.unplaced refl).absent;
     })
 

@@ -1,4 +1,5 @@
-use Rattle.crx_compact.proofs.{Words.{rules, length, ◌≤◌, length-each_place, length-take-le}, CellsFor.cells-again}
+use Rattle.crx_compact.proofs.Words.{rules, length, ◌≤◌, length-each_place, length-take-le}
+use Rattle.crx_compact.proofs.CellsFor.{cells-again}
 use Rattle.crx_compact.proofs.SoundTexts.{before-trimmed, same-text}
 use Rattle.crx_compact.specs.Arcs.{whole_arcs}
 use Rattle.crx_compact.proofs.arcs.Parts.{length-arcs}

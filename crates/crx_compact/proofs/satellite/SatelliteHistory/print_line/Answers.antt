@@ -1,4 +1,5 @@
-use Rattle.crx_compact.proofs.Words.{rules, ◌≡◌, ◌≤◌, ◌<◌, ◌+◌, ◌*◌, ◌++◌, List, None, ℕ, ap, sym, ◌∙◌, arith, []}
+use Rattle.crx_compact.proofs.Words.{rules, ◌≡◌, ◌≤◌, ◌<◌, ◌+◌, ◌*◌, ◌++◌}
+use Rattle.crx_compact.proofs.Words.{List, None, ℕ, ap, sym, ◌∙◌, arith, []}
 use Rattle.crx_compact.proofs.Words.{common_steps, length, length-each_place, length-map, length-take-le, map}
 use Rattle.crx_compact.proofs.satellite.SatelliteHistory.print_line.Goals.{After-self, then-arcs-count}
 use Rattle.crx_compact.proofs.satellite.SatelliteHistory.print_line.Goals.{else-arcs-count}
@@ -37,7 +38,8 @@ returns c =
     let many : length c.args.self.now.cells ≡ count = ap length own ∙ length-each_place _ _ in
     let long' = length-arcs c.self.inside.near.items c.self.inside.far.items in
     let same : c.as_slice-arcs.result.now ≡ c.self.inside.near.items = grind (arith, common_steps) in
-    let all : length c.as_slice-arcs.result.now ≡ length (whole_arcs c.self.inside.near.items c.self.inside.far.items) =
+    let all : length c.as_slice-arcs.result.now
+    ≡ length (whole_arcs c.self.inside.near.items c.self.inside.far.items) =
     ap length same ∙ sym long' in
     let paired : length flags ≡ 2 * count = grind (arith, common_steps, length-take-le) in
     let few : length c.as_slice-arcs.result.now ≤ count = rw same c.self.invariant.1 in

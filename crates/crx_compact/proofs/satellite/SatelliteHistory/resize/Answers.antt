@@ -1,4 +1,5 @@
-use Rattle.crx_compact.proofs.Words.{rules, length, ◌≤◌, ◌≡◌, ◌++◌, arith, common_steps, ◌*◌, ◌-◌, take, replicate}
+use Rattle.crx_compact.proofs.Words.{rules, length, ◌≤◌, ◌≡◌, ◌++◌, arith}
+use Rattle.crx_compact.proofs.Words.{common_steps, ◌*◌, ◌-◌, take, replicate}
 use Rattle.crx_compact.proofs.Resizing.{fewer-held, fewer-types, more-held, more-types}
 use Rattle.crx_compact.proofs.satellite.SatelliteHistory.resize.Goals.{After-put_blanks}
 use borrow.Rule.Slice.PartMut.{put_mid}

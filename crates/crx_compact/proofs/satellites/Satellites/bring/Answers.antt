@@ -5,14 +5,16 @@ use Rattle.indexmap.specs.Layout.{length-set_value_at}
 use Rattle.crx_compact.proofs.RowByRow.{room-known}
 use Rattle.crx_compact.specs.Entries.{Entry, IsOrder}
 use Rattle.crx_compact.proofs.placing.{Coming.emptied, Found.not-found, Orders.{none-in_order, place-is}}
-use Rattle.crx_compact.proofs.placing.Placed.{placed-again, placed-anew, placed-exchanged, placed-not, placed-unknown}
+use Rattle.crx_compact.proofs.placing.Placed.{placed-again, placed-anew, placed-exchanged}
+use Rattle.crx_compact.proofs.placing.Placed.{placed-not, placed-unknown}
 use Rattle.crx_compact.proofs.satellites.Satellites.bring.Goals as goal
 use Rattle.std.proofs.lemmas.Grind.{common_steps}
 
 pub returns-in_default : goal.returns-in_default
 returns-in_default c =
     let none = not-found c.args.name.now _ (c.in_default.ensures.unknown refl) in
-    rw (← c.self.view_is) (placed-unknown _ _ _ _ (none-in_order _ c.self.invariant.2 c.args.name.now none) none)
+    rw (← c.self.view_is)
+    (placed-unknown _ _ _ _ (none-in_order _ c.self.invariant.2 c.args.name.now none) none)
 
 pub returns-then-place-self : goal.returns-then-place-self
 returns-then-place-self c =
@@ -63,6 +65,7 @@ invariant_of-self-2 c =
     rw (length-set_value_at c.self.inside.known.entries c.in-Some.found c.resize.new.self) (
       omega (arith, c.self.invariant.0),
       omega (arith, stands.1, c.if-place-self-2.false),
-      subst (IsOrder _ _) (c.exchange-2.ensures.order.counted ∙ c.self.invariant.2.counted) c.exchange-3.ensures.order,
+      subst (IsOrder _ _)
+          (c.exchange-2.ensures.order.counted ∙ c.self.invariant.2.counted) c.exchange-3.ensures.order,
       c.place_after-self-inside.ensures.behind,
     )

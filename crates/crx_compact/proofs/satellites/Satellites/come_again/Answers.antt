@@ -26,7 +26,8 @@ loop-place-preserved c =
     let counted = c.count-in-loop-place in
     let there = ap (slice_get es) (sym c.number_at.ensures.value)
     ∙ sym c.get_index.ensures.entry ∙ ap (option_map deref_pair) c.unwrap.ensures in
-    let none = none-placed self.placed self.live es (c.self.invariant.0, c.self.invariant.1, c.self.invariant.2)
+    let none =
+    none-placed self.placed self.live es (c.self.invariant.0, c.self.invariant.1, c.self.invariant.2)
     (rw (← c.self.view_is) at c.requires.none) in
     let awaited = subst (λ n. All IsAwaitedSatellite (map satellite_of (map row_of_entry (drop n
     (take self.live os)))))
@@ -55,9 +56,11 @@ returns-clause-again c =
     let es = self.known.entries in
     let os = in_order self.order.items es in
     let all = c.self.invariant.1 in
-    let none = none-placed self.placed self.live es (c.self.invariant.0, c.self.invariant.1, c.self.invariant.2)
+    let none =
+    none-placed self.placed self.live es (c.self.invariant.0, c.self.invariant.1, c.self.invariant.2)
     (rw (← c.self.view_is) at c.requires.none) in
-    let come = come-again self.known c.len-count.ensures.unique c.self.invariant.2 c.args.types.now self.live all
+    let come =
+    come-again self.known c.len-count.ensures.unique c.self.invariant.2 c.args.types.now self.live all
     (λ place less. c.loop-place.invariant place (omega (arith, less, c.if-count-self.false))) in
     grind (arith, common_steps, self, es, os, none, come)
 

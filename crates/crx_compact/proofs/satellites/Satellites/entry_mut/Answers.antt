@@ -29,5 +29,6 @@ returns c =
       within,
       there,
       left-at self.known c.self.invariant.2 self.placed self.live within c.number_at.ensures.value there,
-      stored-at self.known c.self.invariant.2 self.placed self.live within c.number_at.ensures.value there c.pair_mut-satellite.ensures.unique,
+      stored-at self.known c.self.invariant.2 self.placed self.live within c.number_at.ensures.value
+          there c.pair_mut-satellite.ensures.unique,
     )

@@ -19,5 +19,6 @@ loop-index-preserved c =
     let after : 41 + 3 * (index + 1) ≡ 41 + 3 * index + 3 = omega arith in
     rw (← c.self.view_is) (texts_more (λ (r : RowTail). r.name) (take 41 c.args.text.now) _ index
     (row_tail_of c.key_at-name.result c.key_at-name.ensures.there.0) so_far
-    (take (41 + 3 * (index + 1)) c.put_identifier.new.bytes) (rw (← c.self.view_is) at c.loop-index.invariant) at.there
+    (take (41 + 3 * (index + 1)) c.put_identifier.new.bytes)
+    (rw (← c.self.view_is) at c.loop-index.invariant) at.there
     (ap (λ n. take n c.put_identifier.new.bytes) after ∙ c.put_identifier.ensures.put))

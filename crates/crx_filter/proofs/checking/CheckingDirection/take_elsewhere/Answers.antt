@@ -1,6 +1,7 @@
 use Rattle.crx_filter.proofs.steps.CheckerSteps.{line-taken, noted-takes, refused-takes, nothing_kept}
 use Rattle.crx_filter.proofs.steps.CheckerSteps.{refused-reads}
-use Rattle.crx_filter.proofs.steps.{CheckerSteps.{step-counted, step-held, still-drained}, EngineAnswers.short-line}
+use Rattle.crx_filter.proofs.steps.CheckerSteps.{step-counted, step-held, still-drained}
+use Rattle.crx_filter.proofs.steps.EngineAnswers.{short-line}
 use Rattle.{crx_lines.specs.Reading.{line_shown}, std.proofs.lemmas.Result.err_from_is_err_and}
 use Rattle.crx_filter.proofs.checking.CheckingDirection.take_elsewhere.Goals as goal
 
@@ -11,8 +12,10 @@ returns-in_err-step c =
     let closed = rw (← c.self.view_is) at c.requires.closed in
     rw (← c.self.view_is, p.1, p.2, ← c.bytes.ensures.content) (record {
       takes = refused-takes (refused-reads _ c.self.inside.reader
-          c.take.new.self c.self.inside.noted.totals c.bytes.result.now _ _ c.in_err-step.ensures.reads.same closed
-          (c.in_err-step.ensures.reads.refuses nothing_kept) (still-drained c.self.inside.handed_out _ _ drained));
+          c.take.new.self c.self.inside.noted.totals c.bytes.result.now _ _
+          c.in_err-step.ensures.reads.same closed
+          (c.in_err-step.ensures.reads.refuses nothing_kept)
+          (still-drained c.self.inside.handed_out _ _ drained));
     })
 
 pub note-requires-clause-held : goal.note-requires-clause-held

@@ -1,10 +1,14 @@
-use Rattle.crx_filter.proofs.{Checkers.{begun-printed, copied-printed, first-line, none-passed}, Reports.version-same}
+use Rattle.crx_filter.proofs.Checkers.{begun-printed, copied-printed, first-line, none-passed}
+use Rattle.crx_filter.proofs.Reports.{version-same}
 use Rattle.crx_filter.proofs.Checkers.{unclocked-printed}
-use Rattle.crx_filter.proofs.Words.{◌≡◌, ◌∙◌, ◌||◌, ◌&&◌, not, ap, sym, subst, arith, bytes_eq, columns, common_steps}
-use Rattle.crx_filter.proofs.Words.{ℕ, Bool, false, Option, Some, is_some, without_end_blanks, last_line, earliest}
+use Rattle.crx_filter.proofs.Words.{◌≡◌, ◌∙◌, ◌||◌, ◌&&◌, not, ap, sym, subst}
+use Rattle.crx_filter.proofs.Words.{arith, bytes_eq, columns, common_steps}
+use Rattle.crx_filter.proofs.Words.{ℕ, Bool, false, Option, Some, is_some}
+use Rattle.crx_filter.proofs.Words.{without_end_blanks, last_line, earliest}
 use Rattle.crx_filter.proofs.Words.{Begun, Made, ObservationEpoch, OpenEpoch}
 use Rattle.crx_filter.proofs.Words.{printed_made, reader_phase, RinexReader, TakesRinexLine}
-use Rattle.crx_filter.specs.{CheckByLine.totals_made, CompactionByLine.is_before_header, Totals.{HasPrinted, totals_held}}
+use Rattle.crx_filter.specs.{CheckByLine.totals_made, CompactionByLine.is_before_header}
+use Rattle.crx_filter.specs.Totals.{HasPrinted, totals_held}
 use Rattle.crx_filter.proofs.checking.Noted.note.Goals.{After-is_some, in-Header-true, in-Event}
 use Rattle.crx_filter.proofs.checking.Noted.note.Goals.{in-Begun+in-Some+then-is_none}
 use Rattle.crx_filter.proofs.checking.Noted.note.Goals.{in-Begun+in-Some+else-is_none}
@@ -21,9 +25,11 @@ unreachable-requires c = grind (arith, common_steps, c.requires.held c.in-Begun.
 -- the line has begun an epoch
 begun : (c : After-is_some) (before : RinexReader) (made : Made ObservationEpoch OpenEpoch)
     → TakesRinexLine made before (line_shown c.args.line).content c.args.step c.args.reader.now
-    → c.args.step ≡ Begun → TakesRinexLine made before (line_shown c.args.line).content Begun c.args.reader.now
+    → c.args.step ≡ Begun
+    → TakesRinexLine made before (line_shown c.args.line).content Begun c.args.reader.now
 begun c before made takes is =
-    subst (λ step. TakesRinexLine made before (line_shown c.args.line).content step c.args.reader.now) is takes
+    subst (λ step. TakesRinexLine made before (line_shown c.args.line).content step c.args.reader.now)
+    is takes
 
 -- whether printing gives the line back was answered
 abbrev IsGivenBack : After-is_some → Made ObservationEpoch OpenEpoch → Type 0
@@ -51,7 +57,8 @@ adds c before made takes = elim c.match-step.branch [
   | in-Begun+in-Some+then-is_none w ↦
       let columns_are = w.end_trimmed.ensures.value
       ∙ ap (λ h. without_end_blanks (columns h 1 HEAD_WIDTH)) w.columns.ensures.value in
-      let printed = unclocked-printed made before c.args.reader.now (line_shown c.args.line).content w.in-Some.head
+      let printed =
+      unclocked-printed made before c.args.reader.now (line_shown c.args.line).content w.in-Some.head
       (begun c before made takes w.in-Begun.is) w.in-Some.is w.clock.result w.clock.ensures.value
       (w.is_none.ensures ∙ ap not w.if-is_none.true) w.columns.ensures.sound.width _ columns_are in
       let back : IsGivenBack c made =
@@ -61,7 +68,8 @@ adds c before made takes = elim c.match-step.branch [
         | else-is_in_epoch v ↦ (grind (arith, common_steps), grind (arith, common_steps), λ some. back)
       ]
   | in-Begun+in-Some+else-is_none w ↦
-      let printed = begun-printed made before c.args.reader.now (line_shown c.args.line).content w.in-Some.head
+      let printed =
+      begun-printed made before c.args.reader.now (line_shown c.args.line).content w.in-Some.head
       (begun c before made takes w.in-Begun.is) w.in-Some.is ∙ sym w.print_head.ensures.value
       ∙ sym w.bytes-else-is_none-2.ensures.value in
       let back : IsGivenBack c made =

@@ -1,12 +1,17 @@
-use Rattle.crx_filter.proofs.Words.{common_steps, arith, ap, refl, sym, ◌∙◌, ◌≡◌, ◌+◌, true, false, Choices, Header}
+use Rattle.crx_filter.proofs.Words.{common_steps, arith, ap, refl, sym, ◌∙◌}
+use Rattle.crx_filter.proofs.Words.{◌≡◌, ◌+◌, true, false, Choices, Header}
 use Rattle.{crx_filter.proofs.Words.is_at_every, crx_compact.specs.Encoding.EncoderState}
-use Rattle.crx_filter.proofs.steps.CompactionKnows.{compaction_of, copied-takes, ended-takes, kept_in, moved-takes}
-use Rattle.crx_filter.proofs.steps.{CompactionKnows.refused-takes, CompactionSteps.{copied-closed, is_copied, is_first_line}}
+use Rattle.crx_filter.proofs.steps.CompactionKnows.{compaction_of, copied-takes}
+use Rattle.crx_filter.proofs.steps.CompactionKnows.{ended-takes, kept_in, moved-takes}
+use Rattle.crx_filter.proofs.steps.CompactionKnows.{refused-takes}
+use Rattle.crx_filter.proofs.steps.CompactionSteps.{copied-closed, is_copied, is_first_line}
 use Rattle.crx_filter.proofs.steps.Together.{begun-asked, begun-holds, begun-open, begun-rows}
 use Rattle.crx_filter.proofs.steps.Together.{begun-together, begun-whole, closed-together, none-there}
 use Rattle.crx_filter.proofs.steps.Together.{same-together, served-closed, served-open}
 use Rattle.{crx_filter.proofs.compaction.CompactionDirection.take_elsewhere.Goals.{After-begin, After-reset}}
-use Rattle.crx_filter.proofs.compaction.CompactionDirection.take_elsewhere.Goals.{in_default-via-in-Header+else-this}
+use Rattle.crx_filter.proofs.compaction.CompactionDirection.take_elsewhere.Goals.{
+  in_default-via-in-Header+else-this,
+}
 use Rattle.crx_filter.proofs.compaction.CompactionDirection.take_elsewhere.Goals.{in_default-via-in_default}
 use Rattle.{crx_lines.specs.Reading.line_shown}
 use Rattle.std.proofs.lemmas.Result.{err_from_is_err_and}
@@ -31,7 +36,8 @@ returns-in_err-take c =
     let closed = rw (← c.self.view_is, ← read.same.stage) at c.requires.closed in
     rw (← c.self.view_is, p.1, p.2) (record {
       takes = refused-takes _ _ (compaction_of was.index was.reader was.encoder)
-          (compaction_of was.index c.take.new.self was.encoder) (line_shown c.args.line) _ (read.refuses (kept_in was))
+          (compaction_of was.index c.take.new.self was.encoder) (line_shown c.args.line) _
+          (read.refuses (kept_in was))
           (λ lacks room. room.types lacks.0 lacks.1) read.same.types refl (λ name count has. has)
           (λ choices chosen. served-closed _ _ _ closed) drained;
     })
@@ -44,7 +50,8 @@ invariant_of-self-in-Nothing-1 c =
 pub returns-in-Nothing : goal.returns-in-Nothing
 returns-in-Nothing c =
     let was = c.self.inside in
-    let takes = rw (c.in-Nothing.is, c.bytes.ensures.content) at (c.in_ok-take.ensures.reads.takes (kept_in was)) in
+    let takes =
+    rw (c.in-Nothing.is, c.bytes.ensures.content) at (c.in_ok-take.ensures.reads.takes (kept_in was)) in
     let drained = rw (← c.self.view_is) at c.requires.asked.drained in
     rw (← c.self.view_is) (record {
       takes = moved-takes _ _ (compaction_of was.index was.reader was.encoder)
@@ -59,14 +66,17 @@ invariant_of-self-then-is_in_epoch c =
 pub returns-then-is_in_epoch : goal.returns-then-is_in_epoch
 returns-then-is_in_epoch c =
     let was = c.self.inside in
-    let takes = rw (c.in-Begun.is, c.bytes.ensures.content) at (c.in_ok-take.ensures.reads.takes (kept_in was)) in
+    let takes =
+    rw (c.in-Begun.is, c.bytes.ensures.content) at (c.in_ok-take.ensures.reads.takes (kept_in was)) in
     let begun = c.begin.ensures.begun in
     let opened = sym c.is_in_epoch.ensures.value ∙ c.if-is_in_epoch.true in
     rw (← c.self.view_is) (record {
       takes = moved-takes _ _ (compaction_of was.index was.reader was.encoder)
-          (compaction_of was.index c.take.new.self c.begin.new.self) (line_shown c.args.line) _ c.args.line.short
+          (compaction_of was.index c.take.new.self c.begin.new.self)
+          (line_shown c.args.line) _ c.args.line.short
           (rw begun (λ name count has. has)) (begun-open _ _ _ takes opened) (rw begun refl)
-          (λ choices chosen. served-open _ _ _ (due (goal.at.returns-then-is_in_epoch c).After-begin choices chosen))
+          (λ choices chosen.
+          served-open _ _ _ (due (goal.at.returns-then-is_in_epoch c).After-begin choices chosen))
           (ap (λ (e : EncoderState). e.pending) begun);
     })
 
@@ -88,7 +98,8 @@ invariant_of-self-in-Begun-1 c =
 pub returns-else-is_in_epoch : goal.returns-else-is_in_epoch
 returns-else-is_in_epoch c =
     let was = c.self.inside in
-    let takes = rw (c.in-Begun.is, c.bytes.ensures.content) at (c.in_ok-take.ensures.reads.takes (kept_in was)) in
+    let takes =
+    rw (c.in-Begun.is, c.bytes.ensures.content) at (c.in_ok-take.ensures.reads.takes (kept_in was)) in
     let begun = c.begin.ensures.begun in
     let done = begun-whole _ _ _ takes (sym c.is_in_epoch.ensures.value ∙ c.if-is_in_epoch.false) in
     let ends = c.end_epoch.ensures.ends done.head done.held in
@@ -108,17 +119,20 @@ invariant_of-self-then-this c =
 pub returns-in-Header-true : goal.returns-in-Header-true
 returns-in-Header-true c =
     let was = c.self.inside in
-    let takes = rw (c.in-Header-true.is, c.bytes.ensures.content) at (c.in_ok-take.ensures.reads.takes (kept_in was)) in
+    let takes = rw (c.in-Header-true.is, c.bytes.ensures.content)
+    at (c.in_ok-take.ensures.reads.takes (kept_in was)) in
     rw (← c.self.view_is) (record {
       takes = copied-takes _ _ (compaction_of was.index was.reader was.encoder)
           (compaction_of was.index c.take.new.self c.put_first_lines.new.self) (line_shown c.args.line) _
-          c.args.line.short (rw c.put_first_lines.ensures.put (λ name count has. has)) (Header c.in-Header-true.is_first)
+          c.args.line.short (rw c.put_first_lines.ensures.put (λ name count has. has))
+          (Header c.in-Header-true.is_first)
           c.date.result.now refl takes (λ choices chosen. rw chosen (sym c.date.ensures.value))
           (rw (c.in-Header-true.is_first-test, c.put_first_lines.ensures.put) refl) refl;
     })
 
 -- the line is one that is copied, and not the header's first one
-is-copied : (c : After-reset) → (is_copied c.in_ok-take.field-0 ≡ true) × (is_first_line c.in_ok-take.field-0 ≡ false)
+is-copied : (c : After-reset)
+    → (is_copied c.in_ok-take.field-0 ≡ true) × (is_first_line c.in_ok-take.field-0 ≡ false)
 is-copied c = elim c.in_default.branch [
   | in_default-via-in-Header+else-this w ↦ grind (arith, common_steps)
   | in_default-via-in_default w ↦ grind (arith, common_steps)

@@ -1,6 +1,7 @@
 use Rattle.crx_filter.proofs.Words.{ap, refl, ◌+◌, ◌∙◌, None}
 use Rattle.crx_compact.specs.Encoding.{EncoderState}
-use Rattle.crx_filter.proofs.steps.CompactionKnows.{compaction_of, ended-takes, kept_in, moved-takes, refused-takes}
+use Rattle.crx_filter.proofs.steps.CompactionKnows.{compaction_of, ended-takes}
+use Rattle.crx_filter.proofs.steps.CompactionKnows.{kept_in, moved-takes, refused-takes}
 use Rattle.crx_filter.proofs.steps.Together.{closed-together, due-there, row-asked, row-ends, row-moves}
 use Rattle.crx_filter.proofs.steps.Together.{row-together, served-open}
 use Rattle.{crx_lines.specs.Reading.line_shown, std.proofs.lemmas.Result.err_from_is_err_and}
@@ -14,7 +15,8 @@ returns-in_err-is_last c =
     let row = rw c.padded.ensures.content at c.in_err-is_last.ensures.refused in
     rw (← c.self.view_is, p.1, p.2) (record {
       takes = refused-takes _ _ (compaction_of was.index was.reader was.encoder)
-          (compaction_of was.index c.compact_row.new.reader c.compact_row.new.encoder) (line_shown c.args.line) _
+          (compaction_of was.index c.compact_row.new.reader c.compact_row.new.encoder)
+          (line_shown c.args.line) _
           (row.refuses (kept_in was)) (λ lacks room. lacks (room.row opened)) row.types refl row.kept
           (λ choices chosen. row.full _ chosen) row.nothing;
     })
@@ -33,7 +35,8 @@ returns-then-not-is_last c =
     let moves = row-moves row (kept_in was) c.if-not-is_last.true in
     rw (← c.self.view_is) (record {
       takes = moved-takes _ _ (compaction_of was.index was.reader was.encoder)
-          (compaction_of was.index c.compact_row.new.reader c.compact_row.new.encoder) (line_shown c.args.line) _
+          (compaction_of was.index c.compact_row.new.reader c.compact_row.new.encoder)
+          (line_shown c.args.line) _
           c.args.line.short row.kept moves.0
           (ap (λ (e : EncoderState). record { index = was.index; tail = e.before }) row.written)
           (λ choices chosen. served-open _ _ _ (ap (λ (e : EncoderState). e.in_full) row.written
@@ -44,7 +47,9 @@ returns-then-not-is_last c =
 pub end_epoch-requires : goal.end_epoch-requires
 end_epoch-requires c =
     let opened = rw (← c.self.view_is) at c.requires.open in
-    record { whole = row-asked c.in_ok-is_last.ensures.written c.self.invariant opened c.if-not-is_last.false }
+    record {
+      whole = row-asked c.in_ok-is_last.ensures.written c.self.invariant opened c.if-not-is_last.false;
+    }
 
 pub invariant_of-self-2 : goal.invariant_of-self-2
 invariant_of-self-2 c =
@@ -62,7 +67,8 @@ returns c =
     let ends = c.end_epoch.ensures.ends done.head done.held in
     rw (← c.self.view_is) (record {
       takes = ended-takes _ _ (compaction_of was.index was.reader was.encoder)
-          (compaction_of (was.index + 1) c.compact_row.new.reader c.end_epoch.new.encoder) (line_shown c.args.line) _
+          (compaction_of (was.index + 1) c.compact_row.new.reader c.end_epoch.new.encoder)
+          (line_shown c.args.line) _
           c.args.line.short (rw ends.rooms row.kept) done c.compact_row.new.encoder
           (λ choices chosen. ap (λ (e : EncoderState). e.in_full) row.written ∙ due-there _ _ _ opened chosen)
           (ap (λ (e : EncoderState). e.before) row.written) (ap (λ (e : EncoderState). e.rows) row.written)

@@ -2,7 +2,8 @@ use Rattle.crx_filter.proofs.Words.{common_steps, arith, sym, ◌∙◌, ◌≡�
 use Rattle.crx_filter.proofs.steps.EngineAnswers.{goes-on}
 use Rattle.crx_filter.proofs.steps.EngineFaults.{ends-failed, ends-skipped, ends-well}
 use Rattle.crx_filter.proofs.engine.LineEngine.end.{Given.Over, Goals.{After-conclude, After-stage-stage}}
-use Rattle.crx_filter.specs.{DirectionParts.{DirectionParts, EngineParts, answer_for}, EngineSteps.answer_of_step}
+use Rattle.crx_filter.specs.DirectionParts.{DirectionParts, EngineParts, answer_for}
+use Rattle.crx_filter.specs.EngineSteps.{answer_of_step}
 use Rattle.crx_filter.specs.{EngineState.{EngineGoes, TakesEnd, engine_state}, LineByLine.state_end_with}
 use Rattle.crx_filter.specs.declared.engine.LineEngine.TheInside.{Inside}
 use Rattle.crx_runs.specs.declared.engine.Step.{Step}

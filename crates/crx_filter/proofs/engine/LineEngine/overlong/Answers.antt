@@ -1,6 +1,7 @@
 use Rattle.crx_filter.proofs.Words.{common_steps, arith, ap, refl, ◌∙◌, sym, ◌+◌, inl, List, [], ℕ, LineStep}
 use Rattle.crx_filter.proofs.Words.{step_made, LineTooLong, Overlong}
-use Rattle.crx_filter.proofs.steps.{EngineAnswers.{as-read-long, goes-on}, EngineFaults.{long-next, none-handed, refused-takes}}
+use Rattle.crx_filter.proofs.steps.EngineAnswers.{as-read-long, goes-on}
+use Rattle.crx_filter.proofs.steps.EngineFaults.{long-next, none-handed, refused-takes}
 use Rattle.crx_filter.specs.{DirectionParts.EngineParts, EngineState.engine_state}
 use Rattle.crx_filter.proofs.engine.LineEngine.overlong.Goals as goal
 

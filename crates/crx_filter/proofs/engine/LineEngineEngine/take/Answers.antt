@@ -1,6 +1,7 @@
 use Rattle.crx_filter.proofs.{Words.{Content, refl}, steps.EngineAnswers.{as-read-within, line-answered}}
 use Rattle.crx_filter.proofs.steps.StepCounts.{answers-counted, has-stepped, steps-counted}
-use Rattle.{crx_filter.specs.EngineState.{engine_ready, engine_state, engine_took}, crx_lines.specs.Reading.line_shown}
+use Rattle.crx_filter.specs.EngineState.{engine_ready, engine_state, engine_took}
+use Rattle.crx_lines.specs.Reading.{line_shown}
 use Rattle.crx_runs.specs.Engines.{lines_handed_out}
 use Rattle.crx_filter.proofs.engine.LineEngineEngine.take.Goals as goal
 

@@ -8,5 +8,6 @@ use Rattle.std.proofs.lemmas.Grind.{common_steps}
 pub returns-clause-stays : goal.returns-clause-stays
 returns-clause-stays c =
     let emptied = c.reset.ensures.emptied in
-    let same = ap (λ (h : HeldColumns). h.rooms) emptied ∙ ap (λ (h : HeldColumns). h.rooms) c.deref_mut.ensures.value in
+    let same = ap (λ (h : HeldColumns). h.rooms) emptied
+    ∙ ap (λ (h : HeldColumns). h.rooms) c.deref_mut.ensures.value in
     grind (arith, common_steps, emptied, same, nothing-held c.reset.new.self)

@@ -21,7 +21,8 @@ returns-in-Ok-read-clause-ok g c =
       length-take-le c.in-Ok-read.count _ c.in-Ok-read.ensures.bound,
       omega (arith, c.in-Ok-read.ensures.bound, c.read-2.auto.buffer, c.min-room.ensures),
       grown w.bytes.items c.read-2.new.buffer w.start w.end _ _ c.in-Ok-read.count w.ordered within
-          c.in-Ok-read.ensures.bound refl ∙ ap (λ l. l ++ more) (c.use_more.ensures.kept ∙ c.move_to_front.ensures.kept),
+          c.in-Ok-read.ensures.bound refl
+          ∙ ap (λ l. l ++ more) (c.use_more.ensures.kept ∙ c.move_to_front.ensures.kept),
       c.in-Ok-read.ensures.bytes,
     )
 

@@ -58,14 +58,17 @@ add_call_spec 𝓤 𝓛 𝓜 𝓡 wired =
     let at : List Val × (List Val × (List Val × Unit {0})) = (vptr b o ∷ [], (s ∷ [], (r ∷ [], tt))) in
     let Post : Val → SProp 𝓤 = (walk_of 𝓛 it.ended stayed c).post ((κs, qs, bounds, a, at), g) in
     qed 𝓛 (((‵ (flft κs.0 qs.0) ⊛ (‵ (flft κs.1.0 qs.1.0) ⊛ (‵ (flft κs.1.1.0 qs.1.1.0) ⊛ ‵ ftrue))) ⊛ ‵
-    (owns (MutRef (named 0) κs.0 T.the_row ∷ ShrSlice (named 1) κs.1.0 u8 ∷ ShrRef (named 2) κs.1.1.0 How.the_row ∷ []) a at)) ∷ raw
+    (owns (MutRef (named 0) κs.0 T.the_row ∷ ShrSlice (named 1) κs.1.0 u8
+    ∷ ShrRef (named 2) κs.1.1.0 How.the_row ∷ []) a at)) ∷ raw
     ((c κs a).requires g) ∷ []) ∵ split ! $ split ! $ move ! (2 ∷ []) $ fsplit ! $ fsplit3 ! $ drop ! $ move !
     (0 ∷ 1 ∷ 3 ∷ []) $ enter ! 𝓣.C 𝓣.Λ code.function (vptr b o ∷ s ∷ r ∷ []) Post $ alloc_all !
-    (λ l. pass_all ! refl ((tt, tt), ((tt, (tt, (record { fits = are.1.0.0.1.0 }, tt))), ((tt, tt), tt))) $ move !
+    (λ l. pass_all ! refl ((tt, tt), ((tt, (tt, (record { fits = are.1.0.0.1.0 }, tt))), ((tt, tt), tt)))
+    $ move !
     (0 ∷ 1 ∷ 2 ∷ []) $ opens ! tt T.the_row {h = h} b o (λ vs. sets ! (of_opd ! (unit_lit !)) refl
     (tt, tt) $ move ! (1 ∷ []) $ use1 𝓛 (‵ ((T.the_row).own_val h' vs)) (id⊢ 𝓤 _) $ move ! (1 ∷ 0 ∷ [])
     $ closes ! tt T.the_row h' vs b o $ returns ! (look_at ! 0 refl) $ free_all ! refl $ keep !
     (0 ∷ 1 ∷ 2 ∷ 3 ∷ 4 ∷ []) $ suffices ! _
-    (ends_at 𝓛 it.ended stayed c ((κs, qs, bounds, a, at), g) vunit tt (h', (tt, (tt, tt))) (tt, (tt, (tt, tt)))) $ says !
+    (ends_at 𝓛 it.ended stayed c ((κs, qs, bounds, a, at), g) vunit tt (h', (tt, (tt, tt)))
+    (tt, (tt, (tt, tt)))) $ says !
     refl $ move ! (2 ∷ 4 ∷ []) $ join ! $ frame ! $ feq_i ! (List Val) (vptr b o ∷ []) (vptr b o ∷ []) refl $
     fjoin3 ! $ fjoin ! $ feq_i ! (List Val) (vunit ∷ []) (vunit ∷ []) refl $ move ! (1 ∷ 0 ∷ []) $ done !)))

@@ -9,7 +9,8 @@ use Rattle.crx_tests.proofs.failures.stepwise.take_steps.Goals as goal
 -- what a step does, by the filter that the engine had at first
 goes : (g : Over) (c : After-step g) → StepGoes (g.E.Engine.filter c.in_ok-run.run'.engine)
     (g.E.Engine.shows c.step.new.self.engine) (reader_span g.R.Source c.args.reader.now c.step.new.reader)
-    (span g.W.Sink c.args.writer.now c.step.new.writer) (span g.M.Sink c.args.messages.now c.step.new.messages)
+    (span g.W.Sink c.args.writer.now c.step.new.writer)
+    (span g.M.Sink c.args.messages.now c.step.new.messages)
     (reading c.step.new.self.input) c.steps.invariant.0.0 c.step.result
 goes = grind arith
 

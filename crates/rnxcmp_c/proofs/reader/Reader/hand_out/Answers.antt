@@ -1,4 +1,5 @@
-use Rattle.rnxcmp_c.proofs.{TakenLemmas.taken-stands, Words.{take, rules, sym, ap, ◌∙◌, ◌++◌, take-append-drop}}
+use Rattle.rnxcmp_c.proofs.TakenLemmas.{taken-stands}
+use Rattle.rnxcmp_c.proofs.Words.{take, rules, sym, ap, ◌∙◌, ◌++◌, take-append-drop}
 use Rattle.rnxcmp_c.proofs.reader.Reader.hand_out.Goals as goal
 use Rattle.std.proofs.Common.{arith}
 use Rattle.std.proofs.lemmas.Grind.{common_steps}
