@@ -83,7 +83,7 @@ IsSettled writer messages made (Err halt) =
 
 -- what became of a line, or what ended the run, where that was stored
 abbrev pub with_halt : LineOutcome → Halt → Result Bool Halt
-with_halt outcomes.Quiet halt = Ok false
+with_halt outcomes.Taken halt = Ok false
 with_halt outcomes.Warned halt = Ok true
 with_halt outcomes.Stopped halt = Err halt
 

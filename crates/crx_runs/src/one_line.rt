@@ -41,7 +41,7 @@ impl From<At> for Halt {
 #[derive(Clone, Copy, Debug, PartialEq, Eq)]
 pub enum LineOutcome {
     /// It was taken, and had no warning.
-    Quiet,
+    Taken,
     /// It was taken, and its warning was reported.
     Warned,
     /// The run ended.
@@ -54,7 +54,7 @@ impl LineOutcome {
         ensures value { result ≡ with_halt self halt }
     {
         match self {
-            LineOutcome::Quiet => Ok(false),
+            LineOutcome::Taken => Ok(false),
             LineOutcome::Warned => Ok(true),
             LineOutcome::Stopped => Err(halt),
         }
@@ -66,7 +66,7 @@ fn stored(answer: Result<bool, Halt>, halt: &mut Halt) -> LineOutcome
     ensures { with_halt result halt.new ≡ answer }
 {
     match answer {
-        Ok(false) => LineOutcome::Quiet,
+        Ok(false) => LineOutcome::Taken,
         Ok(true) => LineOutcome::Warned,
         Err(by) => {
             *halt = by;
@@ -126,9 +126,9 @@ pub fn take_line<E: Engine, W: Sink, M: Sink>(
     ensures order { KeepsOrder W.Sink writer.old writer.new messages.old messages.new }
 {
     match engine.take(line) {
-        Some(HandedOut::Nothing) => LineOutcome::Quiet,
+        Some(HandedOut::Nothing) => LineOutcome::Taken,
         Some(handed_out) => match write_handed_out(engine, writer, line.bytes(), handed_out) {
-            Ok(()) => LineOutcome::Quiet,
+            Ok(()) => LineOutcome::Taken,
             Err(_) => {
                 *halt = Halt::Unwritten;
                 LineOutcome::Stopped

@@ -47,7 +47,7 @@ pub(crate) fn take_all<E: Engine, R: Source, W: Sink, M: Sink>(
     let mut halt = Halt::Unwritten;
     'lines: loop {
         match step(engine, input, reader, writer, messages, &mut halt) {
-            Some(LineOutcome::Quiet) => {}
+            Some(LineOutcome::Taken) => {}
             Some(LineOutcome::Warned) => warned = true,
             Some(LineOutcome::Stopped) => {
                 return Work {

@@ -17,10 +17,10 @@ goes g c = rw (c.lines.invariant.2) at (c.step.ensures.goes c.args.reader.now c.
     c.args.messages.now c.lines.invariant.0.0 c.lines.invariant.0.1
     (rw (c.lines.invariant.2) c.lines.invariant.0.2))
 
-pub lines-preserved-in-Some-Quiet : goal.lines-preserved-in-Some-Quiet
-lines-preserved-in-Some-Quiet g c =
-    let by = rw (c.in-Some-Quiet.is, c.in-Some-Quiet.field-0-is) at
-    (goes g (goal.at.lines-preserved-in-Some-Quiet g c).After-step) in
+pub lines-preserved-in-Some-Taken : goal.lines-preserved-in-Some-Taken
+lines-preserved-in-Some-Taken g c =
+    let by = rw (c.in-Some-Taken.is, c.in-Some-Taken.field-0-is) at
+    (goes g (goal.at.lines-preserved-in-Some-Taken g c).After-step) in
     let both : c.lines.warned ≡ (c.lines.warned || false) = grind arith in
     grind (arith, common_steps, by, go-on c.lines.invariant.0.3 by both)
 
