@@ -1,6 +1,7 @@
 pub mod Words
 pub mod arcs
 pub mod CellsRead
+pub mod CellsWritten
 pub mod PlaceByPlace
 pub mod SameTexts
 pub mod Making

@@ -30,6 +30,10 @@ const NEAR_LIMIT: usize = WRITTEN_ORDER as usize + 1;
 /// How many of them are in its second part.
 const FAR_LIMIT: usize = KEPT_LIMIT - NEAR_LIMIT;
 
+/// The order 3 and a count of four differences, as two bytes of one number: nearly all arcs have these from
+/// their fourth value on.
+const THIRD: u16 = 0x0403;
+
 /// The arc of an observation, in thousandths of its unit.
 pub type ObsArc = Arc<OBSERVATION_WIDTH>;
 
@@ -59,7 +63,7 @@ impl<const WIDTH: usize> Model for Arc<WIDTH> {
 /// and written in 40 bytes each.
 #[derive(Drop)]
 pub(crate) struct Near<const WIDTH: usize> {
-    // These two are compared as one number (`is_third`).
+    // These two are compared as one number ([`THIRD`]).
     order: u8,
     count: u8,
     differences: [i64; NEAR_LIMIT],
@@ -235,15 +239,6 @@ fn value_apart(near: &[i64; NEAR_LIMIT], far: &[i64; FAR_LIMIT], order: usize, n
     value_after(&joined(near, far)[..order], number)
 }
 
-/// Whether an arc of this order, with so many differences, has order 3 and four of them, as nearly all arcs
-/// have from their fourth value on. The two numbers are compared as one.
-#[inline(always)]
-fn is_third(order: u8, count: u8) -> bool
-    ensures third { IsTrue result ↔ ((order ≡ 3) × (count ≡ 4)) }
-{
-    u16::from_le_bytes([order, count]) == u16::from_le_bytes([3, 4])
-}
-
 impl Far {
     /// Differences that mean nothing.
     pub(crate) fn new() -> Self {
@@ -312,7 +307,7 @@ impl<const WIDTH: usize> Near<WIDTH> {
             → whole_arc self.new far ≡ arc_of_value (Some value) (whole_arc self.old far)) }
         ensures none { IfNone result ((self.new ≡ self.old) × (HasThird self.old → ⊥)) }
     {
-        if !is_third(self.order, self.count) {
+        if u16::from_le_bytes([self.order, self.count]) != THIRD {
             return None;
         }
         let first = value - self.differences[0];
@@ -380,7 +375,7 @@ impl<const WIDTH: usize> Near<WIDTH> {
         ensures none { IfNone result ((self.new ≡ self.old) × (HasThird self.old → (far : List ℤ)
             → value_of_code WIDTH (Step number) (whole_arc self.old far) ≡ Err OutOfRange)) }
     {
-        if !is_third(self.order, self.count) {
+        if u16::from_le_bytes([self.order, self.count]) != THIRD {
             return None;
         }
         let second = self.differences[2] + number;

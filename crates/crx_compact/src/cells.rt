@@ -27,9 +27,8 @@ use crx_text::{
 pub const CELL_ROOM: usize = DIGITS_LIMIT + 6;
 
 /// Writes the code of an arc's next value and a blank from an index on, gives the index after them, and the
-/// arc goes on. It is called for the few values that [`write_value_fast`] doesn't write itself. It is given
-/// all second parts and an index, since a loop that had the second part of each value would count on its
-/// place.
+/// arc goes on. It is called for the few values whose code isn't a difference of order 3. It is given all
+/// second parts and an index, since a loop that had the second part of each value would count on its place.
 #[cold]
 #[inline(never)]
 fn write_value(
@@ -49,36 +48,6 @@ fn write_value(
 {
     let code = near.push(&mut far[index], Some(value));
     write_cell(bytes, at, code)
-}
-
-/// Does what [`write_value`] does, where there may be no value. Most values are missing, or have a difference
-/// of order 3 as their code: these two are written here, without a call and without asking which code it is,
-/// and only the others by a call.
-#[inline(always)]
-fn write_value_fast(
-    near: &mut Near<OBSERVATION_WIDTH>,
-    far: &mut [Far],
-    index: usize,
-    value: Option<i64>,
-    bytes: &mut [u8],
-    at: usize,
-) -> usize
-    requires value { IsValue value }
-    requires within { index < length far.old }
-    requires room { at + CELL_ROOM ≤ length bytes.old }
-    ensures written { IsCellWritten value (whole_arc near.old (slice_index_or far.old index []))
-        (whole_arc near.new (slice_index_or far.new index [])) bytes.old at bytes.new result }
-    ensures others { far.new ≡ slice_set far.old index (slice_index_or far.new index []) }
-{
-    let Some(present) = value else {
-        near.end();
-        bytes[at] = b' ';
-        return at + 1;
-    };
-    match near.push_third(present) {
-        Some(difference) => write_difference(bytes, at, difference),
-        None => write_value(near, far, index, present, bytes, at),
-    }
 }
 
 /// Adds second parts of arcs, up to those of so many types, for which there is memory.
@@ -119,6 +88,9 @@ fn keep_arcs(near: &mut Vec<Near<OBSERVATION_WIDTH>>, far: &mut Vec<Far>, count:
 /// index after them, and the arcs go on. Each value fits its columns, the first `filled` may be there, all
 /// others are missing, and there are [`CELL_ROOM`] bytes for each. A type behind the arcs that are stored has
 /// one that is over. Part of its callers, as a call takes up to 23 instructions for each line.
+///
+/// Most values are missing, or have a difference of order 3 as their code: these two are written without a
+/// call and without asking which code it is.
 #[inline(always)]
 pub(crate) fn write_cells(
     near: &mut Vec<Near<OBSERVATION_WIDTH>>,
@@ -150,7 +122,17 @@ pub(crate) fn write_cells(
     let there = &values[..filled];
     let mut end = at;
     for index in 0..there.len() {
-        end = write_value_fast(&mut near[index], far, index, there[index], bytes, end);
+        let near = &mut near[index];
+        let Some(value) = there[index] else {
+            near.end();
+            bytes[end] = b' ';
+            end += 1;
+            continue;
+        };
+        end = match near.push_third(value) {
+            Some(difference) => write_difference(bytes, end, difference),
+            None => write_value(near, far, index, value, bytes, end),
+        };
     }
     let blanks = end + (values.len() - filled);
     put_blanks(&mut bytes[end..blanks]);
