@@ -8,10 +8,12 @@ The program is the static one that `make dist` links, unless another is named. A
 if it has one, check. For times, all programs run one after the other in each round, each way, with their output to /dev/null: what is printed
 is the least user and system time, on files of --megabytes where a form has a size. What is counted is counted by callgrind (valgrind) on a
 megabyte, and doesn't change with the machine's load. All that is a rate is of the bytes of RINEX. The compact text is the program's own, and
-has to expand to the file.
+has to expand to the file. A round has all inputs, so that each row meets the moments at which the machine is fast; the next one has them
+the other way round, since the first program that reads a file may wait for memory.
 """
 
 import argparse
+import math
 import os
 import subprocess
 import sys
@@ -21,6 +23,7 @@ from pathlib import Path
 HERE = Path(__file__).resolve().parent
 STATIC = HERE.parent / "out/machines/x86-64-v2/built/rnxcmp"
 WAYS = {"compacting": ["rnx2crx"], "expanding": ["crx2rnx"], "check": ["check"]}
+SMALL = 1e5  # bytes of a file below which each round times it ten times
 FEW = ["--interval", "1", "--bands", "1"]
 # Those of generate.py get a size; the others have their own.
 INPUTS = {
@@ -93,14 +96,19 @@ def greatest_memory(command, path):
     return int(state["VmHWM"].split()[0])
 
 
+def nanoseconds(command, path):
+    """The user and system time of a run; over a small file, the least of ten."""
+    usages = [used(command, path) for _ in range(10 if os.path.getsize(path) < SMALL else 1)]
+    return min(1e9 * (usage.ru_utime + usage.ru_stime) for usage in usages)
+
+
 def least(runs, rounds):
-    """The least nanoseconds of user and system time of each run, one after the other in each round."""
-    taken = [[] for _ in runs]
-    for _ in range(rounds + 1):  # the first brings the files into the page cache
-        for times, (command, path) in zip(taken, runs):
-            usage = used(command, path)
-            times.append(1e9 * (usage.ru_utime + usage.ru_stime))
-    return [min(times[1:]) for times in taken]
+    """The least nanoseconds of each run, one after the other in each round, every second time backwards."""
+    taken = [math.inf] * len(runs)
+    for at in range(rounds):
+        for number in range(len(runs)) if at % 2 else reversed(range(len(runs))):
+            taken[number] = min(taken[number], nanoseconds(*runs[number]))
+    return taken
 
 
 def counted(runs, _):
@@ -130,19 +138,23 @@ def shown(figure):
     return "" if figure is None else f"{figure:,.0f}" if figure >= 1000 else f"{figure:.3g}" if figure < 100 else f"{figure:.0f}"
 
 
-def measured(args, folder, measure, name):
-    """The figures of an input, for each table of a measure: of each way those of the program and the peers, None where a peer lacks the way."""
+def measured(args, folder, measure):
+    """Of each input its name, and its figures for each table of a measure: of each way those of the program and the peers, None where a
+    peer lacks the way."""
     function, is_large, tables = MEASURES[measure]
-    rinex, compact, size, lines = made(folder, name, args.megabytes if is_large else 1)
-    compacted(args.programs[0], rinex, compact)
-    runs = [([program, *words], compact if way == "expanding" else rinex) for way, words in WAYS.items() for program in args.programs]
-    good = [run for run in runs if used(*run)]
-    figures = iter(function(good, args.rounds * (10 if size < 1e5 and measure == "time" else 1)))
-    found = [next(figures) if run in good else (None,) * len(tables) for run in runs]
-    whole = {"bytes": size, "lines": lines, None: 1}
-    for at, (_, factor, unit) in enumerate(tables):
-        each = [figure[at] if isinstance(figure, tuple) else figure for figure in found]
-        yield [figure if figure is None else factor * figure / whole[unit] for figure in each]
+    inputs = []
+    for at, name in enumerate((*args.inputs, *args.files)):
+        (folder / str(at)).mkdir()
+        rinex, compact, size, lines = made(folder / str(at), name, args.megabytes if is_large else 1)
+        compacted(args.programs[0], rinex, compact)
+        runs = [([program, *words], compact if way == "expanding" else rinex) for way, words in WAYS.items() for program in args.programs]
+        inputs.append((name, runs, {"bytes": size, "lines": lines, None: 1}))
+    good = [run for _, runs, _ in inputs for run in runs if used(*run)]
+    figures = iter(function(good, args.rounds))
+    for name, runs, whole in inputs:
+        found = [next(figures) if run in good else (None,) * len(tables) for run in runs]
+        each = [[figure[at] if isinstance(figure, tuple) else figure for figure in found] for at in range(len(tables))]
+        yield name, [[it if it is None else factor * it / whole[unit] for it in row] for row, (_, factor, unit) in zip(each, tables)]
 
 
 def arguments():
@@ -153,7 +165,7 @@ def arguments():
     parser.add_argument("--inputs", nargs="*", default=list(INPUTS), choices=list(INPUTS), metavar="INPUT", help="these alone: " + ", ".join(INPUTS))
     parser.add_argument("--measures", nargs="+", default=list(MEASURES), choices=list(MEASURES), help="these alone")
     parser.add_argument("--megabytes", type=float, default=12, help="of the larger files that are timed (12)")
-    parser.add_argument("--rounds", type=int, default=21, help="how often each is timed (21); ten times as often below 100 KB")
+    parser.add_argument("--rounds", type=int, default=21, help="how often each is timed (21), the smaller files ten times as often")
     parser.add_argument("--readme", action="store_true", help="put the tables into README.md")
     args = parser.parse_args()
     args.programs = [str(Path(program).resolve()) for program in (args.program, *args.peer)]
@@ -180,14 +192,14 @@ def put(title, shown_table):
 def main():
     args = arguments()
     peers = ["peer"] if len(args.peer) == 1 else [Path(peer).resolve().parent.name for peer in args.peer]
-    with tempfile.TemporaryDirectory() as name:
-        for measure in args.measures:
-            rows = [(name_of, list(measured(args, Path(name), measure, name_of))) for name_of in (*args.inputs, *args.files)]
-            for at, (title, _, _) in enumerate(MEASURES[measure][2]):
-                one = table(title, peers, [(name_of, tables[at]) for name_of, tables in rows])
-                print(one, end="\n\n", flush=True)
-                if args.readme:
-                    put(title, one)
+    for measure in args.measures:
+        with tempfile.TemporaryDirectory() as folder:
+            rows = list(measured(args, Path(folder), measure))
+        for at, (title, _, _) in enumerate(MEASURES[measure][2]):
+            one = table(title, peers, [(name, figures[at]) for name, figures in rows])
+            print(one, end="\n\n", flush=True)
+            if args.readme:
+                put(title, one)
 
 
 if __name__ == "__main__":
