@@ -134,6 +134,11 @@ impl Head {
         let Some(count) = satellites_by_count(&head) else {
             return Err(Fault::BadEpoch);
         };
+        // Most lines end before the clock's columns, which takes 120 instructions less.
+        if line.len() <= HEAD_WIDTH {
+            let clock = None;
+            return Ok(Head::Epoch(EpochLine { head, count, clock }));
+        }
         if !all_blank(after_columns(line, HEAD_WIDTH + CLOCK_WIDTH)) {
             return Err(Fault::BadEpoch);
         }
