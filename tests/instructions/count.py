@@ -40,10 +40,10 @@ def instructions_of(command, given):
         return next(int(line.split()[1]) for line in Path(counts.name).read_text().splitlines() if line.startswith(("summary:", "totals:")))
 
 
-def counted(program, tool, rinex):
-    """How many instructions a tool takes over a file of RINEX, or over its compact text."""
-    given = rinex if tool != "crx2rnx" else subprocess.run([program, *TOOLS["rnx2crx"]], input=rinex, capture_output=True, check=True).stdout
-    return instructions_of([program, *TOOLS[tool]], given)
+def counted(program, words, rinex):
+    """How many instructions the program takes for some words over a file of RINEX, or over its compact text."""
+    given = rinex if words[0] != "crx2rnx" else subprocess.run([program, *TOOLS["rnx2crx"]], input=rinex, capture_output=True, check=True).stdout
+    return instructions_of([program, *words], given)
 
 
 def stored():
@@ -60,7 +60,7 @@ def main():
     lines = ["# Instructions, as `tests/instructions/count.py PROGRAM` counts them: an input, a tool and the count."]
     for name in INPUTS:
         rinex = made(name)
-        lines += [f"{name} {tool} {counted(program, tool, rinex)}" for tool in TOOLS]
+        lines += [f"{name} {tool} {counted(program, TOOLS[tool], rinex)}" for tool in TOOLS]
     STORED.write_text("\n".join(lines) + "\n")
     print("\n".join(lines))
     return 0
