@@ -123,7 +123,7 @@ impl History {
         let satellites = &mut self.satellites;
         let mut prepared = 0;
         while let Some(wanting) = epoch.row(prepared) {
-            satellites.prepare(wanting.name(), wanting.values().len())?;
+            satellites.prepare(wanting.name(), wanting.values().len(), 1)?;
             prepared += 1;
         }
         self.begin_rows(in_full);
@@ -182,7 +182,7 @@ impl History {
         let is_new = match self.satellites.place(name, count) {
             Some(is_new) => is_new,
             None => {
-                self.satellites.prepare(*name, count)?;
+                self.satellites.prepare(*name, count, 1)?;
                 self.satellites.bring(name, count).unwrap()
             }
         };

@@ -53,7 +53,7 @@ pub(crate) fn prepare_names(
     for place in 0..count {
         let name = identifier(text, HEAD_WIDTH + 1 + NAME_WIDTH * place);
         if let Some(cells) = types_of_satellite(types, &name) {
-            if satellites.prepare(name, cells).is_err() {
+            if satellites.prepare(name, cells, count - place).is_err() {
                 return Err(Fault::OutOfMemory);
             }
         }

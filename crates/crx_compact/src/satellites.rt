@@ -211,9 +211,15 @@ impl Satellites {
         true
     }
 
-    /// Asks for room for a satellite of so many types. No row changes, and after `Ok` it is known.
+    /// Asks for room for a satellite of so many types. No row changes, and after `Ok` it is known. It may be
+    /// the first of `more` that are asked for one after another: the map grows once for all of these.
     #[inline(never)]
-    pub(crate) fn prepare(&mut self, name: [u8; NAME_WIDTH], count: usize) -> Result<(), AllocError>
+    pub(crate) fn prepare(
+        &mut self,
+        name: [u8; NAME_WIDTH],
+        count: usize,
+        more: usize,
+    ) -> Result<(), AllocError>
         requires allowed { count ≤ TYPES_LIMIT }
         ensures asked { AsksRoom (HasRoom name count) self.old self.new result }
         ensures known { HasRoom name count self.old.rooms → IsOk result }
@@ -226,6 +232,7 @@ impl Satellites {
             &mut self.places,
             near,
             name,
+            more,
             self.alloc,
         )?;
         self.hints[mark] = u16::try_from(found).unwrap_or(0);
@@ -313,13 +320,15 @@ fn find(
 }
 
 /// The index of the satellite with an identifier, which is added behind the others where it isn't known. It
-/// is looked for at one index first. All memory is asked for before anything changes.
+/// is looked for at one index first. All memory is asked for before anything changes: that of the map for
+/// `more`, where it has no place to spare.
 fn find_or_add(
     map: &mut IndexMap<[u8; NAME_WIDTH], SatelliteHistory>,
     order: &mut Vec<usize>,
     places: &mut Vec<usize>,
     near: usize,
     name: [u8; NAME_WIDTH],
+    more: usize,
     alloc: Global,
 ) -> Result<usize, AllocError>
     requires order { IsOrder order.old.items places.old.items (length map.old.entries) }
@@ -337,6 +346,7 @@ fn find_or_add(
     }
     order.reserve(1)?;
     places.reserve(1)?;
+    keep_spare(map, more)?;
     match map.insert(name, SatelliteHistory::new(alloc)) {
         Ok(_) => {
             order.push_reserved(count);
@@ -345,6 +355,22 @@ fn find_or_add(
         }
         Err(_) => Err(AllocError),
     }
+}
+
+/// Has a map have a place to spare: where it has none, it grows by so many. Grown for one after another, it
+/// would be copied at each growth, which takes some 200 instructions for each of 693 satellites.
+fn keep_spare(
+    map: &mut IndexMap<[u8; NAME_WIDTH], SatelliteHistory>,
+    more: usize,
+) -> Result<(), AllocError>
+    ensures entries { map.new.entries ≡ map.old.entries }
+    ensures room { spare map.old ≤ spare map.new }
+    ensures full { OnErr result (spare map.old ≡ 0) }
+{
+    if map.len() < map.capacity() {
+        return Ok(());
+    }
+    map.reserve(more)
 }
 
 /// The place of the one that is expected, once another came anew: where it was the first of those that

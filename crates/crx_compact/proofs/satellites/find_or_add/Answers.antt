@@ -25,5 +25,8 @@ returns-in_err-reserve-clause-unknown c = grind (arith, common_steps, err_from_i
 pub returns-in_err-reserve-2-clause-unknown : goal.returns-in_err-reserve-2-clause-unknown
 returns-in_err-reserve-2-clause-unknown c = grind (arith, common_steps, err_from_is_err_and, not-found)
 
+pub returns-in_err-keep_spare-clause-unknown : goal.returns-in_err-keep_spare-clause-unknown
+returns-in_err-keep_spare-clause-unknown c = grind (arith, common_steps, err_from_is_err_and, not-found, inl)
+
 pub returns-clause-unknown : goal.returns-clause-unknown
-returns-clause-unknown c = (search (rules, not-found), search rules, search rules, inl (search rules))
+returns-clause-unknown c = grind (arith, common_steps, not-found, inl)
