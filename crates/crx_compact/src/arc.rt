@@ -63,7 +63,7 @@ impl<const WIDTH: usize> Model for Arc<WIDTH> {
 /// and written in 40 bytes each.
 #[derive(Drop)]
 pub(crate) struct Near<const WIDTH: usize> {
-    // These two are compared as one number ([`THIRD`]).
+    // These two are compared as one number (`THIRD`).
     order: u8,
     count: u8,
     differences: [i64; NEAR_LIMIT],

@@ -1,10 +1,12 @@
 -- The columns of an epoch line before the clock have its first character and its flag.
 use Rattle.std.proofs.lemmas.Grind.{common_steps}
 use Rattle.std.proofs.Common.{◌≡◌, ◌<◌, ◌++◌, ℕ, List, take, get_or}
-use Rattle.std.proofs.Common.{replicate, arith, refl, true, false, None, Some, if◌then◌else◌, [], drop, length, ◌≤◌}
+use Rattle.std.proofs.Common.{replicate, arith, refl, true, false, None, Some}
+use Rattle.std.proofs.Common.{if◌then◌else◌, [], drop, length, ◌≤◌}
 use Rattle.std.proofs.lemmas.List.{drop_all}
 use Rattle.std.specs.List.{list_all}
-use Rattle.crx_text.specs.meaning.{Columns.{character_at, columns, is_blank}, Numbers.{clock_of, number_of}, Texts.is_kept}
+use Rattle.crx_text.specs.meaning.{Columns.{character_at, columns, is_blank}, Numbers.{clock_of, number_of}}
+use Rattle.crx_text.specs.meaning.{Texts.is_kept}
 use Rattle.crx_header.specs.meaning.EpochColumns.{begins_epoch, epoch_count, is_observation_flag}
 use Rattle.crx_header.specs.meaning.EpochColumns.{satellites_in}
 

@@ -134,7 +134,7 @@ impl Head {
         let Some(count) = satellites_by_count(&head) else {
             return Err(Fault::BadEpoch);
         };
-        // Most lines end before the clock's columns, which takes 120 instructions less.
+        // Most lines end before the clock's columns, which takes some 150 instructions less.
         if line.len() <= HEAD_WIDTH {
             let clock = None;
             return Ok(Head::Epoch(EpochLine { head, count, clock }));
