@@ -17,6 +17,9 @@ from found import check_found, check_lintian, check_sums, check_wheel  # noqa: E
 from names import check_names, check_quoted  # noqa: E402
 
 TOP = Path(__file__).resolve().parents[2]
+sys.path.insert(0, str(TOP / "packaging"))
+from parts import COMPILERS  # noqa: E402
+
 SAMPLE = TOP / "samples/station.rnx"
 PROVED = TOP / "crates/rnxcmp_c/out/librnxcmp_c.a"
 MACHINES = TOP / "out/machines"  # what was made for others (packaging/machines.mk)
@@ -46,12 +49,17 @@ def lacking(program):
     return "there is no static C library" if static.returncode else None
 
 
-def others():
-    """The machines beside x86-64-v2 for which a release was made here, since its scripts and its C changed."""
+def compiler_of(name):
+    return COMPILERS.get(name, "gcc")
+
+
+def others(with_compiler=True):
+    """The machines beside x86-64-v2 for which a release was made here after its scripts and its C last changed, and whose compiler is there,
+    or isn't."""
     patterns = ("packaging/*.sh", "packaging/*.c", "packaging/*.ld", "packaging/*.py", "library/*", "include/*", "VERSION")
     newest = max(path.stat().st_mtime for pattern in patterns for path in TOP.glob(pattern))
     stamps = {name: MACHINES / name / "made" for name in OBJECTS}
-    return [name for name, stamp in stamps.items() if stamp.exists() and stamp.stat().st_mtime > newest]
+    return [name for name, stamp in stamps.items() if stamp.exists() and stamp.stat().st_mtime > newest and bool(shutil.which(compiler_of(name))) == with_compiler]
 
 
 def made(program, folder, top=TOP, there=(), again=(), **environment):
@@ -261,6 +269,8 @@ def checks(program):
     yield "the notices", check_notices
     yield "names that scripts print", check_quoted
     yield "names as a shell reads them", check_names
+    for name in others(with_compiler=False):
+        yield f"made twice, for {name}", lambda name=name: f"there is no {compiler_of(name)}"
     with tempfile.TemporaryDirectory() as name:
         folder = Path(name)
         reason = lacking(program)
