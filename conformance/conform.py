@@ -6,9 +6,10 @@
     conform.py --compact .. --expand .. --files FOLDER       # somebody's own files, RINEX and Compact RINEX
 
 Each command reads standard input and writes standard output. What is compacted is judged by what it expands to, by the reader in this file,
-and by nothing else: two writers may write other compact text for the same file. A difference is of one of six kinds: `text` (copied
-text, identifiers, indicators), `values`, `clock`, `events`, `refusals` (what is refused, and where) and `statuses`. A case may rest on a
-choice of this project's profile of the formats; another program's difference there is listed, and not counted (--profile counts it).
+and by nothing else: two writers may write other compact text for the same file. A difference is of one of seven kinds: `text` (copied
+text, identifiers, indicators), `values`, `clock`, `events`, `refusals` (what is refused, and where), `statuses` and `failures` (the command
+didn't start, didn't end in time, or crashed). A case may rest on a choice of this project's profile of the formats; another program's
+difference there is listed, and not counted (--profile counts it), unless it is a failure.
 docs/FORMATS.md has the rules. This file needs Python 3.8 and nothing else. The status is 0 where nothing differs, else 1.
 """
 
@@ -23,8 +24,7 @@ from concurrent.futures import ThreadPoolExecutor
 from pathlib import Path
 from typing import Dict, Iterator, List, NamedTuple, Optional, Tuple
 
-KINDS = ("text", "values", "clock", "events", "refusals", "statuses")
-SECONDS = 60
+KINDS = ("text", "values", "clock", "events", "refusals", "statuses", "failures")
 # What this project's profile chooses where the formats leave a choice. README.md has the same table.
 CHOICES = {
     "limits": "a line has at most 8192 bytes, a system at most 400 types, a number at most 18 digits",
@@ -297,14 +297,27 @@ class Run(NamedTuple):
     output: bytes
     messages: bytes
     status: int
+    failure: str = ""  # why there is no answer: the command didn't start, didn't end in time, or crashed
 
 
-def run(command: List[str], data: bytes) -> Run:
+def run(command: List[str], data: bytes, seconds: float) -> Run:
+    """Runs a command over an input, for at most `seconds`."""
     try:
-        ended = subprocess.run(command, input=data, capture_output=True, timeout=SECONDS)
+        ended = subprocess.run(command, input=data, capture_output=True, timeout=seconds)
     except subprocess.TimeoutExpired:
-        return Run(b"", b"it didn't end in time", -1)
-    return Run(ended.stdout, ended.stderr, ended.returncode)
+        return Run(b"", b"", -1, f"no end within {seconds:g} s")
+    except OSError as error:
+        return Run(b"", b"", -1, f"not started: {error.strerror}")
+    return Run(ended.stdout, ended.stderr, ended.returncode, _crash(ended.returncode))
+
+
+def _crash(status: int) -> str:
+    """The words for a status that only a signal, a Windows exception or a shell that found no command gives; empty for any other status."""
+    if status < 0 or 128 < status < 160:
+        return f"ended by signal {abs(status) % 128}"
+    if status in (126, 127) or status > 255:
+        return f"not run to its end: status {status}"
+    return ""
 
 
 def _faults(messages: bytes) -> List[List[int]]:
@@ -316,6 +329,8 @@ def _refusal(case: Dict, answer: Run) -> List[Difference]:
     """What differs in what is refused, and in the status."""
     wanted, said = case.get("faults", []), _faults(answer.messages)
     status = case.get("status", 0)
+    if answer.failure:
+        return [Difference("failures", 0, f"status {status}", answer.failure)]
     speaks = bool(said) or not answer.messages
     if said and said != wanted:
         return [Difference("refusals", 0, f"line and code {wanted}", f"{said}")]
@@ -340,15 +355,41 @@ def _expanded(case: Dict, answer: Run) -> "Tuple[bytes, List[Difference]]":
         return b"", [Difference("text", 0, "Compact RINEX 3.0", str(error))]
 
 
-def judged(case: Dict, commands: Dict[str, List[str]]) -> List[Difference]:
-    """What differs in a case."""
-    words = [*commands[case["do"]], *case.get("options", [])]
-    answer = run(words, case["input"].encode("latin-1"))
+def command_of(case: Dict, commands: Dict[str, List[str]]) -> List[str]:
+    """The command that runs a case."""
+    return [*commands[case["do"]], *case.get("options", [])]
+
+
+def judged(case: Dict, commands: Dict[str, List[str]], seconds: float) -> List[Difference]:
+    """The differences of a case."""
+    answer = run(command_of(case, commands), case["input"].encode("latin-1"), seconds)
     found = _refusal(case, answer)
-    if any(one.kind == "refusals" for one in found):
+    if any(one.kind in ("refusals", "failures") for one in found):
         return found
     text, wrong = _expanded(case, answer)
-    return found + (wrong or differences(case["expands_to"].encode("latin-1"), text))
+    wanted = case["expands_to"].encode("latin-1")
+    if wanted and not text and not wrong:
+        return found + [Difference("text", 0, f"{len(contents(wanted))} lines", "no output")]
+    return found + (wrong or differences(wanted, text))
+
+
+def judge(cases: List[Dict], commands: Dict[str, List[str]], seconds: float, jobs: int) -> "List[Tuple[Dict, List[Difference]]]":
+    """The cases with their differences. A command that fails at the first good case without options is run for no other case."""
+    broken = {}
+    for do in commands:
+        first = next((case for case in cases if case["do"] == do and not case.get("options") and not case.get("faults")), None)
+        broken[do] = [one for one in judged(first, commands, seconds) if one.kind == "failures"] if first else []
+    with ThreadPoolExecutor(jobs) as pool:
+        return list(zip(cases, pool.map(lambda case: broken[case["do"]] or judged(case, commands, seconds), cases)))
+
+
+def save(folder: Path, number: int, case: Dict, command: List[str]) -> None:
+    """Writes a case into a folder of its own: its input, the RINEX text that is expected, and the command."""
+    place = folder / f"{number:04}-{re.sub(r'[^A-Za-z0-9._-]', '_', case['name'])[-100:]}"
+    place.mkdir(parents=True, exist_ok=True)
+    (place / "input").write_bytes(case["input"].encode("latin-1"))
+    (place / "expected").write_bytes(case["expands_to"].encode("latin-1"))
+    (place / "command").write_text(" ".join(shlex.quote(word) for word in command) + " < input\n", encoding="utf-8")
 
 
 def shown(path: Path) -> str:
@@ -377,8 +418,9 @@ def cases_of_files(folder: Path) -> Iterator[Dict]:
 
 def report(words: argparse.Namespace, results: "List[Tuple[Dict, List[Difference]]]") -> "Tuple[str, int]":
     """The report, and how many cases differ of those that are counted."""
-    counted = [(case, found) for case, found in results if found and (words.profile or not case.get("choices"))]
-    chosen = [(case, found) for case, found in results if found and not (words.profile or not case.get("choices"))]
+    differing = [(case, found, words.profile or not case.get("choices") or found[0].kind == "failures") for case, found in results if found]
+    counted = [(case, found) for case, found, counts in differing if counts]
+    chosen = [(case, found) for case, found, counts in differing if not counts]
     kinds = {kind: sum(any(one.kind == kind for one in found) for _, found in counted) for kind in KINDS}
     lines = ["Conformance of programs for Compact RINEX 3.0", f"compact: {words.compact}", f"expand: {words.expand}", ""]
     lines += [f"{len(results)} cases, {len(counted)} differ; {len(chosen)} more differ in a choice of this profile"]
@@ -403,14 +445,18 @@ def main() -> int:
     parser.add_argument("--files", type=Path, help="a folder of RINEX and Compact RINEX files")
     parser.add_argument("--profile", action="store_true", help="count differences in the choices of this project's profile too")
     parser.add_argument("--report", type=Path, help="the report's file, in place of standard output")
+    parser.add_argument("--save", type=Path, metavar="FOLDER", help="write input, expected text and command of each difference into a folder")
+    parser.add_argument("--seconds", type=float, default=60, help="how long a run may take (60)")
     parser.add_argument("-j", type=int, default=2, help="how many runs at a time (2)")
     words = parser.parse_args()
     commands = {"compact": shlex.split(words.compact), "expand": shlex.split(words.expand)}
     cases = [case for path in words.cases for case in json.loads(path.read_text(encoding="utf-8"))]
     cases += list(cases_of_files(words.files)) if words.files else []
-    with ThreadPoolExecutor(words.j) as pool:
-        results = list(zip(cases, pool.map(lambda case: judged(case, commands), cases)))
+    results = judge(cases, commands, words.seconds, words.j)
     text, count = report(words, results)
+    for number, (case, found) in enumerate(results if words.save else ()):
+        if found:
+            save(words.save, number, case, command_of(case, commands))
     if words.report:
         words.report.write_text(text, encoding="utf-8")
     else:

@@ -69,15 +69,15 @@ class Planted:
 
     def __init__(self, program):
         self.commands = {"compact": [str(program), "rnx2crx"], "expand": [str(program), "crx2rnx"]}
-        self.ask = cache(lambda words, data, run=conform.run: run([*words], data))
+        self.ask = cache(lambda words, data, run=conform.run: run([*words], data, 60))
         with tempfile.TemporaryDirectory() as folder:
             self.cases = [case for path in (SUITE / "cases.json", random_cases(folder)) for case in json.loads(path.read_text(encoding="utf-8"))]
 
     def report(self, bug):
         change = BUGS[bug][1]
-        conform.run = lambda words, data: change(words[1], self.ask((*words,), data))
+        conform.run = lambda words, data, _: change(words[1], self.ask((*words,), data))
         words = SimpleNamespace(compact=bug, expand=bug, profile=True)
-        return conform.report(words, [(case, conform.judged(case, self.commands)) for case in self.cases])[0]
+        return conform.report(words, [(case, conform.judged(case, self.commands, 60)) for case in self.cases])[0]
 
     def wrong(self, bug):
         """A bug is named by its kind, and by no other."""
@@ -91,6 +91,16 @@ def by_the_command(program):
     bug = "the_status_is_always_zero"
     run = conformed(*commands(program, sys.executable, "-S", HERE / "planted.py", bug), SUITE / "cases.json", "--profile")
     return [] if run.returncode == 1 and kinds_in(run.stdout) == {"statuses"} else [run.stdout[:1500], run.stderr[:500]]
+
+
+def failing(command, failure):
+    """A command that fails is a difference in each case, also in those that have to be refused; --save writes each."""
+    count = len(json.loads((SUITE / "cases.json").read_text(encoding="utf-8")))
+    with tempfile.TemporaryDirectory() as folder:
+        run = conformed(command, command, SUITE / "cases.json", "--seconds", "0.3", "--save", folder)
+        saved = [{path.name for path in case.iterdir()} for case in Path(folder).iterdir()]
+    wrong = [] if f"{count} cases, {count} differ; 0 more" in run.stdout and run.stdout.count(f"got:    {failure}") == count else [run.stdout[:600] + run.stderr]
+    return wrong + ([] if saved == [{"input", "expected", "command"}] * count else [f"{len(saved)} cases are saved"])
 
 
 def same_seed():
@@ -138,4 +148,6 @@ def checks(program):
     for bug in BUGS:
         yield f"planted: {bug}", lambda bug=bug: copies.wrong(bug)
     yield "planted, by the command", lambda: by_the_command(program)
+    for command, failure in (("sleep 1000", "no end within 0.3 s"), ("sh -c 'kill -SEGV $$'", "ended by signal 11"), ("/no/such/command", "not started")):
+        yield f"a command that fails: {failure}", lambda command=command, failure=failure: failing(command, failure)
     yield "another program", peer
