@@ -69,7 +69,9 @@ windows() {
     root=$work/$1
     doc=$root/share/doc/rnxcmp
     install -d "$root/bin" "$doc"
-    install -m 755 "$built/rnxcmp.exe" "$top"/packaging/windows/*.cmd "$root/bin"
+    for name in rnxcmp RNX2CRX CRX2RNX; do
+        install -m 755 "$built/rnxcmp.exe" "$root/bin/$name.exe"
+    done
     "$top/packaging/install_library.sh" "$root" "$built/library"
     for name in NOTICES LICENSE-MIT LICENSE-APACHE CHANGELOG.md docs/USE.md docs/GUARANTEES.md docs/FORMATS.md; do
         install -m 644 "$top/$name" "$doc"

@@ -6,6 +6,7 @@
 #include <io.h>
 #include <stdint.h>
 #include <stdlib.h>
+#include <string.h>
 #include <sys/stat.h>
 #include <windows.h>
 
@@ -32,8 +33,25 @@ static char *in_utf8(const wchar_t *text) {
     return place;
 }
 
+/* The subcommand that the program's own name stands for, as in RNX2CRX.exe; NULL for any other name. (A .cmd of that
+   name would end the batch file that runs it without `call`.) */
+static char *subcommand(const char *program) {
+    static char names[2][8] = {"rnx2crx", "crx2rnx"};
+    for (const char *at = program; *at != 0; at++) {
+        if (*at == '/' || *at == '\\') {
+            program = at + 1;
+        }
+    }
+    for (int k = 0; k < 2; k++) {
+        if (_strnicmp(program, names[k], 7) == 0 && (program[7] == 0 || program[7] == '.')) {
+            return names[k];
+        }
+    }
+    return NULL;
+}
+
 int wmain(int argc, wchar_t **argv) {
-    char **words = calloc((size_t)argc + 1, sizeof *words);
+    char **words = calloc((size_t)argc + 2, sizeof *words);
     if (words == NULL) {
         return 1;
     }
@@ -42,6 +60,13 @@ int wmain(int argc, wchar_t **argv) {
         if (words[k] == NULL) {
             return 1;
         }
+    }
+    char *named = argc > 0 ? subcommand(words[0]) : NULL;
+    if (named != NULL) {
+        for (int k = argc++; k > 1; k--) {
+            words[k] = words[k - 1];
+        }
+        words[1] = named;
     }
     rnxcmp_keep(argc, words);
     for (int stream = 0; stream < 3; stream++) {

@@ -44,11 +44,16 @@ def record_line(name, data):
 
 
 def programs(program, tag):
-    """The program and its other names by what they are called where the wheel is installed."""
+    """The installed commands by name: the program and its other names. On Windows, which knows no capitals in names, they are copies of it."""
     if program is None:
         return {}
-    others = sorted((HERE.parent / "packaging" / ("windows" if tag.startswith(WINDOWS) else "bin")).glob("*2*"))
-    return {path.name: path.read_bytes() for path in (program, *others)}
+    commands = {program.name: program.read_bytes()}
+    for name in ("RNX2CRX", "CRX2RNX"):
+        if tag.startswith(WINDOWS):
+            commands[f"{name}.exe"] = program.read_bytes()
+        else:
+            commands[name] = commands[name.lower()] = (HERE.parent / "packaging/bin" / name).read_bytes()
+    return commands
 
 
 def contents(library, version, program, tag):

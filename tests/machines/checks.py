@@ -3,6 +3,7 @@ machines whose compiler and emulator are there. What isn't proved yet for one of
 six minutes of processor time. The others are named. `make machines-test` asks for all (run.py)."""
 
 import shutil
+import subprocess
 import sys
 import tempfile
 from importlib import util
@@ -70,6 +71,29 @@ def check_many(program, command, files):
     return wrong[:40] + ([] if count >= COMPARISONS else [f"there were {count} comparisons"])
 
 
+# A batch file that calls the program by its other names, as users of RNXCMP have them: it goes on after each call.
+BATCH = """@echo off
+RNX2CRX a.24o
+for %%f in (b.24o c.24o) do RNX2CRX -e 2 %%f
+for %%f in (a b c) do CRX2RNX - %%f.24d > %%f.out
+"""
+
+
+def check_batch(machine, words):
+    """The program under the names RNX2CRX.exe and CRX2RNX.exe, called by a batch file without `call`, also in a loop."""
+    sample = (TOP / "samples/station.rnx").read_bytes()
+    with tempfile.TemporaryDirectory() as name:
+        folder = Path(name)
+        for known in ("RNX2CRX", "CRX2RNX"):
+            shutil.copy(machine.built / machine.program, folder / f"{known}.exe")
+        for letter in "abc":
+            (folder / f"{letter}.24o").write_bytes(sample)
+        (folder / "archive.bat").write_bytes(BATCH.replace("\n", "\r\n").encode())
+        run = subprocess.run([*words, "cmd", "/d", "/c", "archive.bat"], cwd=folder, stdin=subprocess.DEVNULL, capture_output=True, timeout=120)
+        outputs = [path.read_bytes() if path.exists() else None for path in (folder / f"{letter}.out" for letter in "abc")]
+    return [] if run.returncode == 0 and outputs == [sample] * 3 else [f"status {run.returncode}, {run.stdout!r}, {run.stderr[-300:]!r}"]
+
+
 def of_machine(machine, program, files=()):
     """The checks of a machine whose program is made."""
     with emulator(machine) as words, tempfile.TemporaryDirectory() as name:
@@ -80,6 +104,8 @@ def of_machine(machine, program, files=()):
             yield "clock", lambda: check_clock([path])
             yield "cases", lambda: check_cases(machine, path)
             yield "arguments", lambda: check_arguments(path)
+        if machine.is_windows:
+            yield "names in a batch file", lambda: check_batch(machine, words)
         yield "library", lambda: check_library(machine, words, program)
 
 

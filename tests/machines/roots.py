@@ -240,8 +240,8 @@ def check_in_wine(words, place, home):
             continue
         run = in_cmd(words, place, command, home)
         wrong += [] if run.returncode == 0 else [f"{command}: status {run.returncode}, {run.stdout[-300:]!r}, {run.stderr[-300:]!r}"]
-    named = in_cmd(words, place, "CRX2RNX.cmd - abcd0010.24d", home)
-    wrong += [] if named.stdout == SAMPLE.read_bytes() else [f"CRX2RNX.cmd: {named.stdout[-200:]!r}, {named.stderr[-300:]!r}"]
+    named = in_cmd(words, place, "CRX2RNX - abcd0010.24d", home)
+    wrong += [] if named.stdout == SAMPLE.read_bytes() else [f"CRX2RNX: {named.stdout[-200:]!r}, {named.stderr[-300:]!r}"]
     return wrong + ([] if (home / "abcd0010.24d").exists() else ["there is no abcd0010.24d"])
 
 
