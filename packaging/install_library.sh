@@ -8,14 +8,13 @@ top=$(cd "$(dirname "$0")/.." && pwd)
 version=$(cat "$top/VERSION")
 number=${version%%-*} # CMake takes numbers alone
 install -d "$prefix/include" "$prefix/lib/pkgconfig" "$prefix/lib/cmake/rnxcmp"
-install -m 644 "$library/rnxcmp.h" "$prefix/include"
+install -m 644 "$library/rnxcmp.h" "$top/include/rnxcmp.f90" "$prefix/include"
 install -m 644 "$library/librnxcmp.a" "$prefix/lib"
 if [ -f "$library/librnxcmp-2.dll" ]; then
     install -d "$prefix/bin"
     install -m 755 "$library/librnxcmp-2.dll" "$prefix/bin"
     install -m 644 "$library/librnxcmp.dll.a" "$prefix/lib"
 else
-    install -m 644 "$library/rnxcmp.f90" "$prefix/include"
     install -m 644 "$library/librnxcmp.so.2" "$prefix/lib"
     ln -sf librnxcmp.so.2 "$prefix/lib/librnxcmp.so"
 fi
