@@ -12,7 +12,7 @@
 #             stores anew how many instructions the program that make built takes over three inputs, of which tests/instructions allows a tenth
 #             more or less
 # make archive-test runs each recipe of docs/ARCHIVES.md over 200 files, some of them bad, with kills and full disks (tests/archives)
-# make files-test tries rnxcmp-file for longer (tests/files/run.py): runs at once, signals, failing calls, full disks, power cuts (as root)
+# make files-test tries rnxcmp-file for longer (tests/files/run.py): disks of all kinds, power cuts, signals, failing calls (as root)
 # make explain-test changes a byte in 2,000 files, and asks what is explained of each (tests/explain)
 # make conformance PEER='RNX2CRX -;CRX2RNX -'
 #             runs the suite for other programs (conformance) over this one and over the two commands; out/conformance has the report

@@ -11,25 +11,11 @@ from ._calls import warn
 from ._files import ensure_known, is_compact, is_observation
 from ._names import is_named_as_input, other_name, unpacked_name
 from ._packed import UnsupportedError
-from ._whole import COMPACTION, COPY, EXPANSION, Choices, Input, Patience, Whole
+from ._whole import COMPACTION, COPY, EXPANSION, Choices, Whole, start_of
 
 PathLike = Union[str, "os.PathLike[str]"]
 
 _FIRST_LINE = 82  # bytes of a file that say what it is
-
-
-def _start_of(path: str) -> bytes:
-    """The first bytes of a file's text."""
-    source = Input(path, Patience(lambda _, text: warn(text)))
-    try:
-        start = b""
-        for piece in source.text():
-            start += piece
-            if len(start) >= _FIRST_LINE:
-                break
-        return start
-    finally:
-        source.close()
 
 
 def _other_name_of(path: str, direction: str) -> str:
@@ -74,7 +60,7 @@ def decompress_on_disk(
     _refuse(delete)
     source = os.fspath(path)
     target = str(get_decompressed_path(source))
-    start = _start_of(source)
+    start = start_of(source, _FIRST_LINE)
     direction = EXPANSION if is_compact(start) else COPY
     if direction == EXPANSION:
         ensure_known(start)
@@ -107,12 +93,11 @@ def compress_on_disk(
     if compression not in ("gz", "none"):
         raise UnsupportedError(f"compression not supported: {compression}")
     source = os.fspath(path)
-    start = _start_of(source)
+    start = start_of(source, _FIRST_LINE)
     direction = COMPACTION if is_observation(start) else COPY
     if direction == COMPACTION:
         ensure_known(start)
-    target = _other_name_of(source, direction) + (".gz" if compression == "gz" else "")
-    target = str(Path(target))
+    target = str(Path(_other_name_of(source, direction) + (".gz" if compression == "gz" else "")))
     if direction == COPY and target == str(Path(source)):
         return Path(source)
     _ensure_name(source, target, direction == COMPACTION or is_compact(start), is_observation(start) and direction == COPY)

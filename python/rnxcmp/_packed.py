@@ -4,6 +4,7 @@ from __future__ import annotations
 
 import os
 import zlib
+from itertools import chain
 
 from ._calls import RnxcmpError
 
@@ -32,12 +33,8 @@ def other_packing(start: bytes) -> str:
 
 
 def pieces_of(descriptor: int) -> Iterator[bytes]:
-    """The bytes of an open file, from where it is."""
-    while True:
-        piece = os.read(descriptor, _PIECE)
-        if not piece:
-            return
-        yield piece
+    """Gives the bytes of an open file, from where it is."""
+    return iter(lambda: os.read(descriptor, _PIECE), b"")
 
 
 def pieces_in(data: bytes) -> Iterator[bytes]:
@@ -113,29 +110,23 @@ def _out_of_compress(descriptor: int) -> Iterator[bytes]:
         run.wait()
 
 
-def text_of(descriptor: int, see: Callable[[bytes], object] = bool) -> Iterator[bytes]:
-    """The text of an open file, unpacked by what it begins with. The file is at its beginning; `see` is called with all bytes that are
-    read of it, but for a `.Z` file's."""
-
-    def read() -> bytes:
-        piece = os.read(descriptor, _PIECE)
-        see(piece)
-        return piece
-
-    start = b""
-    while len(start) < _SIGN and (piece := read()):
+def text_of(descriptor: int) -> Iterator[bytes]:
+    """Gives the text of an open file that is at its beginning, unpacked by its first bytes."""
+    pieces, start = pieces_of(descriptor), b""
+    while len(start) < _SIGN and (piece := next(pieces, b"")):
         start += piece
-    if start.startswith(COMPRESS):
-        yield from _out_of_compress(descriptor)
-        return
     if other_packing(start):
         raise UnsupportedError(f"compression not supported: {other_packing(start)}")
+    if start.startswith(COMPRESS):
+        yield from _out_of_compress(descriptor)
+    else:
+        yield from out_of_gzip(chain((start,), pieces)) if start.startswith(GZIP) else chain((start,), pieces)
 
-    def all_pieces() -> Iterator[bytes]:
-        yield start
-        yield from iter(read, b"")
 
-    yield from out_of_gzip(all_pieces()) if start.startswith(GZIP) else all_pieces()
+def text_again(descriptor: int) -> Iterator[bytes]:
+    """Gives the text of an open file, from its beginning again."""
+    os.lseek(descriptor, 0, os.SEEK_SET)
+    return text_of(descriptor)
 
 
 class Packing:

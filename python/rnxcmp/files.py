@@ -1,7 +1,7 @@
 """Whole files: the command ``rnxcmp-file`` (``python3 -I -m rnxcmp.files``), :func:`compress_on_disk` and :func:`decompress_on_disk`.
 
-It never removes or changes an input. Whatever fails, is killed or loses power, a file under an output's name is the old one or the whole
-new one. What it calls verified was read back from the disk, and expands to the bytes (*exact*) or to the normal form of this very input.
+It never changes or removes an input, nor any file that this run didn't create; without ``-f`` it replaces nothing. An output's name always
+holds the old file or the whole new one. docs/FILES.md says what *verified* means.
 """
 
 from __future__ import annotations
@@ -10,22 +10,19 @@ import argparse
 import os
 import re
 import sys
+from contextlib import suppress
 
-if os.name == "nt":  # which has neither the links nor the locks that its promise stands on
+if os.name == "nt":  # which has no call that names a file and replaces nothing
     sys.exit("rnxcmp-file: ERROR: whole files need POSIX, which Windows isn't: rnxcmp.exe does a file, and the package rnxcmp bytes and streams")
 
 from ._calls import RnxcmpError, version
 from ._names import is_packed, quoted
-from ._parts import Changed, NoLinks, Part, identity_of, remove_left_beside
-from ._whole import (
-    COMPACTION, EXACT, EXPANSION, MADE, NORMAL_FORM, REPLACED, THERE,
-    Choices, Done, FileError, Patience, Whole,
-)  # fmt: skip
+from ._parts import CannotName, FileError, Part, remove_unfinished
+from ._whole import COMPACTION, EXACT, EXPANSION, MADE, NORMAL_FORM, REPLACED, THERE, Choices, Done, Whole
 
 TYPE_CHECKING = False
 if TYPE_CHECKING:
-    import signal
-    from typing import Callable, Dict, Iterator, List, NoReturn, Optional, Sequence, Tuple, Union
+    from typing import Callable, List, NoReturn, Optional, Sequence, Tuple, Union
 
     from ._on_disk import compress_on_disk, decompress_on_disk
 
@@ -41,7 +38,7 @@ usage: rnxcmp-file rnx2crx [options] INPUT..
 Compacts (rnx2crx) or expands (crx2rnx) whole files. The output is beside the
 input, under its name with the other ending, packed by gzip if the input is.
 With explain it says why a file is refused or isn't standard, where that is in a
-line, what was expected there, and what mends it.
+line, what is expected there, and the likely causes.
 
   -o OUTPUT           the output's name, for one input
   --inputs LIST       the names of more inputs, each with a NUL; - is standard
@@ -54,7 +51,7 @@ line, what was expected there, and what mends it.
   --normal-form       with --verified-to: those verified by normal form too
   --accept-cut        with --verified-to: those whose last line has no line end
                       too
-  -f                  replace an output that is there
+  -f                  replace an output that exists
   -e N, --date TEXT   as for rnxcmp rnx2crx
   -s                  warn about epochs with a fault, and skip them
   --max-output SIZE   make no output that is longer, unpacked: a number of bytes
@@ -65,10 +62,10 @@ line, what was expected there, and what mends it.
   -h, --help          print this help
   --version           print the version
 
-It never removes or changes an input. An output that is there is left as it is:
-one that holds this input is fine, and any other one is an error, unless -f is
-given. Exit status: 0 all files are done; 2 epochs were skipped, so a file isn't
-verified; 1 an error. Each message begins with the input's name.
+It never changes or removes an input. An output that exists is left as it is: if
+it holds this input that is fine, otherwise an error, unless -f is given. Exit
+status: 0 all files are done; 2 epochs were skipped, so a file isn't verified; 1
+an error. Each message begins with the input's name.
 """
 REMOVES_NOTHING = (
     "is no longer an option: no input is ever removed; "
@@ -77,10 +74,6 @@ REMOVES_NOTHING = (
 WARNINGS = 3  # that are printed of a file
 EXPLANATION = "explain"
 _UNITS = {"": 1, "k": 10**3, "M": 10**6, "G": 10**9}
-
-
-class Stopped(BaseException):
-    """A signal asked the run to end."""
 
 
 # ---- arguments
@@ -209,10 +202,8 @@ def _write_all(descriptor: int, text: str) -> None:
 
 def _say(text: str) -> None:
     """A message on standard error; where it can't be written nothing else can be said."""
-    try:
+    with suppress(OSError):
         _write_all(2, f"{text}\n")
-    except OSError:
-        pass
 
 
 class Failure:
@@ -254,10 +245,8 @@ class Printer:
             self._terminal("\r\x1b[K")
 
     def _terminal(self, text: str) -> None:
-        try:
+        with suppress(OSError):
             _write_all(2, text)
-        except OSError:
-            pass
 
     def say(self, name: str, text: str) -> None:
         self.clear()
@@ -323,59 +312,39 @@ def _absolute(name: str) -> str:
 
 
 class VerifiedList:
-    """The file that gets the names of verified inputs, whole, at the end. It never replaces a file."""
+    """The file with the names of the verified inputs. It appears whole, at the end, and never replaces a file."""
 
-    def __init__(self, place: str, normal_form: bool, accept_cut: bool) -> None:
-        self._place = place
+    def __init__(self, place: str, normal_form: bool, accept_cut: bool, force: bool) -> None:
+        self._place, self._accepts_cut, self._force = place, accept_cut, force
         self._counted = (EXACT, NORMAL_FORM) if normal_form else (EXACT,)
-        self._accepts_cut = accept_cut
-        self._found: Dict[Tuple[int, ...], List[Tuple[str, Done]]] = {}  # by the output's device and inode
-        self._gone = 0
+        self._found: List[Tuple[str, Done]] = []
         self._part = Part(place)
 
     def begin(self) -> None:
-        """Makes the file's part, so that it is known at once where it can't be made."""
+        """Makes the temporary file, so that it is known at once if that can't be done."""
         if os.path.lexists(self._place):
             raise FileError("file exists")
-        remove_left_beside(self._place)
-        try:
-            self._part.begin()
-        except OSError as error:
-            raise FileError(f"cannot write beside it: {error.strerror}") from None
+        self._part.begin()
 
     def add(self, name: str, done: Done) -> None:
         if done.verified in self._counted and (self._accepts_cut or not done.may_be_cut_off):
-            self._found.setdefault(done.output_identity[:2], []).append((_absolute(name), done))
-
-    def forget(self, placed: os.stat_result) -> None:
-        """An output was put into place: what was there before as this file is gone, whatever its times and its size were."""
-        self._gone += len(self._found.pop(identity_of(placed)[:2], ()))
-
-    def _still_as_verified(self) -> Iterator[str]:
-        """The names of those of which neither the input nor the output changed since."""
-        for name, done in (one for many in self._found.values() for one in many):
-            try:
-                if identity_of(os.stat(name)) == done.identity and identity_of(os.stat(done.output)) == done.output_identity:
-                    yield name
-                    continue
-            except OSError:
-                pass
-            self._gone += 1
+            self._found.append((_absolute(name), done))
 
     def put(self) -> int:
-        """Puts the list into place: how many inputs changed meanwhile, and aren't in it."""
+        """Gives the list its name: how many files have changed since they were verified, and aren't in it."""
+        held = [name for name, done in self._found if done.still_holds(name)]
+        for name in dict.fromkeys(held):
+            self._part.write(os.fsencode(name) + b"\0")
+        self._part.flush()
         try:
-            for name in dict.fromkeys(self._still_as_verified()):
-                self._part.write(os.fsencode(name) + b"\0")
-            self._part.finish_as_it_is()
-            self._part.put(None, False)
-        except NoLinks as error:
-            raise FileError(f"cannot put it into place without a link: {error.strerror}") from None
-        except Changed:
-            raise FileError("another file took its name") from None
-        except OSError as error:
-            raise FileError(f"cannot write it: {error.strerror}") from None
-        return self._gone
+            self._part.put(False)
+        except CannotName:
+            if not self._force or os.path.lexists(self._place):
+                raise
+            self._part.put(True)
+        except FileExistsError:
+            raise FileError("another file has got its name") from None
+        return len(self._found) - len(held)
 
     def remove(self) -> None:
         self._part.remove()
@@ -384,21 +353,16 @@ class VerifiedList:
 # ---- the run
 
 
-def _done_by(whole: Callable[[], Whole], verified: Optional[VerifiedList]) -> Union[Done, Failure]:
-    """What was done with a file, or the message of its error."""
-    work = None
+def _done_by(name: str, choices: Choices, output: Optional[str], tell: Callable[[str], None]) -> Union[Done, Failure]:
+    """Does a file: what was done, or the message of its error."""
     try:
-        work = whole()
-        return work.run()
+        return Whole(name, choices, output, tell).run()
     except (RnxcmpError, MemoryError) as error:
         words = str(error) or "out of memory"  # of which Python says nothing
         text = f"ERROR {words}" if words.startswith("line ") else f"ERROR: {words}"
         return Failure(text, getattr(error, "line", 0), getattr(error, "code", 0))
     except OSError as error:
         return Failure(f"ERROR: {error.strerror or error}")
-    finally:
-        if verified and work and work.placed:
-            verified.forget(work.placed)
 
 
 class Run:
@@ -407,14 +371,13 @@ class Run:
     def __init__(self, found: argparse.Namespace) -> None:
         self._found, self._choices = found, _choices(found)
         self._printer = Printer(found)
-        self._patience = Patience(self._printer.say)
-        self._verified = None if found.list is None else VerifiedList(found.list, found.normal_form, found.accept_cut)
+        self._verified = None if found.list is None else VerifiedList(found.list, found.normal_form, found.accept_cut, found.force)
 
     def _do(self, name: str) -> int:
         """Does one file, and says so: the status."""
         printer, warnings = self._printer, Warnings(self._printer, name, self._found.v)
         printer.begin(name)
-        result = _done_by(lambda: Whole(name, self._choices, self._found.output, warnings.tell, self._patience), self._verified)
+        result = _done_by(name, self._choices, self._found.output, warnings.tell)
         warnings.end()
         if isinstance(result, Failure):
             result = self._with_cause(name, result)
@@ -429,7 +392,7 @@ class Run:
         return SKIPPED if result.skipped else GOOD
 
     def _with_cause(self, name: str, failure: Failure) -> Failure:
-        """What failed, with the likely cause of a fault of the input in parentheses."""
+        """Adds the likely causes of a fault of the input, in parentheses."""
         if not failure.code or not failure.text.startswith("ERROR line "):
             return failure
         from ._told import cause_of
@@ -463,10 +426,6 @@ class Run:
         return FAILED if changed else status
 
 
-def _stop(number: int, _: object) -> NoReturn:
-    raise Stopped(number)
-
-
 def _open_streams() -> None:
     """Has no file take the number of a standard stream that was closed."""
     for descriptor in range(3):
@@ -476,13 +435,23 @@ def _open_streams() -> None:
             os.open("/", os.O_RDONLY)
 
 
-def _handle_signals(handler: Union[Callable[[int, object], object], signal.Handlers, None] = None) -> None:
-    """Has a handler, or what the system does, called for the signals that ask a run to end, where they aren't ignored."""
+def _end_by(number: int, _: object) -> None:
+    """Ends the process by a signal, once its temporary files are removed."""
     import signal
 
-    for number in (signal.SIGHUP, signal.SIGINT, signal.SIGTERM):
+    remove_unfinished()
+    signal.signal(number, signal.SIG_DFL)
+    os.kill(os.getpid(), number)
+
+
+def _handle_signals() -> None:
+    """Has the signals that ask a run to end remove its temporary files, unless they are ignored."""
+    import signal
+
+    for name in ("HUP", "INT", "QUIT", "TERM", "ALRM", "USR1", "USR2", "XCPU"):
+        number = getattr(signal, f"SIG{name}")
         if signal.getsignal(number) != signal.SIG_IGN:
-            signal.signal(number, handler or signal.SIG_DFL)
+            signal.signal(number, _end_by)
 
 
 def _run_words(words: Sequence[str]) -> int:
@@ -502,15 +471,9 @@ def _run_words(words: Sequence[str]) -> int:
 def main(words: Optional[Sequence[str]] = None) -> int:
     """The command: the status."""
     _open_streams()
+    _handle_signals()
     try:
-        _handle_signals(_stop)
-        status = _run_words(sys.argv[1:] if words is None else words)
-        _handle_signals()
-        return status
-    except Stopped as stopped:
-        _handle_signals()
-        os.kill(os.getpid(), stopped.args[0])
-        return FAILED
+        return _run_words(sys.argv[1:] if words is None else words)
     except OSError as error:
         _say(f"rnxcmp-file: ERROR: {error.strerror or error}")
         return FAILED

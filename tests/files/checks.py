@@ -1,16 +1,14 @@
-"""rnxcmp-file and the calls from Python on whole files (see tests/run.py): the table of docs/FILES.md over all kinds of inputs, each option,
-what happens meanwhile, runs at once, signals, system calls that fail. `make files-test` tries more of each, and what only root can try
-(tests/files/run.py)."""
+"""rnxcmp-file and the calls from Python on whole files (see tests/run.py): the table of docs/FILES.md over all kinds of inputs, calls with what
+they print and make, the promises, signals, and system calls that fail. `make files-test` tries more, and disks (tests/files/run.py)."""
 
 import sys
 from concurrent.futures import ProcessPoolExecutor
 from pathlib import Path
 
 sys.path.insert(0, str(Path(__file__).parent))
-from outcomes import outcomes_of  # noqa: E402
-from place import lacking  # noqa: E402
+from place import lacking, outcomes_of  # noqa: E402
 
-MODULES = ("matrix", "options", "others", "meanwhile", "races", "signals", "faults", "resources", "unusual", "neighbour_disks", "neighbour_looks", "neighbour_machines", "neighbour")
+MODULES = ("matrix", "rows", "options", "promises", "faults", "signals")
 AT_ONCE = 3  # modules that are tried side by side, since most of the time is spent waiting
 
 

@@ -1,7 +1,7 @@
 """What the tests of rnxcmp-file share: inputs, a folder to work in, runs of the tool, and its promise as one function."""
 
-import compileall
 import gzip
+import importlib
 import os
 import re
 import shutil
@@ -15,27 +15,21 @@ from pathlib import Path
 TOP = Path(__file__).resolve().parents[2]
 
 
-def compiled(package):
-    """A copy of a package, compiled: else each of some thousand runs would compile it."""
-    folder = tempfile.TemporaryDirectory()
-    shutil.copytree(package / "rnxcmp", Path(folder.name, "rnxcmp"), ignore=shutil.ignore_patterns("__pycache__"))
-    compileall.compile_dir(folder.name, quiet=2)
-    os.chmod(folder.name, 0o755)  # some runs are another user's
-    return folder
-
-
-COPY = compiled(Path(os.environ.get("RNXCMP_FILES_TESTED", TOP / "python")))  # of the package that is tested
-PACKAGE = Path(COPY.name)
+PACKAGE = Path(os.environ.get("RNXCMP_FILES_TESTED", TOP / "python")).resolve()
+CACHE = tempfile.TemporaryDirectory()  # of what Python compiles, which no run is to leave beside the sources
+os.chmod(CACHE.name, 0o777)  # some runs are another user's
+sys.pycache_prefix = CACHE.name
 LIBRARY = Path(os.environ.get("RNXCMP_LIBRARY", TOP / "out/library/librnxcmp.so.2"))
 OLD = 1704067200  # the time of all files, in 2024
 SECONDS = 60  # in which each run is to end
 DATE = "01-Jan-24 00:00"
 GOOD = (TOP / "samples/station.rnx").read_bytes()
-ENVIRONMENT = {**os.environ, "PYTHONPATH": str(PACKAGE), "RNXCMP_LIBRARY": str(LIBRARY), "PYTHONDONTWRITEBYTECODE": "1", "LC_ALL": "C.UTF-8"}
+ENVIRONMENT = {**os.environ, "PYTHONPATH": str(PACKAGE), "RNXCMP_LIBRARY": str(LIBRARY), "PYTHONPYCACHEPREFIX": CACHE.name, "LC_ALL": "C.UTF-8"}
 TOOL = (sys.executable, "-S", "-m", "rnxcmp.files")  # without what a machine adds to each start of Python
-for number in (signal.SIGHUP, signal.SIGINT, signal.SIGTERM):  # a shell has what it starts in the background ignore some
+for number in (signal.SIGHUP, signal.SIGINT, signal.SIGQUIT, signal.SIGTERM):  # a shell has what it starts in the background ignore some
     if signal.getsignal(number) == signal.SIG_IGN:
         signal.signal(number, signal.SIG_DFL)
+ANOTHER_USER = ("setpriv", "--reuid=65534", "--regid=65534", "--clear-groups")
 DIRECTIONS = {"rnx2crx": (".rnx", ".crx"), "crx2rnx": (".crx", ".rnx")}
 KINDS = ("standard", "not standard", "packed", "damaged")
 
@@ -58,6 +52,23 @@ def padded(text):
 def marked(text, number):
     """The text with a marker name of its own: another valid file."""
     return re.sub(rb"(?m)^.{9}(.{51})MARKER NAME", b"MADE%05d\\1MARKER NAME" % number, text)
+
+
+CHANGED = """
+import os, sys
+import rnxcmp._parts, rnxcmp._whole
+from rnxcmp.files import main
+{}
+sys.exit(main(sys.argv[1:]))
+"""
+
+
+def differs(run, status, out=None, errors=None):
+    """What is wrong with a run: another status, or texts that lack one of these."""
+    wrong = [] if run.returncode == status else [f"status {run.returncode}, not {status}"]
+    wrong += [f"not on standard output: {text!r}" for text in out or () if text not in run.stdout]
+    wrong += [f"not on standard error: {text!r}" for text in errors or () if text not in run.stderr]
+    return wrong + ([f"said: {run.stdout!r}, {run.stderr!r}"] if wrong or (run.stderr and not errors) else [])
 
 
 class Texts:
@@ -151,12 +162,23 @@ class Place:
             errors.seek(0)
             return subprocess.CompletedProcess(words, status, out.read(), errors.read())
 
+    def changed(self, script, *words, through=()):
+        """A run of the tool that a script changes first."""
+        command = [*through, sys.executable, "-S", "-c", CHANGED.format(script), *words]
+        return subprocess.run(command, cwd=self.work, env=ENVIRONMENT, capture_output=True, text=True, stdin=subprocess.DEVNULL, timeout=SECONDS)
+
     def names(self):
-        """All that is there, but for the folder of parts."""
-        return {path.name for path in self.work.iterdir() if not path.name.startswith(".rnxcmp-file.")}
+        """All that is there, except temporary files."""
+        return {path.name for path in self.work.iterdir()} - set(self.parts())
 
     def parts(self):
-        return [str(path.relative_to(self.work)) for path in self.work.rglob("*") if ".rnxcmp-file." in str(path)]
+        """The temporary files that are left, also under the names that network disks give to removed files."""
+        return [str(path.relative_to(self.work)) for path in self.work.rglob("*") if re.match(r"part\.|\.fuse_hidden|\.nfs", path.name)]
+
+    def listed(self, name="list"):
+        """The names in a list, or nothing if there is none."""
+        path = self.work / name
+        return [os.fsdecode(one).removeprefix(f"{self.work}/") for one in path.read_bytes().split(b"\0")[:-1]] if path.exists() else None
 
 
 def loaded_main():
@@ -188,7 +210,7 @@ def become_the_tool(main, work, words, out, errors, seconds=SECONDS // 3):
 def state_of(path):
     """What an input must keep: its content and what is known of it, but for the time it was read."""
     status = os.lstat(path)
-    content = os.readlink(path) if path.is_symlink() else path.read_bytes() if path.is_file() else sorted(os.listdir(path))
+    content = os.readlink(path) if path.is_symlink() else path.read_bytes() if path.is_file() else sorted(os.listdir(path)) if path.is_dir() else None
     return (status.st_ino, status.st_mode, status.st_uid, status.st_gid, status.st_mtime_ns, content)
 
 
@@ -247,3 +269,15 @@ def lacking():
 def is_traced():
     """Whether strace may be used here."""
     return shutil.which("strace") and subprocess.run(["strace", "-o", "/dev/null", "true"], capture_output=True).returncode == 0
+
+
+def outcome_of(check):
+    try:
+        return check()
+    except Exception:  # a check that can't go on has failed
+        return traceback.format_exc().splitlines()
+
+
+def outcomes_of(module, program):
+    """What is wrong by each check of a module."""
+    return [(name, outcome_of(check)) for name, check in importlib.import_module(module).checks(Texts(program))]

@@ -1,13 +1,13 @@
 #!/usr/bin/env python3
 """What sees a planted bug of the tool for whole files: check.py PROGRAM COPY MADE FILE (see tests/mutants/run.py). The tests of tests/files
-are run over the package in COPY, up to the first that fails; first those that are about FILE."""
+are run over the package in COPY, up to the first that fails; those that take the least come first."""
 
 import os
 import subprocess
 import sys
 from pathlib import Path
 
-PROGRAM, COPY, MADE, FILE = (Path(word) for word in sys.argv[1:5])
+PROGRAM, COPY, MADE = (Path(word) for word in sys.argv[1:4])
 os.environ["RNXCMP_FILES_TESTED"] = str(COPY / "python")
 os.environ.setdefault("RNXCMP_LIBRARY", str(MADE / "out/library/librnxcmp.so.2"))
 sys.path[:0] = [str(COPY / "tests/files"), str(COPY / "tests")]
@@ -16,41 +16,18 @@ COPY.chmod(0o755)  # some runs are another user's
 
 import faults  # noqa: E402
 import matrix  # noqa: E402
-import meanwhile  # noqa: E402
-import neighbour  # noqa: E402
-import neighbour_disks  # noqa: E402
-import neighbour_looks  # noqa: E402
-import neighbour_machines  # noqa: E402
 import options  # noqa: E402
-import others  # noqa: E402
-import resources  # noqa: E402
+import promises  # noqa: E402
+import rows  # noqa: E402
 import signals  # noqa: E402
-import unusual  # noqa: E402
 from place import Texts  # noqa: E402
 
-# those that take the least come first
-MODULES = (neighbour_looks, neighbour_disks, unusual, options, others, resources, meanwhile, faults, matrix, signals, neighbour_machines, neighbour)
 NOT_KNOWN = 3  # the status where a check didn't end in time, and no other has seen anything
-ABOUT = {  # words in the names of the checks that are about a file
-    "_rights.py": ("access", "modes", "order", "owner"),
-    "_parts.py": ("among others", "order", "modes", "old parts", "parts in use", "close", "that comes", "others", "a link", "links", "fsync", "descriptors", "read from", "on the disk", "network disks"),
-    "_whole.py": ("among others", "the input", "another", "damaged", "a folder", "output is", "changed", "part that", "in use", "nothing", "shorter", "read from", "settled", "changes", "unusual: links"),
-    "_packed.py": ("packs", "output names", "little memory"),
-    "_names.py": ("quoting", "output names", "names"),
-    "_on_disk.py": ("from python", "unreadable"),
-    "_told.py": ("memory",),
-    "files.py": ("lists", "lines", "refusals", "asked", "progress", "names", "list"),
-}
-
-
-def is_about(name):
-    return any(word in name for word in ABOUT.get(FILE.name, ()))
 
 
 def main():
     texts, late = Texts(PROGRAM), ""
-    checks = [check for module in MODULES for check in module.checks(texts)]
-    for name, check in sorted(checks, key=lambda check: not is_about(check[0])):
+    for name, check in (check for module in (rows, promises, options, matrix, faults, signals) for check in module.checks(texts)):
         try:
             wrong = check()
         except subprocess.TimeoutExpired as error:  # which may be the machine's fault

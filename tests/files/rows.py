@@ -1,0 +1,205 @@
+"""Calls of rnxcmp-file, each a row: the files at the start, the words, the status, texts on standard output and standard error, the files that
+are made, and the names in `list`. In each row every file of the start that isn't to be replaced stays as it is."""
+
+import gzip
+import os
+import shlex
+from functools import reduce
+
+from place import DATE, GOOD, Place, changed_epoch, differs, marked, padded, state_of, unpacked
+
+FOLDER, PIPE = object(), object()
+PACKED, STRANGE = gzip.compress(GOOD), changed_epoch(GOOD)
+HEADER, EPOCHS = GOOD[: GOOD.index(b"\n>") + 1], GOOD[GOOD.index(b"\n>") + 1 :]
+EVENT = b">%30s6  1\n>%30s0  1\n" % (b"", b"")  # its record looks like an epoch
+MANY = reduce(changed_epoch, range(8), GOOD)
+A, B, P, S, BAD = ({name: content} for name, content in (("a.rnx", GOOD), ("b.rnx", GOOD), ("p.rnx", padded(GOOD)), ("s.rnx", STRANGE), ("bad.rnx", b"x\n")))
+LONG = "\u00e9" * 125 + "x"  # 251 bytes
+
+
+def compressed(text, *more):
+    """A text in the form of `compress`, by codes of nine bits for its bytes, and some codes more. Each 248th code makes the table empty."""
+    codes = [code for at in range(0, len(text), 247) for code in (*text[at : at + 247], 256)]
+    bits = sum(code << 9 * k for k, code in enumerate([*codes, *more]))
+    return b"\x1f\x9d\x90" + bits.to_bytes(-(-9 * (len(codes) + len(more)) // 8), "little")
+
+
+def row(files, words, status=0, out=(), err=(), made=(), listed=None, replaced=()):
+    return files, shlex.split(words), status, (out,) if isinstance(out, str) else out, (err,) if isinstance(err, str) else err, made, listed, replaced
+
+
+def names_of_outputs(texts):
+    for name, words, output, packed in (
+        ("a.rnx", "", "a.crx", 0), ("a.RNX", "", "a.CRX", 0), ("a.24o", "", "a.24d", 0), ("a.24O", "", "a.24D", 0), ("a.rnx.gz", "", "a.crx.gz", 1), ("a.rnx", "--gzip", "a.crx.gz", 1),
+        ("a.rnx.gz", "--no-gzip", "a.crx", 0), ("a.rnx", "-o 'b c.gz'", "b c.gz", 1), ("a.rnx.gz", "-o b", "b", 0), ("a.rnx", "-o b --gzip", "b", 1), ("a.rnx", "-o b.gz --no-gzip", "b.gz", 0), ("x", "-oy.crx", "y.crx", 0),
+    ):  # fmt: skip
+        quoted = f"'{output}'" if " " in output else output
+        content = PACKED if name.endswith(".gz") else GOOD
+        yield row({name: content}, f"rnx2crx {name} {words} --date '{DATE}'", 0, f"made {quoted}", (), {output: (texts.plain_compact, bool(packed))})
+
+
+def choices(texts):
+    for words, given in (("-e 2 --date x", ("-e", "2", "--date", "x")), ("-e2 --date=", ("-e", "2", "--date", "")), (f"--date {'x' * 20}", ("--date", "x" * 20))):
+        yield row(A, f"rnx2crx {words} a.rnx --verify", 0, "verified exact", (), {"a.crx": (texts.filtered(GOOD, "rnx2crx", *given), False)})
+    length = len(texts.filtered(GOOD, "rnx2crx", "--date", ""))
+    too_long = "a.rnx: ERROR: the output is longer than it may be"
+    for size, status in ((length, 0), (length - 1, 1), ("1k", 1), ("1M", 0), ("1G", 0)):
+        yield row(A, f"rnx2crx --verify --date '' --max-output {size} a.rnx", status, (), too_long if status else (), () if status else ("a.crx",))
+    for size, status in ((len(GOOD), 0), (len(GOOD) - 1, 1)):
+        yield row({"a.crx": texts.plain_compact}, f"crx2rnx --max-output {size} a.crx", status, (), too_long.replace("rnx:", "crx:") if status else (), () if status else ("a.rnx",))
+    for words, lines in (("", 3), ("-v", 8)):
+        said = ["a.rnx: WARNING line "] * lines + ([] if words else ["a.rnx: WARNING: 5 more; -v prints all\n"])
+        yield row({"a.rnx": MANY}, f"rnx2crx -s {words} a.rnx", 2, "made a.crx, not verified: 8 warnings", said, ("a.crx",))
+
+
+REFUSED = (
+    ("", "rnx2crx or crx2rnx is missing"), ("pack a.rnx", "neither rnx2crx nor crx2rnx"), ("'pa\nck' a.rnx", r"explain: 'pa'$'\n''ck'"), ("rnx2crx", "the input is missing"), ("rnx2crx ''", "an empty name"),
+    ("rnx2crx a.rnx -o ''", "an empty name"), ("rnx2crx a.rnx -o -", "no file is written to standard output"), ("rnx2crx a.rnx --verified-to -", "no file is written to standard output"),
+    ("rnx2crx a.rnx b.rnx -o c", "-o names one output"), ("crx2rnx a.rnx -e 2", "belong to rnx2crx"), ("crx2rnx a.rnx --date x", "belong to rnx2crx"), ("rnx2crx a.rnx -e 0", "from 1 to 1000000"),
+    ("rnx2crx a.rnx -e 1000001", "from 1 to 1000000"), ("rnx2crx a.rnx -e x", "from 1"), (f"rnx2crx a.rnx -e {'9' * 5000}", "from 1 to 1000000"), (f"rnx2crx a.rnx --date {'x' * 21}", "bad date"),
+    ("rnx2crx a.rnx --date \u00e9", "bad date"), ("rnx2crx a.rnx --gzip --no-gzip", "not allowed"), ("rnx2crx a.rnx --ver", "unrecognized arguments: --ver;"),
+    ("rnx2crx a.rnx '--\x1b[31m' \"--x'y\"", r"""unrecognized arguments: '--'$'\033''[31m' "--x'y";"""), ("rnx2crx a.rnx --normal-form", "belongs to --verified-to"), ("rnx2crx a.rnx --accept-cut", "belongs to --verified-to"),
+    *((f"rnx2crx a.rnx --max-output {size}", "the size of --max-output") for size in ("0", "x", "1m", "-1", "9" * 20)), ("rnx2crx a.rnx --delete", "--delete is no longer an option: no input is ever removed"),
+    ("rnx2crx -d a.rnx", "-d is no longer an option: no input is ever removed"), ("rnx2crx .", "this is a folder, not a file"), ("rnx2crx folder.rnx", "this is a folder, not a file"), ("rnx2crx a.txt", "no output name"),
+    ("rnx2crx . -o b", "this is a folder"), ("rnx2crx a.rnx -o b.24o.gz", "named as an input"), ("crx2rnx a.crx -o folder.rnx/.CRX", "named as an input"), ("rnx2crx pipe.rnx", "no regular file"),
+    ("rnx2crx none.rnx", "none.rnx: ERROR: cannot read this file: No such file"), ("rnx2crx a.rnx -o no/b", "cannot write beside no/b: No such file"), ("rnx2crx a.rnx -o a.rnx/b", "cannot look at a.rnx/b: Not a directory"),
+    ("rnx2crx a.rnx -o pipe", "the output is no regular file: pipe"), ("rnx2crx -f a.rnx -o pipe", "the output is no regular file: pipe"), ("rnx2crx a.rnx -o dangling", "a link to nothing"), ("rnx2crx empty.rnx", "ERROR line 1 code 3"),
+    ("rnx2crx a.bz2.rnx", "bzip2"), ("rnx2crx round", "no output name"), ("rnx2crx a.rnx -o round", "cannot look at round: Too many levels of symbolic links"), ("rnx2crx --inputs half", "doesn't end in a NUL: half"),
+    ("rnx2crx --inputs none", "cannot read the list of inputs none: No such file"), ("rnx2crx --inputs .", "cannot read the list of inputs .: Is a directory"), ("explain -f a.rnx", "explain takes --json and --inputs alone"),
+)  # fmt: skip
+AT_START = {
+    **A, "empty.rnx": b"", "a.bz2.rnx": b"BZh91AY", "folder.rnx": FOLDER, "pipe.rnx": PIPE, "pipe": PIPE, "dangling": "nothing", "round": "round", "half": b"a b.rnx\0c\nd.rnx",
+}  # fmt: skip
+
+
+def refusals(texts):
+    for words, said in REFUSED:
+        yield row(AT_START, words, 1, (), said)
+
+
+def lists(texts):
+    four = {**A, **P, **S, **BAD}
+    for more, listed in (("", ["a.rnx"]), ("--normal-form", ["a.rnx", "p.rnx"])):
+        said = ["4 files: 3 made, 0 replaced, 0 there already, 1 errors", "verified: 1 exact, 1 normal form", "with skipped epochs: 1"]
+        yield row(four, f"rnx2crx -s --verified-to list {more} {' '.join(four)}", 1, said, ["bad.rnx: ERROR line 1 code 3", "s.rnx: WARNING line"], ("a.crx", "p.crx", "s.crx", "list"), listed)
+    there = {**S, "s.crx": texts.filtered(STRANGE, "rnx2crx", "-s")}
+    yield row(there, "rnx2crx -s --verified-to list --normal-form s.rnx", 2, "s.crx is there already, not verified: 1 warnings", "s.rnx: WARNING: not verified, since epochs were skipped", ("list",), [])
+    yield row({**A, "sub": FOLDER}, "rnx2crx a.rnx --verified-to sub/l -osub/b", 0, "made sub/b, verified exact", (), ("sub/b", "sub/l"))
+    for name in ("taken", "pipe", "folder.rnx", "dangling", "a.rnx"):
+        yield row({**AT_START, "taken": b""}, f"rnx2crx -f --verified-to {name} a.rnx", 1, (), f"{name}: ERROR: file exists\n")
+    yield row(A, "rnx2crx -f --verified-to a.crx a.rnx", 1, "made a.crx, verified exact", "a.crx: ERROR: another file has got its name\n", ("a.crx",))
+    names = {"a b.rnx": GOOD, "c\nd.rnx": GOOD, "one": b"a b.rnx\0", "two": b"c\nd.rnx\0a b.rnx\0", "none": b""}
+    yield row(names, "rnx2crx -q --inputs one --inputs two --verified-to list", 0, "3 files: 2 made, 0 replaced, 1 there already", (), ("a b.crx", "c\nd.crx", "list"), ["a b.rnx", "c\nd.rnx"])
+    yield row(names, "rnx2crx --inputs none", 0, "0 files: 0 made")
+    yield row({f"{LONG}.rnx": GOOD}, f"rnx2crx --verified-to {LONG}list {LONG}.rnx", 0, "verified exact", (), (f"{LONG}.crx", f"{LONG}list"))
+    yield row({f"{LONG}.rnx": GOOD}, f"rnx2crx --gzip {LONG}.rnx", 1, (), f"cannot look at {LONG}.crx.gz: File name too long\n")
+    yield row({f"{LONG}.rnx": GOOD}, f"rnx2crx --verified-to {LONG}listlist {LONG}.rnx", 1, (), "File name too long\n", (f"{LONG}.crx",))
+
+
+    three = {"a.rnx": marked(GOOD, 1), "a.rnx.gz": gzip.compress(marked(GOOD, 2)), "a.rnx.GZ": gzip.compress(marked(GOOD, 3))}  # with one output
+    yield row(three, "rnx2crx -f --no-gzip --verified-to list a.rnx a.rnx.gz a.rnx.GZ", 1, (), "list: ERROR: 2 files changed after they were verified", ("a.crx", "list"), ["a.rnx.GZ"])
+
+
+def cut_files(texts):
+    """An input whose last line has no LF is named, also if it ends in CR; the list has it only with --accept-cut."""
+    compact = texts.plain_compact
+    for direction, name, content in (
+        *(("rnx2crx", "a.rnx", text) for text in (GOOD[:-9], GOOD.replace(b"\n", b"\r\n")[:-1], GOOD[:-1] + b"\r")), ("rnx2crx", "a.rnx.gz", gzip.compress(GOOD[:-9])),
+        *(("crx2rnx", "a.crx", text) for text in (compact[:-1], compact.replace(b"\n", b"\r\n")[:-1])), ("crx2rnx", "a.crx.gz", gzip.compress(compact[:-1])),
+    ):  # fmt: skip
+        output = name.replace("rnx", "c_x").replace("crx", "rnx").replace("c_x", "crx")
+        said = f"{name}: WARNING: the last line has no line end: the file may be cut off\n"
+        for more, listed in (("", []), ("--accept-cut", [name])):
+            yield row({name: content}, f"{direction} --normal-form --verified-to list {more} {name}", 0, ("made", "verified "), said, (output, "list"), listed)
+        yield row({name: content}, f"{direction} --json {name}", 0, '"may_be_cut_off": true', said, (output,))
+
+
+def ways_back(texts):
+    """A copied line that ends in two CRs isn't verified, though it is converted. A date that can't be written again isn't *exact*."""
+    event = b">%30s4  1\nA COMMENT%51sCOMMENT\r\r\n" % (b"", b"")
+    for direction, name, output, text in (
+        *(("rnx2crx", "a.rnx", "a.crx", text) for text in (GOOD.replace(b"END OF HEADER\n", b"END OF HEADER       \r\r\n"), GOOD + event, GOOD + event[:-1])),
+        ("crx2rnx", "a.crx", "a.rnx", texts.plain_compact + event),
+    ):  # fmt: skip
+        said = f"{output}: a line of the input ends in two CRs"
+        yield row({name: text}, f"{direction} --verify {name}", 1, (), f"ERROR: not verified, so nothing was made: {said}")
+        yield row({name: text, output: texts.filtered(text, direction)}, f"{direction} --verify {name}", 1, (), f"ERROR: not verified: {said}")
+        if text.endswith(b"\n"):
+            yield row({name: text, output: texts.filtered(text, direction)}, f"{direction} {name}", 0, f"{output} is there already")
+            yield row({name: text}, f"{direction} {name}", 0, f"made {output}", (), (output,))
+    first, second, rest = texts.plain_compact.split(b"\n", 2)
+    for date in (b"01-Jan-24 00:00\xe9", b"\t1-Jan-24", b"\x7f" * 20):
+        text = b"\n".join([first, second[:40] + date.ljust(20) + second[60:], rest])
+        yield row({"a.crx": text}, "crx2rnx --verified-to list a.crx", 0, "made a.rnx, verified normal form", (), ("a.rnx", "list"), [])
+        yield row({"a.crx": text, "a.rnx": GOOD}, "crx2rnx --verify a.crx", 0, "a.rnx is there already, verified normal form")
+
+
+def links(texts):
+    """An input may be a link; an output that is a link is followed to be compared, and is itself replaced by -f."""
+    far = {"far": FOLDER, "far/a.rnx": GOOD, "far/a.crx": texts.plain_compact, "far/b.crx": texts.filtered(marked(GOOD, 5), "rnx2crx"), "soft.rnx": "far/a.rnx"}
+    yield row(far, "rnx2crx --verified-to list soft.rnx", 0, "made soft.crx, verified exact", (), ("soft.crx", "list"), ["soft.rnx"])
+    yield row({**far, "soft.crx": "far/a.crx"}, "rnx2crx --verify soft.rnx", 0, "soft.crx is there already, verified exact")
+    for target, status in (("far/b.crx", 0), ("far/a.rnx", 1), ("nothing", 0)):
+        out, err = ((), "the output is the input: soft.crx") if status else ("soft.crx, verified exact", ())
+        yield row({**far, "soft.crx": target}, "rnx2crx -f --verify soft.rnx", status, out, err, replaced=() if status else ("soft.crx",))
+
+
+def packs(texts):
+    """gzip of several members and with zeros at its end, `.Z`; packs that are cut off, damaged, or followed by other bytes."""
+    half = len(GOOD) // 2
+    members, squeezed = gzip.compress(GOOD[:half]) + gzip.compress(b"") + gzip.compress(GOOD[half:]), compressed(GOOD)
+    for content in (members, members + bytes(700), gzip.compress(GOOD + EPOCHS * 600)):
+        yield row({"a.rnx.gz": content}, "rnx2crx --verify a.rnx.gz", 0, "verified ", (), ("a.crx.gz",))
+    for content in (PACKED[:-9], PACKED[:-1], PACKED[:3000] + b"\0\0\0" + PACKED[3003:], PACKED + b"more", PACKED + PACKED[:40], PACKED[:-8] + b"abcd" + PACKED[-4:]):
+        yield row({"a.rnx.gz": content}, "rnx2crx --verify a.rnx.gz", 1, (), "a.rnx.gz: ERROR: the packed text is ")
+    yield row({"a.rnx.Z": squeezed}, "rnx2crx --verify a.rnx.Z", 0, "a.crx.gz, verified exact", (), ("a.crx.gz",))
+    yield row({"a.crx": texts.plain_compact, "a.rnx.Z": squeezed}, "crx2rnx --verify a.crx -o a.rnx.Z", 0, "a.rnx.Z is there already, verified exact")
+    for content in (squeezed[: len(squeezed) // 2], compressed(GOOD, 500, 500)):
+        yield row({"a.rnx.Z": content}, "rnx2crx --verify a.rnx.Z", 1, (), "a.rnx.Z: ERROR")
+
+
+def no_epoch(texts):
+    """With -s it is an error if no epoch is accepted; a header alone has no fault."""
+    none = "ERROR: no epoch is left, so nothing is written; line "
+    yield row({"a.rnx": HEADER + b"> x\n"}, "rnx2crx -s a.rnx", 1, (), none)
+    yield row({"a.crx": texts.filtered(HEADER, "rnx2crx") + b"> x\n"}, "crx2rnx -s a.crx", 1, (), none)
+    yield row({"a.rnx": HEADER}, "rnx2crx -s a.rnx", 0, "made a.crx", (), ("a.crx",))
+    yield row({"a.rnx": HEADER + b"> x\n" + EVENT}, "rnx2crx -s a.rnx", 1, (), none)
+    yield row({"a.rnx": HEADER + b"> x\n" + EVENT + EPOCHS}, "rnx2crx -s a.rnx", 2, "made a.crx, not verified: 1 warnings", "WARNING line ", ("a.crx",))
+
+
+def put(place, name, content):
+    path = place.work / name
+    if isinstance(content, str):
+        path.symlink_to(content)
+    elif content in (FOLDER, PIPE):
+        (path.mkdir if content is FOLDER else lambda: os.mkfifo(path))()
+    else:
+        place.write(name, content)
+
+
+def files_of(place):
+    return {str(path.relative_to(place.work)) for path in place.work.rglob("*")}
+
+
+def run_row(files, words, status, out, err, made, listed, replaced):
+    """What is wrong with a row, as lines."""
+    with Place() as place:
+        for name, content in files.items():
+            put(place, name, content)
+        kept = {name: state_of(place.work / name) for name, content in files.items() if name not in replaced and content is not FOLDER}
+        run = place.run_in_child(*words)
+        wrong = differs(run, status, out, err)
+        wrong += [f"{text!r} isn't said {err.count(text)} times" for text in err if err.count(text) > 1 and run.stderr.count(text) != err.count(text)]
+        wrong += [f"{name} was changed" for name, state in kept.items() if state_of(place.work / name) != state]
+        wrong += [] if files_of(place) == {*files, *made} else [f"files {files_of(place)}"]
+        for name, (text, packed) in made.items() if isinstance(made, dict) else ():
+            found = (place.work / name).read_bytes()
+            wrong += [] if unpacked(found) == text and (found != text) == packed else [f"{name} has another content"]
+        wrong += [] if listed is None or place.listed() == listed else [f"listed: {place.listed()}"]
+        return [f"{' '.join(words)[:80]}: {line}" for line in wrong]
+
+
+def checks(texts):
+    for group in (names_of_outputs, choices, refusals, lists, cut_files, ways_back, links, packs, no_epoch):
+        yield group.__name__.replace("_", " "), lambda group=group: [line for one in group(texts) for line in run_row(*one)]
