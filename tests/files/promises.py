@@ -35,7 +35,7 @@ def changed_input(texts):
             with Place() as place:
                 for name in ("a.rnx", "b"):
                     place.write(name, GOOD)
-                lines = differs(place.changed(AT_THE_FLUSH.format(act, ""), "rnx2crx", *words, "a.rnx"), 1, errors=["a.rnx: ERROR: "])
+                lines = differs(place.changed(AT_THE_FLUSH.format(act, ""), "rnx2crx", *words, "a.rnx"), 1, errors=["a.rnx: ERROR"])
                 wrong += [f"{act} {words}: {line}" for line in lines + ([] if not place.parts() and "a.crx" not in place.names() else [f"files {place.names()}"])]
     return wrong
 
