@@ -16,7 +16,7 @@ import time
 from contextlib import ExitStack, contextmanager
 from pathlib import Path
 
-from place import ENVIRONMENT, SECONDS, TOOL, GOOD, Place, differs, marked
+from place import DIRECTIONS, ENVIRONMENT, GOOD, SECONDS, TOOL, Place, Promise, differs, marked
 from promises import LIST
 from signals import BATCH, after_its_end, command_of, lines_up_to_a_moment, prepared
 
@@ -201,15 +201,15 @@ def on_sshfs(texts, folder):
 def from_a_source_that_is_read_only(texts, folder):
     """Each input is below a folder that can't be written to, and -o names a place elsewhere."""
     wrong = []
-    for direction, ending in (("rnx2crx", "crx"), ("crx2rnx", "rnx")):
+    for direction in ("rnx2crx", "crx2rnx"):
         (folder / direction).mkdir()
         inputs = files_on(folder / direction, texts, direction)
         with mounted(folder / "top", "mount", "--bind", "-o", "ro", folder / direction) as top, Place() as place:
-            for state in ("made", "is there already"):
-                for name in inputs:
-                    output = f"{name[:-4]}.{ending}"
-                    wrong += differs(place.run_in_child(direction, "--verified-to", f"{name} {state}", "-o", output, str(top / name)), 0, [state, "verified exact"])
-            wrong += [name for number, name in enumerate(inputs) if texts.held(direction, (place.work / f"{name[:-4]}.{ending}").read_bytes()) != marked(GOOD, number)]
+            for name in inputs:
+                promise = Promise(texts, direction, place, top / name, f"{name[:-4]}{DIRECTIONS[direction][1]}")
+                for state in ("made", "is there already"):
+                    run = place.run_in_child(direction, "--verified-to", f"{name} {state}", "-o", promise.output.name, str(top / name))
+                    wrong += differs(run, 0, [state, "verified exact"]) + promise.broken(run.stdout)
             wrong += [f"left: {place.parts()}"] if place.parts() or len(place.names()) != 3 * FILES else []
     return wrong[:6]
 

@@ -124,20 +124,7 @@ def check_call(texts, call, errors, names):
     return [line for lines in found for line in lines][:8]
 
 
-def full_disk(texts):
-    """No more than some bytes can be written to a file: each length up to that of the output."""
-    wrong = []
-    for kilobytes in range(0, 11):
-        with Place() as place:
-            (promise,) = prepared(texts, place, JOBS["new"])
-            run = place.run("rnx2crx", "--verify", "a.rnx", through=("sh", "-c", f'ulimit -f {2 * kilobytes}; trap "" XFSZ; exec "$@"', "sh"))
-            lines = promise.broken(run.stdout) + ([] if kilobytes >= 10 or (run.returncode == 1 and "ERROR: cannot write a.crx: File too large" in run.stderr) else [f"status {run.returncode}, {run.stderr!r}"])
-            wrong += [f"{kilobytes} KB: {line}" for line in lines + ([f"left: {place.parts()}"] if place.parts() else [])]
-    return wrong
-
-
 def checks(texts, calls=SOME, names=IN_THE_GATE):
     left_out = None if is_traced() else "strace may not trace here"
     for call, errors in calls.items():
         yield f"{call} fails", lambda call=call, errors=errors: left_out or check_call(texts, call, errors, names)
-    yield "a full disk", lambda: full_disk(texts)

@@ -72,16 +72,12 @@ def streams_that_end(texts):
             place.write(name, GOOD)
         reader, writer = os.pipe()
         os.close(reader)
-        run = started(place, "rnx2crx", "--verified-to", "list", *names, stdout=writer, stderr=subprocess.PIPE)
-        right = run.returncode == 1 and run.stderr == b"rnxcmp-file: ERROR: cannot write to standard output: Broken pipe\n" and place.listed() == names
-        wrong = [] if right else [f"{run}, {place.listed()}"]
-        run = started(place, "-h", stdout=writer, stderr=subprocess.PIPE)
-        wrong += [] if run.returncode == 1 and run.stderr == b"rnxcmp-file: ERROR: Broken pipe\n" else [f"{run}"]
-        for name, status in (("a.rnx", 0), ("none.rnx", 1)):
-            run = started(place, "rnx2crx", name, stdout=subprocess.PIPE, stderr=writer)
-            wrong += [] if run.returncode == status else [f"{run}"]
+        runs = [started(place, *words, stdout=writer, stderr=subprocess.PIPE) for words in (("rnx2crx", "--verified-to", "list", *names), ("-h",))]
+        said = [b"rnxcmp-file: ERROR: cannot write to standard output: Broken pipe\n", b"rnxcmp-file: ERROR: Broken pipe\n"]
+        wrong = [] if [(run.returncode, run.stderr) for run in runs] == [(1, text) for text in said] and place.listed() == names else [f"{runs}, {place.listed()}"]
+        statuses = [started(place, "rnx2crx", name, stdout=subprocess.PIPE, stderr=writer).returncode for name in ("a.rnx", "none.rnx")]
         os.close(writer)
-        return wrong
+        return wrong + ([] if statuses == [0, 1] else [f"{statuses}"])
 
 
 def progress(texts):
@@ -98,21 +94,6 @@ def progress(texts):
 
 
 # ---- what it needs
-
-
-def no_gzip_program(texts):
-    """Without the program gzip `.Z` isn't read; a message names it."""
-    with Place() as place:
-        place.write("a.rnx.Z", b"\x1f\x9d\x90" + b"x" * 30)
-        run = place.run("rnx2crx", "a.rnx.Z", environment={"PATH": "/nowhere"})
-        return differs(run, 1, errors=[".Z is unpacked by gzip -dc, which can't be started: No such file"])
-
-
-def no_memory(texts):
-    """If Python's own memory runs out the message says so."""
-    with Place() as place:
-        run = place.changed("import rnxcmp.files\ndef none(*_): raise MemoryError\nrnxcmp.files.Whole = none", "rnx2crx", "a.rnx")
-        return [] if run.returncode == 1 and run.stderr == "a.rnx: ERROR: out of memory\n" else [f"{run}"]
 
 
 def nothing_around(texts):
@@ -227,7 +208,7 @@ def from_python(texts):
 
 
 CHECKS = (
-    names, lines, streams_that_end, progress, no_gzip_program, no_memory, nothing_around, little_memory, quick_start,
+    names, lines, streams_that_end, progress, nothing_around, little_memory, quick_start,
     modules_of_the_folder, from_python,
 )  # fmt: skip
 

@@ -1,152 +1,14 @@
-"""The promises of docs/FILES.md: what a run leaves alone, when it names an output, what it calls verified and lists, and who may read it."""
+"""How a file gets its name, in the order of the system's calls, and who may read it."""
 
-import gzip
 import os
 import re
 import shutil
-import signal
 import stat
 import struct
 
-from place import ANOTHER_USER, DATE, GOOD, OLD, Place, differs, is_traced, marked
+from place import ANOTHER_USER, GOOD, OLD, Place, differs, is_traced
 
 TEMPORARY = r"part\.rnxcmp-file\.[0-9a-f]{16}"
-
-# The first flush to the disk, when the temporary file is written, before and after which something is done.
-AT_THE_FLUSH = """
-sync, temporary = os.fsync, lambda: next(name for name in os.listdir() if name.startswith('part.'))
-def synced(file):
-    os.fsync = sync
-    {}
-    sync(file)
-    {}
-os.fsync = synced
-"""
-
-
-# ---- while a run is at work
-
-
-def changed_input(texts):
-    """An input that is written to, replaced or removed is an error, and nothing is made of it."""
-    wrong = []
-    for act in ("os.utime('a.rnx', (1704067200, 1704067200))", "open('a.rnx', 'r+').write('x')", "os.rename('b', 'a.rnx')", "os.remove('a.rnx')"):
-        for words in ((), ("--verify",), ("-f",)):
-            with Place() as place:
-                for name in ("a.rnx", "b"):
-                    place.write(name, GOOD)
-                lines = differs(place.changed(AT_THE_FLUSH.format(act, ""), "rnx2crx", *words, "a.rnx"), 1, errors=["a.rnx: ERROR"])
-                wrong += [f"{act} {words}: {line}" for line in lines + ([] if not place.parts() and "a.crx" not in place.names() else [f"files {place.names()}"])]
-    return wrong
-
-
-def output_that_comes(texts):
-    """A file that gets the output's name meanwhile stays, without -f; this input's own is as good. So it is with a folder, also with -f."""
-    wrong = []
-    for words, act, status, said in (
-        ((), "open('a.crx', 'w').write('another')", 1, "file exists, and is damaged"), ((), "os.rename('same', 'a.crx')", 0, ""), (("--verify",), "os.rename('same', 'a.crx')", 0, ""),
-        ((), "os.mkfifo('a.crx')", 1, "no regular file"), (("-f",), "os.mkdir('a.crx')", 1, "the output is a folder"), (("-f",), "os.rename('a.rnx', 'a.crx')", 1, "this file changed meanwhile"),
-    ):  # fmt: skip
-        with Place() as place:
-            place.write("a.rnx", GOOD)
-            place.write("same", texts.plain_compact)
-            run = place.changed(AT_THE_FLUSH.format(act, "os.utime('a.crx', (9, 9)) if os.path.isfile('a.crx') else None"), "rnx2crx", *words, "a.rnx")
-            lines = differs(run, status, [] if status else ["a.crx is there already"], [said] if status else None)
-            wrong += [f"{words} {act}: {line}" for line in lines + ([] if (place.work / "a.crx").stat().st_mtime in (9, (place.work / "a.crx").stat().st_ctime) or not (place.work / "a.crx").is_file() else ["it was replaced"])]
-            wrong += [f"left: {place.parts()}"] if place.parts() else []
-    return wrong
-
-
-CHANGES = ("text[:-3] + bytes([text[-3] ^ 1]) + text[-2:]", "text[:len(text) // 2]", "text + b'more'")
-
-
-def file_that_changes_on_the_disk(texts):
-    """If the bytes that are read back aren't those that were written, or are cut off, nothing is made, and nothing is called verified."""
-    wrong = []
-    for direction, name, content in (("rnx2crx", "a.rnx", GOOD), ("crx2rnx", "a.crx", texts.plain_compact), ("rnx2crx", "a.rnx.gz", gzip.compress(GOOD))):
-        for change in CHANGES:
-            with Place() as place:
-                place.write(name, content)
-                act = f"text = open(temporary(), 'rb').read(); open(temporary(), 'wb').write({change})"
-                lines = differs(place.changed(AT_THE_FLUSH.format("", act), direction, "--verify", name), 1, errors=["not verified, so nothing was made"])
-                wrong += [f"{direction} {change}: {line}" for line in lines + ([] if place.names() == {name} and not place.parts() else [f"files {place.names()}"])]
-    return wrong
-
-
-SIGNALS = (signal.SIGTERM, signal.SIGINT, signal.SIGHUP, signal.SIGQUIT, signal.SIGUSR1, signal.SIGXCPU)
-
-
-def asked_to_end(texts):
-    """A run that is asked to end ends by that signal; nothing is made, and no temporary file is left."""
-    wrong = []
-    for number in SIGNALS:
-        with Place() as place:
-            place.write("a.rnx", GOOD)
-            run = place.changed(AT_THE_FLUSH.format("", f"os.kill(os.getpid(), {int(number)})"), "rnx2crx", "a.rnx", "--verified-to", "list")
-            wrong += [] if run.returncode == -number and not run.stdout + run.stderr and place.names() == {"a.rnx"} and not place.parts() else [f"{run}, {place.parts()}"]
-    return wrong
-
-
-CLOSE_FAILS = """
-close, files = os.close, rnxcmp._parts.Part
-def closing(part, close=files._close_file):
-    close(part)
-    raise OSError(5, os.strerror(5))
-files._close_file = closing
-"""
-
-
-def close_that_fails(texts):
-    """If the close of the temporary file fails nothing is made."""
-    with Place() as place:
-        place.write("a.rnx", GOOD)
-        wrong = differs(place.changed(CLOSE_FAILS, "rnx2crx", "a.rnx"), 1, errors=["cannot put a.crx into place: Input/output error"])
-        return wrong + ([] if place.names() == {"a.rnx"} and not place.parts() else [f"files {place.names()}"])
-
-
-AFTER_ITS_LINE = """
-write = os.write
-def written(file, text):
-    count = write(file, text)
-    if file == 1 and bytes(text).startswith(b"a.rnx: "):
-        {}
-    return count
-os.write = written
-def change(name):
-    status = os.stat(name)
-    with open(name, "r+b") as file:
-        file.seek(200)
-        file.write(b"~")
-    os.utime(name, ns=(status.st_atime_ns, status.st_mtime_ns))
-"""
-
-
-def list_of_changed_files(texts):
-    """The list has no input that changed after it was verified, and none whose output changed, was replaced or removed, whatever its times."""
-    wrong = []
-    for there in (False, True):
-        for act in ("change('a.rnx')", "change('a.crx')", "os.rename('spare', 'a.crx')", "os.rename('spare', 'a.rnx')", "os.remove('a.crx')", "os.remove('a.crx'); os.mkfifo('a.crx')"):
-            with Place() as place:
-                for name in ("a.rnx", "b.rnx", "spare"):
-                    place.write(name, marked(GOOD, 1) if name == "spare" else GOOD)
-                if there:
-                    place.write("a.crx", texts.plain_compact)
-                run = place.changed(AFTER_ITS_LINE.format(act), "rnx2crx", "--verified-to", "list", "a.rnx", "b.rnx")
-                lines = differs(run, 1, ["verified exact"], ["list: ERROR: 1 files changed after they were verified, and aren't in it\n"])
-                wrong += [f"{there} {act}: {line}" for line in lines + ([] if place.listed() == ["b.rnx"] else [f"listed: {place.listed()}"])]
-    return wrong
-
-
-def list_that_comes(texts):
-    """A file that gets the list's name meanwhile stays, with -f too."""
-    with Place() as place:
-        place.write("a.rnx", GOOD)
-        run = place.changed(AFTER_ITS_LINE.format("open('list', 'x').write('another')"), "rnx2crx", "-f", "a.rnx", "--verified-to", "list")
-        wrong = differs(run, 1, ["verified exact"], ["list: ERROR: another file has got its name\n"])
-        return wrong + ([] if (place.work / "list").read_text() == "another" and not place.parts() else [f"{place.names()}"])
-
-
-# ---- how an output gets its name
 
 
 def calls_on(place, words, calls):
@@ -182,40 +44,6 @@ def order_of_calls(texts):
         run, calls = calls_on(place, ("rnx2crx", "--verify", "a.rnx"), "fsync,fadvise64,read")  # the output that exists now
         output = rf"\(\d+<{re.escape(str(place.work))}/a.crx>"
         return wrong + in_order(calls, (f"fsync{output}", f"fsync{home}", f"fadvise64{output}, 0, 0, POSIX_FADV_DONTNEED", f"read{output}"))
-
-
-def without(call, error):
-    return f"-e inject={call}:error={error}".split()
-
-
-def disks_without_links(texts):
-    """Without links the output is renamed where nothing is; without that call too it is refused, with the way out, which works."""
-    wrong = []
-    refused = "cannot put a.crx into place: this disk can't name a file without replacing; -f renames over the old file"
-    for words, more, status in (
-        (("--verified-to", "list"), without("linkat", "EPERM"), 0),
-        ((), without("linkat", "EOPNOTSUPP") + without("renameat2", "EINVAL"), 1),
-        (("-f", "--verified-to", "list"), without("linkat", "ENOSYS") + without("renameat2", "ENOSYS"), 0),
-    ):
-        with Place() as place:
-            place.write("a.rnx", GOOD)
-            run = place.run("rnx2crx", *words, "a.rnx", through=("strace", "-f", "-qq", "-o", "/dev/null", "-e", "trace=linkat,renameat2", *more))
-            lines = differs(run, status, [] if status else ["made a.crx, verified exact"], [refused] if status else None)
-            lines += [] if place.names() == {"a.rnx", *(() if status else ("a.crx", "list"))} and not place.parts() else [f"files {place.names()}, {place.parts()}"]
-            wrong += [f"{words} {more}: {line}" for line in lines]
-    return wrong + renamed_over_nothing(texts)
-
-
-def renamed_over_nothing(texts):
-    """The rename that replaces nothing leaves a file that gets the name meanwhile."""
-    with Place() as place:
-        place.write("a.rnx", GOOD)
-        script = "def refuse(*_, **__):\n    open('a.crx', 'w').write('another')\n    raise OSError(1, 'x')\nos.link = refuse"
-        wrong = differs(place.changed(script, "rnx2crx", "a.rnx"), 1, errors=["file exists, and is damaged"])
-        return wrong + ([] if (place.work / "a.crx").read_text() == "another" and not place.parts() else ["it was replaced"])
-
-
-# ---- who may read an output
 
 
 def modes(texts):
@@ -261,24 +89,7 @@ def access_lists(texts):
     return wrong
 
 
-NO_MODES = "os.fchmod = lambda *_: None\nos.open = lambda name, flags, mode=0o777, *, open=os.open, **more: open(name, flags, 0o644 if mode == 0o600 else mode, **more)"
-
-
-def disk_without_modes(texts):
-    """If a disk gives each file the same mode the output is made, and a warning says when more users may read it than the input."""
-    wrong = []
-    for mode, errors in ((0o644, None), (0o640, ["a.rnx: WARNING: more users may read the output than the input: this disk doesn't keep modes\n"])):
-        with Place() as place:
-            place.write("a.rnx", GOOD).chmod(mode)
-            wrong += differs(place.changed("os.umask(0)\n" + NO_MODES, "rnx2crx", "--verify", "a.rnx"), 0, ["verified exact"], errors)
-    return wrong
-
-
-CHECKS = (changed_input, output_that_comes, file_that_changes_on_the_disk, list_of_changed_files, list_that_comes, close_that_fails, asked_to_end, modes, access_lists, disk_without_modes)
-TRACED = (order_of_calls, disks_without_links)
-
-
 def checks(texts):
-    left_out = None if is_traced() else "strace may not trace here"
-    for check in (*CHECKS, *TRACED):
-        yield check.__name__.replace("_", " "), lambda check=check: (check in TRACED and left_out) or check(texts)
+    yield "order of calls", lambda: order_of_calls(texts) if is_traced() else "strace may not trace here"
+    yield "modes", lambda: modes(texts)
+    yield "access control lists", lambda: access_lists(texts)

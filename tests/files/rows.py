@@ -1,9 +1,11 @@
 """Calls of rnxcmp-file, each a row: the files at the start, the words, the status, texts on standard output and standard error, the files that
-are made, and the names in `list`. In each row every file of the start that isn't to be replaced stays as it is."""
+are made, the names in `list`, and a script that changes the tool first. Every file of the start that isn't to be replaced or gone stays as it
+is, and no temporary file is left."""
 
 import gzip
 import os
 import shlex
+import signal
 from functools import reduce
 
 from place import DATE, GOOD, Place, changed_epoch, differs, marked, padded, state_of, unpacked
@@ -24,8 +26,8 @@ def compressed(text, *more):
     return b"\x1f\x9d\x90" + bits.to_bytes(-(-9 * (len(codes) + len(more)) // 8), "little")
 
 
-def row(files, words, status=0, out=(), err=(), made=(), listed=None, replaced=()):
-    return files, shlex.split(words), status, (out,) if isinstance(out, str) else out, (err,) if isinstance(err, str) else err, made, listed, replaced
+def row(files, words, status=0, out=(), err=(), made=(), listed=None, replaced=(), gone=(), script=""):
+    return files, shlex.split(words), status, (out,) if isinstance(out, str) else out, (err,) if isinstance(err, str) else err, made, listed, replaced, gone, script
 
 
 def names_of_outputs(texts):
@@ -168,6 +170,108 @@ def no_epoch(texts):
     yield row({"a.rnx": HEADER + b"> x\n" + EVENT + EPOCHS}, "rnx2crx -s a.rnx", 2, "made a.crx, not verified: 1 warnings", "WARNING line ", ("a.crx",))
 
 
+# ---- what happens while a run is at work: before and after its first flush to the disk, or right after its line
+
+AT_THE_FLUSH = """
+sync, temporary = os.fsync, lambda: next(name for name in os.listdir() if name.startswith('part.'))
+def synced(file):
+    os.fsync = sync
+    {}
+    sync(file)
+    {}
+os.fsync = synced
+"""
+AFTER_ITS_LINE = """
+write = os.write
+def written(file, text):
+    count = write(file, text)
+    if file == 1 and bytes(text).startswith(b"a.rnx: "):
+        {}
+    return count
+os.write = written
+def change(name):
+    status = os.stat(name)
+    with open(name, "r+b") as file:
+        file.seek(200)
+        file.write(b"~")
+    os.utime(name, ns=(status.st_atime_ns, status.st_mtime_ns))
+"""
+CLOSE_FAILS = """
+def closing(part, close=rnxcmp._parts.Part._close_file):
+    close(part)
+    raise OSError(5, os.strerror(5))
+rnxcmp._parts.Part._close_file = closing
+"""
+
+
+def inputs_that_change(texts):
+    """An input that is written to, replaced or removed is an error, and nothing is made of it."""
+    for act, gone in (("os.utime('a.rnx', (1704067200, 1704067200))", ()), ("open('a.rnx', 'r+').write('x')", ()), ("os.rename('b.rnx', 'a.rnx')", ("b.rnx",)), ("os.remove('a.rnx')", ("a.rnx",))):
+        for words in ("", "--verify", "-f"):
+            yield row({**A, **B}, f"rnx2crx {words} a.rnx", 1, (), "a.rnx: ERROR", replaced=("a.rnx",), gone=gone, script=AT_THE_FLUSH.format(act, ""))
+
+
+def outputs_that_come(texts):
+    """A file that gets the output's name meanwhile stays, without -f, and a folder with -f too; this input's own is as good."""
+    another, same, start = {"a.crx": (b"another", False)}, {"a.crx": (texts.plain_compact, False)}, {**A, "same": texts.plain_compact}
+    for words, act, status, said, made, gone in (
+        ("", "open('a.crx', 'w').write('another')", 1, "file exists, and is damaged", another, ()), ("", "os.rename('same', 'a.crx')", 0, (), same, ("same",)), ("--verify", "os.rename('same', 'a.crx')", 0, (), same, ("same",)),
+        ("", "os.mkfifo('a.crx')", 1, "no regular file", ("a.crx",), ()), ("-f", "os.mkdir('a.crx')", 1, "the output is a folder", ("a.crx",), ()), ("-f", "os.rename('a.rnx', 'a.crx')", 1, "this file changed meanwhile", {"a.crx": (GOOD, False)}, ("a.rnx",)),
+    ):  # fmt: skip
+        yield row(start, f"rnx2crx {words} a.rnx", status, () if status else "a.crx is there already", said, made, gone=gone, script=AT_THE_FLUSH.format(act, ""))
+    yield row(A, "rnx2crx a.rnx", 1, (), "cannot put a.crx into place: Input/output error", script=CLOSE_FAILS)
+    script = AFTER_ITS_LINE.format("open('list', 'x').write('another')")
+    yield row(A, "rnx2crx -f a.rnx --verified-to list", 1, "verified exact", "list: ERROR: another file has got its name\n", ("a.crx", "list"), script=script)
+
+
+def bytes_that_change_on_the_disk(texts):
+    """If the bytes that are read back aren't those that were written, or are cut off, nothing is made, and nothing is called verified."""
+    for direction, name, content in (("rnx2crx", "a.rnx", GOOD), ("crx2rnx", "a.crx", texts.plain_compact), ("rnx2crx", "a.rnx.gz", PACKED)):
+        for change in ("text[:-3] + bytes([text[-3] ^ 1]) + text[-2:]", "text[:len(text) // 2]", "text + b'more'"):
+            script = AT_THE_FLUSH.format("", f"text = open(temporary(), 'rb').read(); open(temporary(), 'wb').write({change})")
+            yield row({name: content}, f"{direction} --verify {name}", 1, (), "not verified, so nothing was made", script=script)
+
+
+def signals(texts):
+    """A run that is asked to end ends by that signal; nothing is made."""
+    for number in (signal.SIGTERM, signal.SIGINT, signal.SIGHUP, signal.SIGQUIT, signal.SIGUSR1, signal.SIGXCPU):
+        yield row(A, "rnx2crx a.rnx --verified-to list", -number, script=AT_THE_FLUSH.format("", f"os.kill(os.getpid(), {int(number)})"))
+
+
+def lists_of_changed_files(texts):
+    """The list has no input that changed after it was verified, and none whose output changed, was replaced or removed, whatever its times."""
+    for act, gone in (
+        ("change('a.rnx')", ()), ("change('a.crx')", ()), ("os.rename('p.rnx', 'a.crx')", ("p.rnx",)), ("os.rename('p.rnx', 'a.rnx')", ("p.rnx",)), ("os.remove('a.crx')", ("a.crx",)), ("os.remove('a.crx'); os.mkfifo('a.crx')", ()),
+    ):  # fmt: skip
+        said, script = "list: ERROR: 1 files changed after they were verified, and aren't in it\n", AFTER_ITS_LINE.format(act)
+        for there in ({}, {"a.crx": texts.plain_compact}):
+            yield row({**A, **B, **P, **there}, "rnx2crx --verified-to list a.rnx b.rnx", 1, "verified exact", said, ("a.crx", "b.crx", "list"), ["b.rnx"], ("a.rnx", "a.crx"), gone, script)
+
+
+NO_LINKS = "def refuse(*_, **__):\n    raise OSError(1, 'x')\nos.link = refuse\n"
+NO_RENAMES = NO_LINKS + "rnxcmp._parts._NOREPLACE = 1 << 20"  # a flag that no disk has
+NO_MODES = "os.umask(0)\nos.fchmod = lambda *_: None\nos.open = lambda name, flags, mode=0o777, *, open=os.open, **more: open(name, flags, 0o644 if mode == 0o600 else mode, **more)\n"
+
+
+def disks(texts):
+    """Without links an output is renamed where nothing is; without that call too it is refused, with the way out, which works. A disk without
+    modes is as good, but a warning says if more users may read an output there than its input."""
+    refused = "cannot put a.crx into place: this disk can't name a file without replacing; -f renames over the old file"
+    yield row(A, "rnx2crx --verified-to list a.rnx", 0, "made a.crx, verified exact", (), ("a.crx", "list"), ["a.rnx"], script=NO_LINKS)
+    another = NO_LINKS.replace("    raise", "    open('a.crx', 'w').write('another')\n    raise")
+    yield row(A, "rnx2crx a.rnx", 1, (), "file exists, and is damaged", {"a.crx": (b"another", False)}, script=another)
+    yield row(A, "rnx2crx a.rnx", 1, (), refused, script=NO_RENAMES)
+    yield row(A, "rnx2crx -f --verified-to list a.rnx", 0, "made a.crx, verified exact", (), ("a.crx", "list"), ["a.rnx"], script=NO_RENAMES)
+    warning = "a.rnx: WARNING: more users may read the output than the input: this disk doesn't keep modes\n"
+    for mode, said in ((0o644, ()), (0o640, warning)):
+        yield row(A, "rnx2crx --verify a.rnx", 0, "verified exact", said, ("a.crx",), replaced=("a.rnx",), script=NO_MODES + f"os.chmod('a.rnx', {mode})")
+    yield row(A, "rnx2crx a.rnx", 1, (), "a.rnx: ERROR: out of memory\n", script="import rnxcmp.files\ndef none(*_): raise MemoryError\nrnxcmp.files.Whole = none")
+    yield row({"a.rnx.Z": compressed(GOOD)}, "rnx2crx a.rnx.Z", 1, (), ".Z is unpacked by gzip -dc, which can't be started: No such file", script="os.environ['PATH'] = '/nowhere'")
+
+
+# ---- how a row is run
+
+
 def put(place, name, content):
     path = place.work / name
     if isinstance(content, str):
@@ -182,24 +286,27 @@ def files_of(place):
     return {str(path.relative_to(place.work)) for path in place.work.rglob("*")}
 
 
-def run_row(files, words, status, out, err, made, listed, replaced):
+def run_row(files, words, status, out, err, made, listed, replaced, gone, script):
     """What is wrong with a row, as lines."""
     with Place() as place:
         for name, content in files.items():
             put(place, name, content)
-        kept = {name: state_of(place.work / name) for name, content in files.items() if name not in replaced and content is not FOLDER}
-        run = place.run_in_child(*words)
+        kept = {name: state_of(place.work / name) for name, content in files.items() if name not in {*replaced, *gone} and content is not FOLDER}
+        run = place.changed(script, *words) if script else place.run_in_child(*words)
         wrong = differs(run, status, out, err)
         wrong += [f"{text!r} isn't said {err.count(text)} times" for text in err if err.count(text) > 1 and run.stderr.count(text) != err.count(text)]
         wrong += [f"{name} was changed" for name, state in kept.items() if state_of(place.work / name) != state]
-        wrong += [] if files_of(place) == {*files, *made} else [f"files {files_of(place)}"]
+        wrong += [] if files_of(place) == {*files, *made} - {*gone} else [f"files {files_of(place)}"]
         for name, (text, packed) in made.items() if isinstance(made, dict) else ():
             found = (place.work / name).read_bytes()
             wrong += [] if unpacked(found) == text and (found != text) == packed else [f"{name} has another content"]
         wrong += [] if listed is None or place.listed() == listed else [f"listed: {place.listed()}"]
-        return [f"{' '.join(words)[:80]}: {line}" for line in wrong]
+        return [f"{' '.join(words)[:80]} {script[-80:]!r}: {line}" for line in wrong]
 
 
 def checks(texts):
-    for group in (names_of_outputs, choices, refusals, lists, cut_files, ways_back, links, packs, no_epoch):
+    for group in (
+        names_of_outputs, choices, refusals, lists, cut_files, ways_back, links, packs, no_epoch, inputs_that_change, outputs_that_come, bytes_that_change_on_the_disk, signals,
+        lists_of_changed_files, disks,
+    ):  # fmt: skip
         yield group.__name__.replace("_", " "), lambda group=group: [line for one in group(texts) for line in run_row(*one)]
