@@ -13,6 +13,7 @@ from pathlib import Path
 from cases import BAD_INDICATOR, COMPACT_FIVE, DATED, EACH, H, epoch, text
 from window import LONGEST, WINDOW
 
+SAMPLE = Path(__file__).resolve().parents[2] / "samples/station.rnx"
 SECONDS = 20  # in which each output is to be there
 BUFFER = 65536  # bytes that a run over files writes at once
 
@@ -43,15 +44,18 @@ def read_for(stream, count):
     return got
 
 
-def fed_one_at_a_time(program, words, parts, pieces):
-    """Feeds parts one at a time, each in so many pieces: what a part makes is read before the next is fed."""
+def fed_one_at_a_time(program, words, parts, pieces, fifo=None):
+    """Feeds parts one at a time, each in `pieces` pieces: the output of a part is read before the next one is fed. `fifo`: the name of a FIFO that
+    is the input, instead of a pipe at standard input."""
     wrong, given, read = [], b"", b""
-    with subprocess.Popen([program, *words], stdin=subprocess.PIPE, stdout=subprocess.PIPE, stderr=subprocess.PIPE) as run:
+    command = [program, *words, *(["-", fifo] if fifo else [])]
+    with subprocess.Popen(command, stdin=subprocess.PIPE, stdout=subprocess.PIPE, stderr=subprocess.PIPE) as run:
+        feed = open(os.open(fifo, os.O_RDWR), "wb") if fifo else run.stdin  # to open it so doesn't wait for its reader
         for place, part in enumerate(parts):
             size = -(-len(part) // pieces)
             for start in range(0, len(part), size):
-                run.stdin.write(part[start : start + size])
-                run.stdin.flush()
+                feed.write(part[start : start + size])
+                feed.flush()
                 time.sleep(0.005 if pieces > 1 else 0)
             given += part
             wanted = whole_output(program, words, given)[0]
@@ -59,7 +63,7 @@ def fed_one_at_a_time(program, words, parts, pieces):
             if read != wanted:
                 wrong.append(f"part {place} in {pieces} pieces: {read[-80:]!r}, not {wanted[-80:]!r}")
                 break
-        run.stdin.close()
+        feed.close()
         read += run.stdout.read()
         messages = run.stderr.read()
         run.wait(timeout=SECONDS)
@@ -84,6 +88,21 @@ def each_epoch(program):
         for pieces in (1, 3):
             wrong += fed_one_at_a_time(program, words, parts, pieces)
             wrong += fed_one_at_a_time(program, ["crx2rnx"], compact, pieces)
+    return wrong
+
+
+def each_epoch_of_a_named_pipe(program):
+    """The same of the epochs of the sample, where the input is a FIFO that is given by its name."""
+    lines = SAMPLE.read_bytes().splitlines(keepends=True)
+    starts = [0, *(at for at, line in enumerate(lines) if line.startswith(b">"))][2:8]
+    parts = [b"".join(lines[start:end]) for start, end in zip([0, *starts], starts)]
+    outputs = [whole_output(program, DATED, b"".join(parts[: k + 1]))[0] for k in range(len(parts))]
+    compact = [outputs[0], *(after[len(before) :] for before, after in zip(outputs, outputs[1:]))]
+    wrong = []
+    for words, fed in ((DATED, parts), (["crx2rnx"], compact)):
+        with tempfile.TemporaryDirectory() as folder:
+            os.mkfifo(fifo := f"{folder}/fifo")
+            wrong += fed_one_at_a_time(program, words, fed, 1, fifo)
     return wrong
 
 
@@ -163,6 +182,7 @@ def a_folder(program):
 
 CHECKS = [
     ("each epoch before the next is fed", each_epoch),
+    ("each epoch of a named pipe before the next is fed", each_epoch_of_a_named_pipe),
     ("warnings after the output before them", warnings_in_order),
     ("an output that nobody reads", nobody_reads),
     ("calls over files", calls_over_files),
