@@ -244,8 +244,9 @@ def on_disk(name, texts, folder):
     lacking = [tool for tool in needed if not shutil.which(tool, path=f"{os.environ['PATH']}:/usr/sbin:/sbin")]
     if lacking:
         return f"there is no {', '.join(lacking)}"
-    (folder / name).mkdir()
-    return check(texts, folder / name)
+    work = folder / name.replace(" ", "_")
+    work.mkdir()
+    return check(texts, work)
 
 
 # ---- disks that lose power
