@@ -13,7 +13,7 @@
 #             more or less
 # make archive-test runs each recipe of docs/ARCHIVES.md over 200 files, some of them bad, with kills and full disks (tests/archives)
 # make files-test tries rnxcmp-file for longer (tests/files/run.py): disks of all kinds, power cuts, signals, failing calls (as root)
-# make explain-test changes a byte in 2,000 files, and asks what is explained of each (tests/explain)
+# make explain-test explains 20,000 damaged files and 2,000 cut ones, and opens 2,000 with CRs (tests/explain)
 # make conformance PEER='RNX2CRX -;CRX2RNX -'
 #             runs the suite for other programs (conformance) over this one and over the two commands; out/conformance has the report
 # make laws-test asks sentences of README.md of what the program that make built does: on 100,000 flips of a bit and 100,000 damages of random

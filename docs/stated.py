@@ -1,6 +1,6 @@
 #!/usr/bin/env python3
 """Puts the numbers of the sources into the texts that state them: the limits, and how many definitions one has to believe; and what is
-listed: the faults in the manual page, the options in it, in the page of use and in the completions, what explains faults in the page of use, the
+listed: the faults in the manual page, the options in it, in the page of use and in the completions, the tables of `explain` in the page of use, the
 cases in the page of the tests. Who
 changes a limit, or adds a fault, an option or a case, runs `make numbers`; none of these texts needs a hand for it. A page says a limit's
 number only where this script puts it; code and tests cite the limit by its name.
@@ -251,15 +251,22 @@ def tools_with():
 
 @cache
 def explained():
-    """The tables of what explains faults, each under its first line, as the package has them."""
+    """The tables of `explain`, each under its first line, as the package has them."""
     spec = util.spec_from_file_location("causes", TOP / "python/rnxcmp/_causes.py")
     module = util.module_from_spec(spec)
     spec.loader.exec_module(module)
-    return module.tables()
+    errors = [[(str(code), row.expected, "; ".join(row.causes), row.remedy) for code, row in table.items()] for table in (module.ERRORS, module.COMPACT_ERRORS)]
+    tables = {
+        "| Code | Expected | Likely causes | To do |": errors[0],
+        "| Code, in an epoch of compact text | Expected | Likely causes | To do |": errors[1],
+        "| The first bytes tell | To do |": [(sign.cause.format("V"), sign.remedy) for sign in module.SIGNS],
+        "| Why a line isn't standard | Its standard form |": [*(row[1:] for row in module.REASONS), module.OTHER_REASON],
+    }
+    return {title: "\n".join([title, "|" + "---|" * (title.count("|") - 1), *("| " + " | ".join(row) + " |" for row in rows)]) for title, rows in tables.items()}
 
 
 def for_use(text):
-    """The page of use with the tables of what explains faults, the options of each subcommand, and a row for an option that has none: what help says, which a hand may change."""
+    """The page of use with the tables of `explain`, the options of each subcommand, and a row for an option that has none: what help says, which a hand may change."""
     for tool in HELP:
         words = "".join(f" [{option.with_value()}]" for option, tools in tools_with().items() if tool in tools)
         text = re.sub(rf"^(    rnxcmp {tool}).*(?= \[-\] \[FILE\]$)", lambda m, words=words: m[1] + words, text, flags=re.M)

@@ -1,21 +1,15 @@
 """RINEX 3.0x observation files and Compact RINEX 3.0 (Hatanaka's format), over the proved library of rnxcmp.
 
     import rnxcmp
-    compact = rnxcmp.rnx2crx(data)            # bytes, a path or an open file, to bytes
-    data = rnxcmp.crx2rnx(compact)
-    report = rnxcmp.check(data)               # report.is_standard, report.epochs, ...
+    compact = rnxcmp.rnx2crx("abcd0010.24o")     # a path, bytes, an open file or a text, to bytes
+    rinex = rnxcmp.crx2rnx(compact)
+    print(rnxcmp.check(rinex).is_standard)
+    print(rnxcmp.explain("abcd0010.24o"))        # why a file is refused or isn't standard; None for a good one
+    with rnxcmp.open("abcd0010.24d.gz") as file:  # a stream of RINEX text
+        print(file.readline())
 
-    stream = rnxcmp.Stream.expanding()        # an input that comes in pieces: stream.feed(piece), stream.end()
-
-    rnxcmp.decompress("abcd0010.24d.gz")      # a file or bytes, gzipped or not, to the bytes of RINEX
-    rnxcmp.decompress_on_disk("abcd0010.24d.gz")
-    rnxcmp.compress("abcd0010.24o")           # to gzipped compact bytes
-    rnxcmp.open("abcd0010.24d.gz")            # a stream of RINEX text, in memory that doesn't grow
-
-    print(rnxcmp.explain("abcd0010.24o"))     # where a file is refused or not standard, and why; None for a good one
-
-The names and arguments of these are those of the package ``hatanaka``. A fault of the input raises :class:`RnxcmpError`; what was
-skipped (``skip_strange_epochs``) is a :class:`RnxcmpWarning`; an output that is longer than ``max_length`` an :class:`OutputLimitError`.
+Names and arguments are those of the package ``hatanaka``, if it has them. An error of the input raises :class:`RnxcmpError`, each skipped
+epoch (``skip_strange_epochs``) issues a :class:`RnxcmpWarning`, and an output longer than ``max_length`` raises :class:`OutputLimitError`.
 """
 
 TYPE_CHECKING = False
@@ -23,7 +17,6 @@ if TYPE_CHECKING:
     from ._calls import OutputLimitError, RnxcmpError, RnxcmpWarning, Stream, crx2rnx, rnx2crx, version
     from ._explain import Explanation, explain
     from ._files import compress, decompress
-    from ._findings import Cause
     from ._on_disk import compress_on_disk, decompress_on_disk, get_decompressed_path
     from ._opened import open
     from ._packed import UnsupportedError
@@ -32,32 +25,14 @@ if TYPE_CHECKING:
     __version__: str
 
 __all__ = [
-    "Cause",
-    "Explanation",
-    "OutputLimitError",
-    "Report",
-    "RnxcmpError",
-    "RnxcmpWarning",
-    "Stream",
-    "UnsupportedError",
-    "check",
-    "compress",
-    "compress_on_disk",
-    "crx2rnx",
-    "decompress",
-    "decompress_on_disk",
-    "explain",
-    "get_decompressed_path",
-    "open",
-    "rnx2crx",
-    "version",
-]
+    "Explanation", "OutputLimitError", "Report", "RnxcmpError", "RnxcmpWarning", "Stream", "UnsupportedError", "check", "compress",
+    "compress_on_disk", "crx2rnx", "decompress", "decompress_on_disk", "explain", "get_decompressed_path", "open", "rnx2crx", "version",
+]  # fmt: skip
 
 _MODULES = {
     "_calls": ("OutputLimitError", "RnxcmpError", "RnxcmpWarning", "Stream", "crx2rnx", "rnx2crx", "version"),
     "_explain": ("Explanation", "explain"),
     "_files": ("compress", "decompress"),
-    "_findings": ("Cause",),
     "_on_disk": ("compress_on_disk", "decompress_on_disk", "get_decompressed_path"),
     "_opened": ("open",),
     "_packed": ("UnsupportedError",),
@@ -65,8 +40,12 @@ _MODULES = {
 }
 
 
+def __dir__() -> "list[str]":
+    return sorted({*globals(), *__all__, "__version__"})
+
+
 def __getattr__(name: str) -> object:
-    """Each name is loaded when it is asked for: a start takes no longer than what it uses, and what works on files needs links and locks."""
+    """Loads a name when it is first used, so that a start takes no longer than the names in use need."""
     from importlib import import_module
 
     if name == "__version__":

@@ -1,4 +1,4 @@
-"""The check over bytes."""
+"""The check of RINEX."""
 
 from __future__ import annotations
 
@@ -6,22 +6,22 @@ import re
 from dataclasses import dataclass
 from typing import TYPE_CHECKING, Dict, Optional
 
-from ._calls import bytes_of, filled, output_of
+from ._calls import content_of, filled, output_of
 from ._library import LIBRARY
 
 if TYPE_CHECKING:
-    from ._calls import BytesLike
+    from ._calls import Content
 
 
 @dataclass(frozen=True)
 class Report:
-    """What a check found.
+    """The report of a check.
 
     :ivar text: the report as the program writes it.
-    :ivar is_standard: whether the file comes back byte for byte from its compact form.
-    :ivar format: the version of its header.
-    :ivar systems: the letters of its systems and their counts of observation types.
-    :ivar first_not_standard: the number of the first line that isn't standard, if there is one.
+    :ivar is_standard: whether the file is restored byte for byte from its compact form.
+    :ivar format: the version of the file's header.
+    :ivar systems: the letters of its systems, each with its number of observation types.
+    :ivar first_not_standard: the number of the first line that isn't standard, or None.
     """
 
     text: str
@@ -34,12 +34,13 @@ class Report:
     first_not_standard: Optional[int]
 
 
-def check(data: BytesLike) -> Report:
-    """Checks RINEX 3.0x: what it holds, and whether it is standard.
+def check(data: Content) -> Report:
+    """Checks RINEX 3.0x, and returns a report on its content and whether it is standard.
 
-    :raises RnxcmpError: where the file isn't accepted.
+    :param data: bytes, a path, an open file, or a text: a ``str`` with a line end in it.
+    :raises RnxcmpError: if the file isn't accepted.
     """
-    content = bytes_of(data)
+    content = content_of(data)
     text = output_of(filled(LIBRARY.rnxcmp_check, [content, len(content)], 4096)).decode("latin-1")
     found = dict(re.findall(r"^(\w+) ?(.*)$", text, re.M))
     systems = [] if found["systems"] == "none" else found["systems"].split()

@@ -37,8 +37,8 @@ usage: rnxcmp-file rnx2crx [options] INPUT..
 
 Compacts (rnx2crx) or expands (crx2rnx) whole files. The output is beside the
 input, under its name with the other ending, packed by gzip if the input is.
-With explain it says why a file is refused or isn't standard, where that is in a
-line, what is expected there, and the likely causes.
+With explain it says why a file is refused, isn't standard, or may be cut off:
+the line, its field, the expected text, and the likely causes.
 
   -o OUTPUT           the output's name, for one input
   --inputs LIST       the names of more inputs, each with a NUL; - is standard
@@ -395,9 +395,9 @@ class Run:
         """Adds the likely causes of a fault of the input, in parentheses."""
         if not failure.code or not failure.text.startswith("ERROR line "):
             return failure
-        from ._told import cause_of
+        from ._explain import likely
 
-        return Failure(failure.text + cause_of(name, self._choices.direction, failure.line, failure.code), failure.line, failure.code)
+        return Failure(f"{failure.text} ({likely(failure.code, self._choices.direction, name)})", failure.line, failure.code)
 
     def _do_all(self) -> int:
         """Does one file after another: the status."""
@@ -460,7 +460,7 @@ def _run_words(words: Sequence[str]) -> int:
         _write_all(1, USAGE if found.help else f"rnxcmp-file {version()}\n")
         return GOOD
     if found.direction == EXPLANATION:
-        from ._told import explain_files
+        from ._explain import explain_files
 
         printer = Printer(found)
         status = explain_files(found.inputs, found.json, printer.line, printer.say)

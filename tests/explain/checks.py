@@ -1,8 +1,10 @@
-"""`rnxcmp-file explain`, and the cause in the messages of rnxcmp-file (see tests/run.py): kinds of everyday damage, good files, one byte changed,
-and the tables of docs/USE.md. `make explain-test` changes 2,000 bytes.
+"""`rnxcmp-file explain`, `rnxcmp.explain`, `rnxcmp.open`, and the cause in the messages of rnxcmp-file (see tests/run.py): everyday damage, good
+files, damage at random, speed, and files that can't be read. `make explain-test` does it for 20,000 damaged files.
 """
 
+import gzip
 import json
+import os
 import random
 import subprocess
 import sys
@@ -11,157 +13,214 @@ from pathlib import Path
 
 HERE = Path(__file__).resolve().parent
 sys.path.insert(0, str(HERE))
-sys.path.insert(0, str(HERE.parents[1] / "conformance"))
-import generate  # noqa: E402
-import onebyte  # noqa: E402
+import damaged_files  # noqa: E402
 from everyday import OF_COMPACT, OF_RINEX  # noqa: E402
-from explained import ENVIRONMENT, LIBRARY, TOOL, TOP, compacted, explain, sample  # noqa: E402
-
-GOOD_FILES = 500
-BYTES = 300  # changed in each direction
-ENDINGS = {"rnx2crx": ".rnx", "crx2rnx": ".crx"}
-
-
-def differs(kind, found):
-    """What is wrong with an explanation of a kind of damage, as lines."""
-    if kind.line == 0:
-        return [] if found is None else [f"{found.line}, {found.code} is said of a file that is accepted and standard"]
-    if found is None:
-        return ["nothing is said"]
-    names = tuple(one.name for one in found.causes)
-    wrong = [] if (found.line, found.code) == (kind.line, kind.code) else [f"line {found.line} code {found.code}, not {kind.line}, {kind.code}"]
-    wrong += [] if names == kind.causes else [f"causes {names}, not {kind.causes}"]
-    if kind.column is not None:
-        columns = found.place and (found.place.first, found.place.last)
-        wrong += [] if columns and kind.column == columns[0] else [f"columns {columns}, not {kind.column}"]
-    return wrong
-
-
-def of_message(kind, direction, data):
-    """What is wrong with the message of rnxcmp-file, which is to have the causes' words; one that unpacks gzip accepts it."""
-    with tempfile.TemporaryDirectory() as folder:
-        name = f"a{ENDINGS[direction]}"
-        (Path(folder) / name).write_bytes(data)
-        run = subprocess.run([*TOOL, direction, name], cwd=folder, env=ENVIRONMENT, capture_output=True, text=True, timeout=60)
-    if kind.code is None or kind.name == "gzip":
-        right = run.returncode == 0 and ("cut off" in run.stderr if "cut off" in kind.causes else not run.stderr)
-        return [] if right else [f"rnxcmp-file: status {run.returncode}, {run.stderr!r}"]
-    if kind.causes == ("packed",):
-        return [] if "compression not supported: bzip2" in run.stderr else [f"rnxcmp-file says {run.stderr!r}"]
-    found = explain(data, direction)
-    begin = f"{name}: ERROR line {kind.line} code {kind.code}: "
-    wrong = [] if run.returncode == 1 and run.stderr.startswith(begin) else [f"rnxcmp-file: status {run.returncode}, {run.stderr!r}"]
-    return wrong + [f"rnxcmp-file doesn't say: {one.words}" for one in found.causes[:2] if one.words not in run.stderr]
-
-
-def mends(program, kind, direction, data):
-    """Where the table has a mend that is made here, the mended file hasn't that fault any more."""
-    found = explain(data, direction)
-    wrong = []
-    for one in found.causes if found and found.code else ():
-        if one.change:
-            again = onebyte.said_by(program, one.mended(data), direction)
-            same = again is not None and (again == (found.line, found.code) or (again[1] == found.code and again[0] <= found.line))
-            wrong += [f"{one.name}: the mended file has the fault again: {again}"] if same else []
-    return wrong
+from explained import ENDINGS, ENVIRONMENT, LIBRARY, TOOL, TOP, compacted, named_by, package, run_tool, sample  # noqa: E402
 
 
 def of_kind(program, kind, direction, text):
+    """A kind of everyday damage: the explanation of its file, the program's line and code, the cause in a conversion's message, the file's bytes."""
     data = kind.make(text)
-    found = explain(data, direction)
-    wrong = differs(kind, found)
-    said = onebyte.said_by(program, data, direction)
-    if (found and found.code and (found.line, found.code)) != (said and said[1] and said):
-        wrong.append(f"the program says {said}")
-    return wrong + of_message(kind, direction, data) + mends(program, kind, direction, data)
+    with tempfile.TemporaryDirectory() as folder:
+        path = Path(folder) / f"a{ENDINGS[direction]}"
+        path.write_bytes(data)
+        found, message = package().explain(path), run_tool(folder, direction, path.name).stderr
+        wrong = [] if path.read_bytes() == data else ["the file was changed"]
+    if not kind.line and not kind.words:
+        return wrong + ([] if found is None else [f"{found} is said of a good file"])
+    if found is None:
+        return [*wrong, "nothing is said"]
+    said, wanted = (found.line, found.code, found.columns), (kind.line, kind.code, kind.columns)
+    wrong += [] if said == wanted else [f"line, code and columns are {said}, not {wanted}"]
+    wrong += [f"it doesn't say {words!r}: {found}" for words in kind.words if words not in str(found)]
+    if kind.code:
+        named = named_by(program, gzip.decompress(data) if data[:2] == b"\\x1f\\x8b" else data, direction)
+        wrong += [] if named == (kind.line, kind.code) else [f"the program names {named}"]
+        wrong += of_message(message, path.name, direction, kind)
+    return wrong
+
+
+def of_message(message, name, direction, kind):
+    """A conversion's message: one line, which ends with what the first bytes tell, or with the first two causes of the table."""
+    from rnxcmp._causes import entry_of
+
+    said = [words[8:] for words in kind.words if words.startswith("likely: ")] if kind.code < 10 else entry_of(kind.code, direction).causes[:2]
+    right = message.startswith(f"{name}: ERROR line {kind.line} code {kind.code}: ") and message.endswith(")\n") and message.count("\n") == 1
+    return [] if right and all(words in message for words in said) else [f"rnxcmp-file says {message!r}"]
 
 
 def good_files(program):
-    """Of good files no cause is named: of random ones in both forms, by another writer too."""
-    wrong, rng = [], random.Random(75)
-    for number in range(GOOD_FILES // 2):
-        made = generate.units(rng)
-        for direction, data in (("rnx2crx", generate.rinex(made)), ("crx2rnx", generate.compact(rng, made))):
-            found = explain(data, direction)
-            if found and (found.causes or found.code):
-                wrong.append(f"{direction} {number}: {str(found)[:200]}")
-    return wrong
-
-
-def wrong_in(counts):
-    """What is wrong in counts: another line or code, a field that isn't named, too few columns that are, or mends that mend nothing."""
-    wrong = list(counts.wrong[:10])
-    if counts.fields < counts.typed:
-        wrong += [f"the field is named in {counts.fields} of {counts.typed}", *counts.missed[:10]]
-    if counts.columns < 0.75 * counts.typed:
-        wrong.append(f"the column is named in {counts.columns} of {counts.typed}")
-    if counts.good < 0.95 * counts.mended:
-        wrong += [f"{counts.good} of {counts.mended} mends mend", *counts.unmended[:10]]
-    return wrong
-
-
-def one_byte(program, direction, count=BYTES, seed=1):
-    """What is wrong where one byte is changed."""
-    text = sample() if direction == "rnx2crx" else compacted(program, sample())
-    return wrong_in(onebyte.run(program, text, direction, count, seed))
+    """There is nothing to explain in good files of both forms, by another writer too."""
+    files = [(direction, text) for seed in range(8) for direction, text in damaged_files.good_files(program, seed)]
+    found = [(direction, package().explain(text, direction=direction)) for direction, text in files]
+    return [f"{direction}: {one}" for direction, one in found if one and not (one.state == "not standard" and b"\r" in one.text)]
 
 
 BAD = """bad.rnx: refused, line 33 code 13: bad satellite
     33 | X02  2{rest}
-       | ^~~
-column 1: identifier
-expected: in columns 1 to 3 the letter of a system that has types, and two digits
-cause: a character of this field is wrong
-mend: correct it; -s drops the epoch
-with -s: 1 warning, line 33 code 13: bad satellite
+       | ^^^
+columns 1 to 3: identifier
+expected: in columns 1 to 3 the letter of a system that has types, and a number of two digits
+likely: a character of the identifier is wrong
+likely: the header has no types line for this system
+likely: a line is lost or too many
+to do: correct the line, or fetch the file again; -s drops the epoch
+"""
+MESSAGE = """bad.rnx: ERROR line 33 code 13: bad satellite (a character of the identifier is wrong; or the header has no types line for this system)
 """
 
 
 def command(program):
-    """The command: its text, its JSON, its statuses."""
-    wrong = []
+    """The command: its text, its JSON, its statuses; each file that can't be read gets one line, and the next file is explained."""
+    text = sample()
+    bad, packed = text.replace(b"\nG02", b"\nX02", 1), gzip.compress(text, mtime=0)
     with tempfile.TemporaryDirectory() as folder:
-        text = sample()
-        bad = text.replace(b"\nG02", b"\nX02", 1)
-        (Path(folder) / "good.rnx").write_bytes(text)
-        (Path(folder) / "bad.rnx").write_bytes(bad)
-        (Path(folder) / "crlf.rnx").write_bytes(text.replace(b"\n", b"\r\n"))
-        (Path(folder) / "noname").write_bytes(compacted(program, text))
+        files = {"good.rnx": text, "bad.rnx": bad, "crlf.rnx": text.replace(b"\n", b"\r\n"), "noname": compacted(program, text), "good.rnx.gz": packed,
+                 "cut.rnx.gz": packed[:-900], "damaged.rnx.gz": packed[:2000] + b"\0" + packed[2001:], "bad.24o.gz": gzip.compress(bad)}  # fmt: skip
+        for name, data in files.items():
+            (Path(folder) / name).write_bytes(data)
+        os.mkdir(f"{folder}/folder.rnx")
+        os.mkfifo(f"{folder}/pipe.rnx")
+        names = ("none.rnx", "folder.rnx", "pipe.rnx", "/proc/self/mem", "damaged.rnx.gz", "cut.rnx.gz", "good.rnx", "crlf.rnx", "noname", "good.rnx.gz", "bad.24o.gz", "bad.rnx")
+        run, as_json = run_tool(folder, "explain", *names), run_tool(folder, "explain", "--json", *names)
+        statuses = [run_tool(folder, "explain", name).returncode for name in names]
+        message = run_tool(folder, "rnx2crx", "-o", "out.crx", "bad.rnx").stderr
+    wrong = [] if statuses == [1, 1, 1, 1, 1, 1, 0, 2, 0, 0, 1, 1] and run.returncode == as_json.returncode == 1 else [f"{statuses}, {run.returncode}"]
+    said = ("none.rnx: ERROR: No such file or directory\nfolder.rnx: ERROR: this is a folder, not a file\npipe.rnx: ERROR: this is no regular file\n"
+            "/proc/self/mem: ERROR: Input/output error\n")  # fmt: skip
+    wrong += [] if run.stderr == said == as_json.stderr else [f"standard error has {run.stderr!r}"]
+    wrong += [] if message == MESSAGE else [f"a conversion says {message!r}"]
+    begin = ("damaged.rnx.gz: refused: the packed text is damaged", "cut.rnx.gz: refused: the packed text is cut off\n", "good.rnx: nothing to explain\n",
+             "crlf.rnx: not standard, line 1: the line ends in CR LF\n", "noname: nothing to explain\n", "good.rnx.gz: nothing to explain\n", "bad.24o.gz: refused, line 33")  # fmt: skip
+    wrong += [f"it doesn't say {words!r}: {run.stdout}" for words in begin if f"\n{words}" not in f"\n{run.stdout}"]
+    wrong += [] if run.stdout.endswith(BAD.format(rest=bad.splitlines()[32].decode()[6:100])) else [run.stdout]
+    objects = [json.loads(line) for line in as_json.stdout.splitlines()]
+    wrong += [] if [one["input"] for one in objects] == list(names) else [f"{objects}"]
+    last = {"state": "refused", "line": 33, "code": 13, "columns": [1, 3], "field": "identifier", "words": "bad satellite"}
+    wrong += [f"--json has {name}: {objects[-1].get(name)!r}" for name, value in last.items() if objects[-1].get(name) != value]
+    wrong += [] if objects[-1]["causes"][0] == "a character of the identifier is wrong" and "two digits" in objects[-1]["expected"] else [f"{objects[-1]}"]
+    return wrong
 
-        def run(*words):
-            return subprocess.run([*TOOL, "explain", *words], cwd=folder, env=ENVIRONMENT, capture_output=True, text=True, timeout=60)
 
-        for name, status, said in (
-            ("good.rnx", 0, "good.rnx: nothing to explain"), ("bad.rnx", 1, BAD.format(rest=bad.splitlines()[32].decode()[6:100])),
-            ("crlf.rnx", 2, "crlf.rnx: not standard, line 1: the line ends in CR LF"), ("none.rnx", 1, ""), ("noname", 0, "noname: nothing to explain"),
-        ):  # fmt: skip
-            answer = run(name)
-            wrong += [] if answer.returncode == status and said in answer.stdout else [f"{name}: {answer}"]
-        answer = json.loads(run("--json", "bad.rnx").stdout)
-        wanted = {"input": "bad.rnx", "state": "refused", "line": 33, "code": 13, "columns": [1, 1], "field": "identifier", "field_columns": [1, 3]}
-        wrong += [f"--json has {name}: {answer.get(name)!r}" for name, value in wanted.items() if answer.get(name) != value]
-        wrong += [] if answer["causes"][0]["cause"] == "mistyped" and answer["causes"][0]["mend"] else [f"{answer}"]
-        wrong += [] if run("-f", "bad.rnx").returncode == 1 and "alone" in run("-f", "bad.rnx").stderr else ["-f is taken"]
+SAY_MEMORY = "import re, sys, rnxcmp.files as f; f.main(sys.argv[1:]); print(re.search('VmHWM:[^0-9]*([0-9]+)', open('/proc/self/status').read())[1])"
+
+
+def measured(words, folder):
+    """The processor time of a process in its least of seven runs, and what it prints."""
+    seconds, environment = [], {**ENVIRONMENT, "PYTHONPYCACHEPREFIX": folder, "PYTHONDONTWRITEBYTECODE": ""}
+    for _ in range(7):
+        run = subprocess.Popen(words, cwd=folder, env=environment, stdout=subprocess.PIPE, stderr=subprocess.DEVNULL)
+        said, usage = run.stdout.read(), os.wait4(run.pid, 0)[2]
+        run.stdout.close()
+        run.returncode = 0
+        seconds.append(usage.ru_utime + usage.ru_stime)
+    return min(seconds), said
+
+
+def speed(program, slack=2):
+    """Large files, and a small one with a line too many, take at most twice the time of the conversion and 50 ms more than Python's start, on a
+    busy machine `slack` times that; and 64 MB."""
+    text, wrong = sample(), []
+    header, epochs = text[: text.index(b"\n>") + 1], text[text.index(b"\n>") + 1 :]
+    large = header + epochs * 600
+    constant = compacted(program, header + b"".join(b"> 2024 01 01 00 %02d  0.0000000  0  1\nG01         1.000\n" % minute for minute in range(60))).splitlines(True)
+    with tempfile.TemporaryDirectory() as folder:
+        files = {"large.rnx": large, "bad.rnx": large[:-60] + b"&" + large[-59:], "large.crx": compacted(program, large),
+                 "constant.crx": b"".join([*constant[:80], b"\n", *constant[80:]]), "cr.rnx": large.replace(b"\n", b"\r")}  # fmt: skip
+        for name, data in files.items():
+            (Path(folder) / name).write_bytes(data)
+        start = measured([sys.executable, "-S", "-c", "pass"], folder)[0]
+        for name in files:
+            conversion = measured([program, "rnx2crx" if name.endswith(".rnx") else "crx2rnx", "-", name], folder)[0]
+            seconds, said = measured([sys.executable, "-S", "-c", SAY_MEMORY, "explain", name], folder)
+            most = slack * (2 * conversion + 0.05)
+            wrong += [] if seconds - start <= most else [f"{name} takes {seconds - start:.3f} s, and a conversion {conversion:.3f} s"]
+            *lines, memory = said.decode().splitlines()
+            wrong += [] if int(memory) < 64000 else [f"{name} takes {memory} kB"]
+            wrong += [] if ("nothing to explain" if name.startswith("large") else "refused") in lines[0] else [f"{name}: {lines}"]
+    return wrong
+
+
+def far_and_once(program):
+    """A file is read once; the first line that isn't standard is found where it is far from both ends, with the types that are in force there."""
+    explain, text, wrong, counts = package().explain, sample(), [], []
+    header, epochs = text[: text.index(b"\n>") + 1], text[text.index(b"\n>") + 1 :]
+    event = b"> 2024 01 01 00 00  0.0000000  4  1\n" + b"G    1 C9X".ljust(60) + b"SYS / # / OBS TYPES\n"
+    odd = epochs.replace(b"G02  2", b"G02 02", 1)
+    import rnxcmp._packed as packed
+
+    read = os.read
+    with tempfile.TemporaryDirectory() as folder:
+        path = Path(folder) / "a.rnx"
+        for middle, once, line in ((odd, False, 4833), (epochs[:-60] + b"&" + epochs[-59:], True, 4991), (epochs, True, 0), (b"CR", True, 1)):
+            whole = header + epochs * 30 + middle + epochs * 30 + event
+            path.write_bytes((header + epochs * 30).replace(b"\n", b"\r\n") if middle == b"CR" else whole)
+            counts.clear()
+            packed.os.read = lambda file, most: [piece := read(file, most), counts.append(len(piece))][0]
+            try:
+                found = explain(path)
+            finally:
+                packed.os.read = read
+            wrong += [] if (found.line if found else 0) == line else [f"{found}, not line {line}"]
+            wrong += [] if (sum(counts) <= path.stat().st_size) == once else [f"{sum(counts)} bytes were read of {path.stat().st_size}"]
+            wrong += [] if line != 4833 or (found.field, found.columns) == ("observation C1C of G02", (4, 17)) else [f"{found}"]
+    return wrong
+
+
+def never_raises(program):
+    """Whatever happens in the explanation, the program's message is said, and the next file is explained."""
+    words = "import sys, rnxcmp._explain as e, rnxcmp.files\ndef none(*_): raise MemoryError\nsetattr(e, sys.argv.pop(1), none)\nsys.exit(rnxcmp.files.main())"
+    with tempfile.TemporaryDirectory() as folder:
+        (Path(folder) / "a.rnx").write_bytes(sample().replace(b"\nG02", b"\nX02", 1))
+        (Path(folder) / "b.rnx").write_bytes(sample()[:-1])
+        said = {}
+        for name in ("field_of", "sign_of", "explain"):
+            run = subprocess.run([*TOOL[:2], "-c", words, name, "explain", "a.rnx", "b.rnx"], cwd=folder, env=ENVIRONMENT, capture_output=True, text=True, timeout=60)
+            said[name] = run.stdout + run.stderr
+    right = [said[name].startswith("a.rnx: refused, line 33 code 13: bad satellite\n") and "\nb.rnx: cut off" in said[name] for name in ("field_of", "sign_of")]
+    return [] if all(right) and said["explain"] == "a.rnx: ERROR: out of memory\nb.rnx: ERROR: out of memory\n" else [f"{said}"]
+
+
+def opened(program, count=100):
+    """`open` gives each byte as one character; an error ends its text, and is raised by the next read, by each way to read, or by `close`."""
+    rnxcmp, rng, wrong = package(), random.Random(7), []
+    with tempfile.TemporaryDirectory() as folder:
+        path = Path(folder) / "a.crx"
+        for number in range(count):
+            made = damaged_files.generate.units(rng)
+            lines = damaged_files.generate.compact(rng, made).split(b"\n")
+            header = next(at for at, line in enumerate(lines) if b"END OF HEADER" in line)
+            for _ in range(3):
+                lines.insert(rng.randrange(3, header + 1), b"a" + rng.choice((b"\r", b" \r", b"a\rb", b"\r\r", b"\x85\x0b\x0c\x1c")))
+            path.write_bytes(b"\n".join(lines))
+            text = rnxcmp.open(path).read()
+            wrong += [] if text.encode("latin-1") == rnxcmp.crx2rnx(path) else [f"file {number} is read as {text[:200]!r}"]
     return wrong
 
 
 def start(program):
-    """The start of one good file loads nothing of what explains."""
+    """The conversion of a good file loads nothing of what explains."""
     with tempfile.TemporaryDirectory() as folder:
         (Path(folder) / "a.rnx").write_bytes(sample())
-        words = "import sys; from rnxcmp.files import main; main(['rnx2crx', 'a.rnx']); print([name for name in sys.modules if name in ('rnxcmp._explain', 'rnxcmp._told', 'rnxcmp._causes')])"
+        words = "import sys; from rnxcmp.files import main; main(['rnx2crx', 'a.rnx']); print([name for name in sys.modules if name in ('rnxcmp._explain', 'rnxcmp._causes')])"
         run = subprocess.run([sys.executable, "-S", "-c", words], cwd=folder, env=ENVIRONMENT, capture_output=True, text=True, timeout=60)
     return [] if run.stdout.endswith("[]\n") else [f"{run}"]
 
 
-def what_is_accepted(program):
-    """docs/USE.md names each kind that is accepted though it may be damage."""
+def tables(program):
+    """Each code has its row, with two or three causes if it is one of a line; docs/USE.md names what is accepted though it may be damage."""
+    package()
+    from rnxcmp._causes import COMPACT_ERRORS, ERRORS
+
     use = " ".join((TOP / "docs/USE.md").read_text(encoding="utf-8").split())
     said = ("two satellite lines", "count of types", "an epoch twice", "a block twice", "between epochs")
-    return [f"docs/USE.md doesn't name: {one}" for one in said if one not in use.partition("accepted though")[2]]
+    wrong = [f"docs/USE.md doesn't name: {one}" for one in said if one not in use.partition("Accepted, though it may be damage")[2]]
+    wrong += [] if {*ERRORS, *COMPACT_ERRORS} == {*range(1, 23)} and {*COMPACT_ERRORS} == {*range(10, 20)} else ["a code has no row, or one too many"]
+    rows = [(code, row) for table in (ERRORS, COMPACT_ERRORS) for code, row in table.items() if code < 20 and code != 2]
+    return wrong + [f"code {code} has {len(row.causes)} causes" for code, row in rows if not 2 <= len(row.causes) <= 3 or not row.expected or not row.remedy]
 
 
-OVER_MANY = (f"{GOOD_FILES} good files", "one byte changed in RINEX", "one byte changed in compact text")
+OVER_MANY = ("good files", "damage at random", "speed")
 
 
 def checks(program):
@@ -172,9 +231,8 @@ def checks(program):
     for direction, kinds, whole in (("rnx2crx", OF_RINEX, text), ("crx2rnx", OF_COMPACT, compacted(program, text))):
         for kind in kinds:
             yield f"{ENDINGS[direction]}: {kind.name}", lambda kind=kind, direction=direction, whole=whole: of_kind(program, kind, direction, whole)
-    over_many = (good_files, lambda program: one_byte(program, "rnx2crx"), lambda program: one_byte(program, "crx2rnx"))
-    for name, check in zip(OVER_MANY, over_many):
+    yield "good files", lambda: good_files(program)
+    yield "damage at random", lambda: damaged_files.run(program, 600, 200, 1).wrong[:20]
+    yield "speed", lambda: speed(program)
+    for name, check in (("the command", command), ("far lines", far_and_once), ("never raises", never_raises), ("open", opened), ("the start", start), ("the tables", tables)):
         yield name, lambda check=check: check(program)
-    yield "the command", lambda: command(program)
-    yield "the start of one file", lambda: start(program)
-    yield "what is accepted", lambda: what_is_accepted(program)

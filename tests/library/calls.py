@@ -104,10 +104,10 @@ def check_arguments(data, compact):
     for call in (rnxcmp.rnx2crx, rnxcmp.crx2rnx, rnxcmp.check, rnxcmp.Stream.checking().feed, rnxcmp.Stream.checking().outputs):
         for content in (5, None, [66], array.array("B", b"text")):
             raised(TypeError, lambda: call(content))
-    for call in (rnxcmp.check, rnxcmp.Stream.checking().feed, rnxcmp.Stream.checking().outputs):
+    for call in (rnxcmp.Stream.checking().feed, rnxcmp.Stream.checking().outputs):
         for content in ("text", Path("text"), io.BytesIO(data)):
             raised(TypeError, lambda: call(content))
-    for call in (rnxcmp.rnx2crx, rnxcmp.crx2rnx, rnxcmp.decompress, rnxcmp.compress, rnxcmp.open):
+    for call in (rnxcmp.rnx2crx, rnxcmp.crx2rnx, rnxcmp.check, rnxcmp.explain, rnxcmp.decompress, rnxcmp.compress, rnxcmp.open):
         for content in ("no such file", Path("no such file"), ""):
             raised(FileNotFoundError, lambda: call(content))
     for call in (rnxcmp.decompress, rnxcmp.compress):
@@ -317,6 +317,9 @@ def check_report(data):
     expect("types of systems", {type(count) for count in rnxcmp.check(data).systems.values()}, {int})
     expect("an event", rnxcmp.check(header + event + epochs).events, 1)
     expect("no systems", rnxcmp.check(no_types).systems, {})
+    expect("the report of a path, a text and a file", [rnxcmp.check(one) for one in (SAMPLE, str(SAMPLE), data.decode(), io.BytesIO(data))], [rnxcmp.check(data)] * 4)
+    expect("names", {*rnxcmp.__all__, "__version__"} <= {*dir(rnxcmp)}, True)
+    raised(TypeError, lambda: rnxcmp.check(5))
     raised(rnxcmp.RnxcmpError, lambda: rnxcmp.check(b"x"))
     raised(AttributeError, lambda: setattr(rnxcmp.check(data), "epochs", 5))
 
@@ -376,11 +379,11 @@ def check_opened(data, compact, folder):
         for ending, pack in (("", bytes), (".gz", gzip.compress), (".Z", packed_by_compress)):
             path = folder / f"{form}{ending}"
             path.write_bytes(pack(content))
-            text = (data if form in ("rnx", "crx", "crlf") else content).decode()
+            text = (data if form == "crx" else content).decode()
             with rnxcmp.open(path) as file:
                 expect(f"the text of {path.name}", file.read(), text)
             with rnxcmp.open(str(path)) as file:
-                expect(f"the lines of {path.name}", list(file), text.splitlines(True))
+                expect(f"the lines of {path.name}", list(file), [line + "\n" for line in text.split("\n")[:-1]])
             with rnxcmp.open(path) as file:
                 file.readline()
     expect("descriptors that stay open", len(os.listdir("/proc/self/fd")), descriptors)
@@ -397,15 +400,47 @@ def check_opened(data, compact, folder):
     for content, error in ((b"1.0" + compact[3:], rnxcmp.UnsupportedError), (b"BZh9", rnxcmp.UnsupportedError), (compact[:85] + b"x\n", rnxcmp.RnxcmpError)):
         path.write_bytes(content)
         raised(error, lambda: rnxcmp.open(path))
-    path.write_bytes(compact.replace(b"3&", b"3?", 3))
-    fault = raised(rnxcmp.RnxcmpError, lambda: rnxcmp.open(path).read())
-    expect("the line of a fault", fault.line > 0, True)
+    check_faults_of_opened(compact, path)
     path.write_bytes(compact.rstrip(b"\n"))
     with warnings.catch_warnings(record=True) as caught:
         warnings.simplefilter("always")
         with rnxcmp.open(path) as file:
             expect("what may be cut off", file.read(), data.decode())
     expect("its warning", [f"{one.message}" for one in caught if one.category is rnxcmp.RnxcmpWarning], ["the last line has no line end: the file may be cut off"])
+
+
+def check_faults_of_opened(compact, path):
+    """Each way to read a file with a fault gives the text before it, and then raises it, at the latest when the file is closed."""
+    path.write_bytes(compact.replace(b"\n", b"\r\n", 20)[:-40] + b"x" + compact[-39:])
+    fault = raised(rnxcmp.RnxcmpError, lambda: rnxcmp.crx2rnx(path))
+    text, found = fault.output.decode("latin-1"), (fault.line, fault.code)
+
+    def read_by(read):
+        with rnxcmp.open(path) as file:
+            parts, again = [], None
+            try:
+                while True:
+                    parts.append(read(file))
+                    if not parts[-1]:
+                        break
+            except rnxcmp.RnxcmpError as error:
+                again = raised(rnxcmp.RnxcmpError, file.readline)
+                expect("the fault of an opened file", [(one.line, one.code) for one in (error, again)], [found] * 2)
+            return "".join(parts), again is not None
+
+    with warnings.catch_warnings(record=True) as caught:
+        warnings.simplefilter("always")
+        for read in (lambda file: file.read(), lambda file: file.read(5000), lambda file: file.readline(), next):
+            expect("the text before a fault", read_by(read), (text, True))
+        lines = []
+        with rnxcmp.open(path) as file:
+            raised(rnxcmp.RnxcmpError, lambda: [lines.append(line) for line in file])
+        expect("the lines before a fault", "".join(lines), text)
+        file = rnxcmp.open(path)
+        expect("the text before a fault, at once", file.read(), text)
+        expect("its fault", raised(rnxcmp.RnxcmpError, file.close).line, fault.line)
+    said = [f"{one.message}" for one in caught if one.category is rnxcmp.RnxcmpWarning and one.filename == __file__]
+    expect("its warnings", said, [f"the text ends before an error: {fault}"] * 2)
 
 
 def check_refusals(data, compact):

@@ -16,14 +16,9 @@ import checks  # noqa: E402
 
 NOT_KNOWN = 3  # the status where a check didn't end in time, and no other has seen anything
 ABOUT = {  # words in the names of the checks that are about a file
-    "_explain.py": ("the command", "behind a value", "one too many", "CR LF"),
-    "_columns.py": ("in a number", "indicator", "of records"),
-    "_in_rinex.py": ("clock offset", "doubled", "swapped", "second header", "NULs"),
-    "_in_header.py": ("types",),
-    "_in_compact.py": (".crx",),
-    "_broken.py": ("in a code",),
-    "_signs.py": ("UTF-16", "BOM"),
-    "_findings.py": ("one too",),
+    "_explain.py": ("the command", "never raises", "far lines", "one too", "CR", "cut"),
+    "_columns.py": ("in a number", "indicator", "flag", "text after", "in a code"),
+    "_causes.py": (".crx", "the command"),
 }
 
 
