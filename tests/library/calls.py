@@ -1,6 +1,7 @@
 """The Python package as it is installed, beside the program: calls.py PROGRAM SAMPLE. What is wrong is printed, with status 1."""
 
 import array
+import gc
 import gzip
 import io
 import os
@@ -373,6 +374,7 @@ def check_inputs(data, compact, folder):
 
 def check_opened(data, compact, folder):
     """A file as a stream of text, in each form, in memory that doesn't grow with it; what is refused, and how."""
+    gc.collect()  # an error of an earlier call may keep a file open
     descriptors = len(os.listdir("/proc/self/fd"))
     crlf = data.replace(b"\n", b"\r\n", 3)
     for form, content in (("rnx", data), ("crx", compact), ("crlf", crlf), ("note", b"no RINEX\n"), ("empty", b"")):
