@@ -80,29 +80,19 @@ def blocks_of(compact, lines):
 
 
 def each_epoch(program):
-    """Both ways, and the lines of a header before the first epoch; compact text is of three lines an epoch here."""
-    parts = [text(*H), *EPOCHS]
+    """Both ways, over the header and the first epochs of the sample: through a pipe, and through a FIFO that is given by its name."""
+    lines = SAMPLE.read_bytes().splitlines(keepends=True)
+    starts = [at for at, line in enumerate(lines) if line.startswith(b">")][:7]
+    parts = [b"".join(lines[start:end]) for start, end in zip([0, *starts], starts)]
     wrong = []
     for words in (DATED, EACH):
-        compact = blocks_of(whole_output(program, words, b"".join(parts))[0], 3)
-        for pieces in (1, 3):
-            wrong += fed_one_at_a_time(program, words, parts, pieces)
-            wrong += fed_one_at_a_time(program, ["crx2rnx"], compact, pieces)
-    return wrong
-
-
-def each_epoch_of_a_named_pipe(program):
-    """The same of the epochs of the sample, where the input is a FIFO that is given by its name."""
-    lines = SAMPLE.read_bytes().splitlines(keepends=True)
-    starts = [0, *(at for at, line in enumerate(lines) if line.startswith(b">"))][2:8]
-    parts = [b"".join(lines[start:end]) for start, end in zip([0, *starts], starts)]
-    outputs = [whole_output(program, DATED, b"".join(parts[: k + 1]))[0] for k in range(len(parts))]
-    compact = [outputs[0], *(after[len(before) :] for before, after in zip(outputs, outputs[1:]))]
-    wrong = []
-    for words, fed in ((DATED, parts), (["crx2rnx"], compact)):
-        with tempfile.TemporaryDirectory() as folder:
-            os.mkfifo(fifo := f"{folder}/fifo")
-            wrong += fed_one_at_a_time(program, words, fed, 1, fifo)
+        outputs = [b"", *(whole_output(program, words, b"".join(parts[: k + 1]))[0] for k in range(len(parts)))]
+        compact = [after[len(before) :] for before, after in zip(outputs, outputs[1:])]
+        for command, fed in ((words, parts), (["crx2rnx"], compact)):
+            with tempfile.TemporaryDirectory() as folder:
+                os.mkfifo(fifo := f"{folder}/fifo")
+                for pieces, name in ((1, None), (3, None), (1, fifo)):
+                    wrong += fed_one_at_a_time(program, command, fed, pieces, name)
     return wrong
 
 
@@ -182,7 +172,6 @@ def a_folder(program):
 
 CHECKS = [
     ("each epoch before the next is fed", each_epoch),
-    ("each epoch of a named pipe before the next is fed", each_epoch_of_a_named_pipe),
     ("warnings after the output before them", warnings_in_order),
     ("an output that nobody reads", nobody_reads),
     ("calls over files", calls_over_files),
