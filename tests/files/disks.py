@@ -208,7 +208,7 @@ def from_a_source_that_is_read_only(texts, folder):
             for name in inputs:
                 promise = Promise(texts, direction, place, top / name, f"{name[:-4]}{DIRECTIONS[direction][1]}")
                 for state in ("made", "is there already"):
-                    run = place.run_in_child(direction, "--verified-to", f"{name} {state}", "-o", promise.output.name, str(top / name))
+                    run = place.run(direction, "--verified-to", f"{name} {state}", "-o", promise.output.name, str(top / name))
                     wrong += differs(run, 0, [state, "verified exact"]) + promise.broken(run.stdout)
             wrong += [f"left: {place.parts()}"] if place.parts() or len(place.names()) != 3 * FILES else []
     return wrong[:6]

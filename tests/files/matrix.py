@@ -62,7 +62,7 @@ def check_cell(texts, direction, kind, there, option, cell, hard=False):
         place.write(source, gzip.compress(content) if packed else content)
         put(place, there, texts, direction, source, output, packed, hard)
         promise = Promise(texts, direction, place, source, output, option == "`-s`")
-        run = place.run_in_child(direction, *OPTIONS[option], source)
+        run = place.run(direction, *OPTIONS[option], source)
         said = run.stdout + run.stderr
         wanted = expected(cell, kind, option, there)
         wrong = promise.broken(run.stdout)

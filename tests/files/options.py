@@ -48,15 +48,15 @@ def lines(texts):
     with Place() as place:
         for name, content in (("a.rnx", GOOD), ("p.rnx", padded(GOOD)), ("s.rnx", changed_epoch(GOOD)), ("b.rnx", b"x\n")):
             place.write(name, content)
-        run = place.run_in_child("rnx2crx", "-s", "--verify", "--json", "a.rnx", "p.rnx", "s.rnx", "b.rnx")
+        run = place.run("rnx2crx", "-s", "--verify", "--json", "a.rnx", "p.rnx", "s.rnx", "b.rnx")
         wrong += differs(run, 1, errors=["b.rnx: ERROR", "s.rnx: WARNING"])
         keys = ("input", "output", "state", "verified", "skipped", "line", "code")
         found = [(*map(one.get, keys), bool(one["error"]), one["may_be_cut_off"]) for one in map(json.loads, run.stdout.splitlines())]
         wanted = [("a.rnx", "a.crx", "made", "exact", 0), ("p.rnx", "p.crx", "made", "normal form", 0), ("s.rnx", "s.crx", "made", None, 1), ("b.rnx", None, "error", None, 0)]
         wrong += [] if found == [(*one, *((1, 3, True) if one[1] is None else (None, None, False)), False) for one in wanted] else [f"json: {run.stdout!r}"]
-        run = place.run_in_child("rnx2crx", "-q", "-f", "a.rnx", "p.rnx")
+        run = place.run("rnx2crx", "-q", "-f", "a.rnx", "p.rnx")
         wrong += [] if run.stdout == "2 files: 0 made, 2 replaced, 0 there already, 0 errors; verified: 0 exact, 0 normal form; with skipped epochs: 0\n" else [f"-q: {run.stdout!r}"]
-        wrong += differs(place.run_in_child("rnx2crx", "-q", "a.rnx"), 0)
+        wrong += differs(place.run("rnx2crx", "-q", "a.rnx"), 0)
         with open("/dev/full", "wb") as full:
             run = started(place, "rnx2crx", "-f", "a.rnx", "p.rnx", stdout=full, stderr=subprocess.PIPE)
         wrong += [] if run.returncode == 1 and b"cannot write to standard output: No space" in run.stderr else [f"full: {run}"]

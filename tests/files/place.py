@@ -18,7 +18,6 @@ TOP = Path(__file__).resolve().parents[2]
 PACKAGE = Path(os.environ.get("RNXCMP_FILES_TESTED", TOP / "python")).resolve()
 CACHE = tempfile.TemporaryDirectory()  # of what Python compiles, which no run is to leave beside the sources
 os.chmod(CACHE.name, 0o777)  # some runs are another user's
-sys.pycache_prefix = CACHE.name
 LIBRARY = Path(os.environ.get("RNXCMP_LIBRARY", TOP / "out/library/librnxcmp.so.2"))
 OLD = 1704067200  # the time of all files, in 2024
 SECONDS = 60  # in which each run is to end
@@ -148,20 +147,6 @@ class Place:
         command = [*through, *TOOL, *words]
         return subprocess.run(command, cwd=self.work, env={**ENVIRONMENT, **(environment or {})}, capture_output=True, text=True, stdin=subprocess.DEVNULL, timeout=SECONDS, **more)
 
-    def run_in_child(self, *words):
-        """The same as `run`, in a child of this process, which has loaded the package: so a run takes some milliseconds."""
-        main = loaded_main()
-        with tempfile.TemporaryFile("w+") as out, tempfile.TemporaryFile("w+") as errors:
-            child = os.fork()
-            if child == 0:
-                become_the_tool(main, self.work, words, out, errors)
-            status = os.waitstatus_to_exitcode(os.waitpid(child, 0)[1])
-            if status == -signal.SIGALRM:  # which says nothing of the tool where the machine does much else
-                raise subprocess.TimeoutExpired(words, SECONDS // 3)
-            out.seek(0)
-            errors.seek(0)
-            return subprocess.CompletedProcess(words, status, out.read(), errors.read())
-
     def changed(self, script, *words, through=()):
         """A run of the tool that a script changes first."""
         command = [*through, sys.executable, "-S", "-c", CHANGED.format(script), *words]
@@ -179,32 +164,6 @@ class Place:
         """The names in a list, or nothing if there is none."""
         path = self.work / name
         return [os.fsdecode(one).removeprefix(f"{self.work}/") for one in path.read_bytes().split(b"\0")[:-1]] if path.exists() else None
-
-
-def loaded_main():
-    os.environ["RNXCMP_LIBRARY"] = str(LIBRARY)
-    if str(PACKAGE) not in sys.path:
-        sys.path.insert(0, str(PACKAGE))
-    from rnxcmp.files import main
-
-    return main
-
-
-def become_the_tool(main, work, words, out, errors, seconds=SECONDS // 3):
-    """Runs the tool in this process, and ends it, after so many seconds if there are any."""
-    status = 1
-    signal.alarm(seconds)
-    try:
-        os.chdir(work)
-        os.dup2(out.fileno(), 1)
-        os.dup2(errors.fileno(), 2)
-        status = main(words)
-    except SystemExit as ended:
-        status = ended.code
-    except BaseException:
-        os.write(2, traceback.format_exc().encode())
-    finally:
-        os._exit(status)
 
 
 def state_of(path):

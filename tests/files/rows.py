@@ -146,6 +146,16 @@ def links(texts):
         yield row({**far, "soft.crx": target}, "rnx2crx -f --verify soft.rnx", status, out, err, replaced=() if status else ("soft.crx",))
 
 
+def texts_that_end_elsewhere(texts):
+    """An output with an epoch less than the input, or one more, or with a header alone, holds something else."""
+    header, *epochs = GOOD.split(b"\n>")
+    three, four = (b"\n>".join([header, *epochs[:count]]) + b"\n" for count in (3, 4))
+    for source, there in ((three, four), (four, three), (three, HEADER), (HEADER, three)):
+        for words in ("", "--verify"):
+            yield row({"a.rnx": source, "a.crx": texts.filtered(there, "rnx2crx")}, f"rnx2crx {words} a.rnx", 1, (), "holds something else: a.crx")
+            yield row({"a.crx": texts.filtered(source, "rnx2crx"), "a.rnx": there}, f"crx2rnx {words} a.crx", 1, (), "holds something else: a.rnx")
+
+
 def packs(texts):
     """gzip of several members and with zeros at its end, `.Z`; packs that are cut off, damaged, or followed by other bytes."""
     half = len(GOOD) // 2
@@ -292,7 +302,7 @@ def run_row(files, words, status, out, err, made, listed, replaced, gone, script
         for name, content in files.items():
             put(place, name, content)
         kept = {name: state_of(place.work / name) for name, content in files.items() if name not in {*replaced, *gone} and content is not FOLDER}
-        run = place.changed(script, *words) if script else place.run_in_child(*words)
+        run = place.changed(script, *words) if script else place.run(*words)
         wrong = differs(run, status, out, err)
         wrong += [f"{text!r} isn't said {err.count(text)} times" for text in err if err.count(text) > 1 and run.stderr.count(text) != err.count(text)]
         wrong += [f"{name} was changed" for name, state in kept.items() if state_of(place.work / name) != state]
@@ -306,7 +316,7 @@ def run_row(files, words, status, out, err, made, listed, replaced, gone, script
 
 def checks(texts):
     for group in (
-        names_of_outputs, choices, refusals, lists, cut_files, ways_back, links, packs, no_epoch, inputs_that_change, outputs_that_come, bytes_that_change_on_the_disk, signals,
+        names_of_outputs, choices, refusals, lists, cut_files, ways_back, texts_that_end_elsewhere, links, packs, no_epoch, inputs_that_change, outputs_that_come, bytes_that_change_on_the_disk, signals,
         lists_of_changed_files, disks,
     ):  # fmt: skip
         yield group.__name__.replace("_", " "), lambda group=group: [line for one in group(texts) for line in run_row(*one)]

@@ -1,13 +1,13 @@
 #!/usr/bin/env python3
 """What sees a planted bug of the tool for whole files: check.py PROGRAM COPY MADE FILE (see tests/mutants/run.py). The tests of tests/files
-are run over the package in COPY, up to the first that fails; those that take the least come first."""
+are run over the package in COPY, up to the first that fails; first those that are about FILE."""
 
 import os
 import subprocess
 import sys
 from pathlib import Path
 
-PROGRAM, COPY, MADE = (Path(word) for word in sys.argv[1:4])
+PROGRAM, COPY, MADE, FILE = (Path(word) for word in sys.argv[1:5])
 os.environ["RNXCMP_FILES_TESTED"] = str(COPY / "python")
 os.environ.setdefault("RNXCMP_LIBRARY", str(MADE / "out/library/librnxcmp.so.2"))
 sys.path[:0] = [str(COPY / "tests/files"), str(COPY / "tests")]
@@ -23,11 +23,20 @@ import signals  # noqa: E402
 from place import Texts  # noqa: E402
 
 NOT_KNOWN = 3  # the status where a check didn't end in time, and no other has seen anything
+ABOUT = {  # words in the names of the checks that are about a file
+    "_parts.py": ("order", "modes", "access", "disks", "outputs that", "signals"),
+    "_whole.py": ("ways back", "cut files", "lists of", "inputs that", "bytes that", "links", "no epoch", "order", "refusals"),
+    "_names.py": ("names",),
+    "_on_disk.py": ("from python",),
+    "_packed.py": ("packs",),
+    "files.py": ("lists", "signals", "choices", "cut files", "lines", "refusals"),
+}
 
 
 def main():
     texts, late = Texts(PROGRAM), ""
-    for name, check in (check for module in (rows, promises, options, matrix, faults, signals) for check in module.checks(texts)):
+    checks = [check for module in (rows, promises, options, matrix, faults, signals) for check in module.checks(texts)]
+    for name, check in sorted(checks, key=lambda check: not any(word in check[0] for word in ABOUT.get(FILE.name, ()))):
         try:
             wrong = check()
         except subprocess.TimeoutExpired as error:  # which may be the machine's fault
