@@ -318,13 +318,13 @@ class VerifiedList:
         self._place, self._accepts_cut, self._force = place, accept_cut, force
         self._counted = (EXACT, NORMAL_FORM) if normal_form else (EXACT,)
         self._found: List[Tuple[str, Done]] = []
-        self._part = Part(place)
+        self.part = Part(place)
 
     def begin(self) -> None:
         """Makes the temporary file, so that it is known at once if that can't be done."""
         if os.path.lexists(self._place):
             raise FileError("file exists")
-        self._part.begin()
+        self.part.begin()
 
     def add(self, name: str, done: Done) -> None:
         if done.verified in self._counted and (self._accepts_cut or not done.may_be_cut_off):
@@ -334,20 +334,17 @@ class VerifiedList:
         """Gives the list its name: how many files have changed since they were verified, and aren't in it."""
         held = [name for name, done in self._found if done.still_holds(name)]
         for name in dict.fromkeys(held):
-            self._part.write(os.fsencode(name) + b"\0")
-        self._part.flush()
+            self.part.write(os.fsencode(name) + b"\0")
+        self.part.flush()
         try:
-            self._part.put(False)
+            self.part.put(False)
         except CannotName:
             if not self._force or os.path.lexists(self._place):
                 raise
-            self._part.put(True)
+            self.part.put(True)
         except FileExistsError:
             raise FileError("another file has got its name") from None
         return len(self._found) - len(held)
-
-    def remove(self) -> None:
-        self._part.remove()
 
 
 # ---- the run
@@ -420,7 +417,7 @@ class Run:
             self._printer.say(self._found.list, f"ERROR: {error}")
             return FAILED
         finally:
-            self._verified.remove()
+            self._verified.part.remove()
         if changed:
             self._printer.say(self._found.list, f"ERROR: {changed} files changed after they were verified, and aren't in it")
         return FAILED if changed else status

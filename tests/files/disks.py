@@ -161,7 +161,7 @@ def loop_ext4(folder):
 
 
 def bindfs(folder, *more):
-    (folder / "below").mkdir()
+    os.mkdir(folder / "below")
     return mounted(folder / "top", "bindfs", *more, folder / "below")
 
 

@@ -140,10 +140,9 @@ def modules_of_the_folder(texts):
         place.write("a.rnx", GOOD)
         script = f"import sys; sys.path.insert(0, {str(PACKAGE)!r}); sys.argv[0] = 'x'; import runpy; runpy.run_module('rnxcmp.files', run_name='__main__')"
         run = subprocess.run([sys.executable, "-IB", "-c", script, "rnx2crx", "--json", "a.rnx"], cwd=place.work, env=ENVIRONMENT, capture_output=True, text=True, timeout=SECONDS)
-        wrong = [] if run.returncode == 0 and not run.stderr else [f"{run}"]
-    page, tool = (TOP / "docs/FILES.md").read_text(), (TOP / "packaging/bin/rnxcmp-file").read_text().splitlines()[0]
-    wrong += [] if "`python3 -I -m rnxcmp.files`" in page and "-m rnxcmp.files" not in page.replace("-I -m", "") else ["docs/FILES.md starts it otherwise"]
-    return wrong + ([] if tool == "#!/usr/bin/env -S python3 -IS" else [tool])
+    page, tool = (TOP / "docs/FILES.md").read_text(), (TOP / "packaging/bin/rnxcmp-file").read_text()
+    right = "`python3 -I -m rnxcmp.files`" in page and "-m rnxcmp.files" not in page.replace("-I -m", "") and tool.startswith("#!/usr/bin/env -S python3 -IS\n")
+    return differs(run, 0) + ([] if right else ["it is started otherwise"])
 
 
 # ---- from Python

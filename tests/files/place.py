@@ -230,13 +230,12 @@ def is_traced():
     return shutil.which("strace") and subprocess.run(["strace", "-o", "/dev/null", "true"], capture_output=True).returncode == 0
 
 
-def outcome_of(check):
-    try:
-        return check()
-    except Exception:  # a check that can't go on has failed
-        return traceback.format_exc().splitlines()
-
-
 def outcomes_of(module, program):
     """What is wrong by each check of a module."""
-    return [(name, outcome_of(check)) for name, check in importlib.import_module(module).checks(Texts(program))]
+    found = []
+    for name, check in importlib.import_module(module).checks(Texts(program)):
+        try:
+            found.append((name, check()))
+        except Exception:  # a check that can't go on has failed
+            found.append((name, traceback.format_exc().splitlines()))
+    return found
