@@ -75,23 +75,23 @@ def command(program):
     text = sample()
     bad, packed = text.replace(b"\nG02", b"\nX02", 1), gzip.compress(text, mtime=0)
     with tempfile.TemporaryDirectory() as folder:
-        files = {"good.rnx": text, "bad.rnx": bad, "crlf.rnx": text.replace(b"\n", b"\r\n"), "noname": compacted(program, text), "good.rnx.gz": packed,
+        files = {"good.rnx": text, "bad.rnx": bad, "crlf.rnx": text.replace(b"\n", b"\r\n"), "cut.rnx": text[:-9], "noname": compacted(program, text), "good.rnx.gz": packed,
                  "cut.rnx.gz": packed[:-900], "damaged.rnx.gz": packed[:2000] + b"\0" + packed[2001:], "bad.24o.gz": gzip.compress(bad)}  # fmt: skip
         for name, data in files.items():
             (Path(folder) / name).write_bytes(data)
         os.mkdir(f"{folder}/folder.rnx")
         os.mkfifo(f"{folder}/pipe.rnx")
-        names = ("none.rnx", "folder.rnx", "pipe.rnx", "/proc/self/mem", "damaged.rnx.gz", "cut.rnx.gz", "good.rnx", "crlf.rnx", "noname", "good.rnx.gz", "bad.24o.gz", "bad.rnx")
+        names = ("none.rnx", "folder.rnx", "pipe.rnx", "/proc/self/mem", "damaged.rnx.gz", "cut.rnx.gz", "good.rnx", "crlf.rnx", "cut.rnx", "noname", "good.rnx.gz", "bad.24o.gz", "bad.rnx")
         run, as_json = run_tool(folder, "explain", *names), run_tool(folder, "explain", "--json", *names)
         statuses = [run_tool(folder, "explain", name).returncode for name in names]
         message = run_tool(folder, "rnx2crx", "-o", "out.crx", "bad.rnx").stderr
-    wrong = [] if statuses == [1, 1, 1, 1, 1, 1, 0, 2, 0, 0, 1, 1] and run.returncode == as_json.returncode == 1 else [f"{statuses}, {run.returncode}"]
+    wrong = [] if statuses == [1, 1, 1, 1, 1, 1, 0, 2, 2, 0, 0, 1, 1] and run.returncode == as_json.returncode == 1 else [f"{statuses}, {run.returncode}"]
     said = ("none.rnx: ERROR: No such file or directory\nfolder.rnx: ERROR: this is a folder, not a file\npipe.rnx: ERROR: this is no regular file\n"
             "/proc/self/mem: ERROR: Input/output error\n")  # fmt: skip
     wrong += [] if run.stderr == said == as_json.stderr else [f"standard error has {run.stderr!r}"]
     wrong += [] if message == MESSAGE else [f"a conversion says {message!r}"]
     begin = ("damaged.rnx.gz: refused: the packed text is damaged", "cut.rnx.gz: refused: the packed text is cut off\n", "good.rnx: nothing to explain\n",
-             "crlf.rnx: not standard, line 1: the line ends in CR LF\n", "noname: nothing to explain\n", "good.rnx.gz: nothing to explain\n", "bad.24o.gz: refused, line 33")  # fmt: skip
+             "crlf.rnx: not standard, line 1: the line ends in CR LF\n", "cut.rnx: cut off, line 191: the last line has no line end", "noname: nothing to explain\n", "good.rnx.gz: nothing to explain\n", "bad.24o.gz: refused, line 33")  # fmt: skip
     wrong += [f"it doesn't say {words!r}: {run.stdout}" for words in begin if f"\n{words}" not in f"\n{run.stdout}"]
     wrong += [] if run.stdout.endswith(BAD.format(rest=bad.splitlines()[32].decode()[6:100])) else [run.stdout]
     objects = [json.loads(line) for line in as_json.stdout.splitlines()]
