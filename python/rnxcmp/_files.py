@@ -3,7 +3,10 @@
 from __future__ import annotations
 
 from ._calls import CUT_OFF, USUAL, OutputLimitError, bytes_of_file, content_of, crx2rnx, limit_for, limit_of, rnx2crx, warn
-from ._packed import COMPRESS, GZIP, UnsupportedError, other_packing, out_of_compress, out_of_gzip, packed_by_gzip, pieces_in
+from ._packed import (
+    BZIP2, COMPRESS, GZIP, XZ, ZIP,
+    UnsupportedError, other_packing, out_of_archive, out_of_compress, out_of_gzip, packed_by_gzip, pieces_in,
+)  # fmt: skip
 
 TYPE_CHECKING = False
 if TYPE_CHECKING:
@@ -29,12 +32,16 @@ def _within(pieces: Iterable[bytes], packing: str, max_length: Optional[int]) ->
 
 
 def _unpacked(data: bytes, max_length: Optional[int] = None) -> bytes:
-    """The bytes, out of gzip or out of compress (``.Z``) where they are in it."""
+    """The bytes, unpacked if they are packed."""
     limit_of(max_length)
     if other_packing(data):
         raise UnsupportedError(f"compression not supported: {other_packing(data)}")
     if data.startswith(COMPRESS):
         return _within(out_of_compress(data), ".Z", max_length)
+    if data.startswith((BZIP2, XZ, ZIP)):
+        from io import BytesIO
+
+        return _within(out_of_archive(BytesIO(data), data[:4]), "an archive", max_length)
     return _within(out_of_gzip(pieces_in(data)), "gzip", max_length) if data.startswith(GZIP) else data
 
 

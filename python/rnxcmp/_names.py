@@ -10,13 +10,19 @@ TYPE_CHECKING = False
 if TYPE_CHECKING:
     from typing import Optional
 
-_PACKED = re.compile(r"\.(gz|GZ|z|Z)\Z")
+_PACKED = re.compile(r"\.(?:gz|GZ|z|Z|(bz2|BZ2|xz|XZ|zip|ZIP))\Z")
 _FORMS = {"rnx2crx": (("rnx", "crx"), ("o", "d")), "crx2rnx": (("crx", "rnx"), ("d", "o"))}
 
 
 def is_packed(name: str) -> bool:
     """Whether a name is that of a packed file."""
     return _PACKED.search(name) is not None
+
+
+def is_only_read(name: str) -> bool:
+    """Whether a name is that of a file in a packing that is read, but not written."""
+    found = _PACKED.search(name)
+    return bool(found and found[1])
 
 
 def unpacked_name(name: str) -> str:

@@ -1,4 +1,4 @@
-"""The text of a file in pieces: as it is, out of gzip, or out of compress (`.Z`); and into gzip."""
+"""The text of a file in pieces: as it is, or out of gzip, compress (`.Z`), bzip2, xz or zip; and into gzip."""
 
 from __future__ import annotations
 
@@ -10,11 +10,12 @@ from ._calls import RnxcmpError
 
 TYPE_CHECKING = False
 if TYPE_CHECKING:
-    from typing import Callable, Iterable, Iterator
+    from typing import BinaryIO, Callable, Iterable, Iterator
 
 _PIECE = 1 << 18
 GZIP, COMPRESS = b"\x1f\x8b", b"\x1f\x9d"
-_OTHERS = ((b"\x1f\xa0", ".Z (LZH)"), (b"BZh", "bzip2"), (b"PK\x03\x04", "zip"), (b"\xfd7zXZ\x00", "xz"), (b"\x28\xb5\x2f\xfd", "zstd"))
+BZIP2, ZIP, XZ = b"BZh", b"PK\x03\x04", b"\xfd7zXZ\x00"
+_OTHERS = ((b"\x1f\xa0", ".Z (LZH)"), (b"\x28\xb5\x2f\xfd", "zstd"))
 _SIGN = 6  # bytes that say how a file is packed
 _GZIP_FORM = 31  # zlib's number for gzip
 
@@ -110,6 +111,40 @@ def _out_of_compress(descriptor: int) -> Iterator[bytes]:
         run.wait()
 
 
+def _only_file_in(file: BinaryIO) -> BinaryIO:
+    """Opens the file that a zip has."""
+    from zipfile import ZipFile
+
+    found = ZipFile(file)
+    names = [one for one in found.infolist() if not one.is_dir()]
+    if len(names) != 1:
+        raise UnsupportedError(f"a zip with {len(names)} files, not one")
+    return found.open(names[0])  # type: ignore[return-value]
+
+
+def out_of_archive(file: BinaryIO, start: bytes) -> Iterator[bytes]:
+    """Gives the text of an open file that begins with `start`, out of bzip2, xz or zip."""
+    from bz2 import BZ2File
+    from lzma import LZMAError, LZMAFile
+    from zipfile import BadZipFile
+
+    try:
+        opened = _only_file_in(file) if start.startswith(ZIP) else BZ2File(file) if start.startswith(BZIP2) else LZMAFile(file)
+        yield from iter(lambda: opened.read(_PIECE), b"")
+    except EOFError:
+        raise PackError("the packed text is cut off") from None
+    except (LZMAError, BadZipFile, zlib.error, OSError, NotImplementedError, RuntimeError) as error:
+        if isinstance(error, OSError) and error.errno:
+            raise
+        raise PackError(f"the packed text is damaged: {error}") from error
+
+
+def _out_of_archive(descriptor: int, start: bytes) -> Iterator[bytes]:
+    with os.fdopen(os.dup(descriptor), "rb") as file:
+        file.seek(0)
+        yield from out_of_archive(file, start)
+
+
 def text_of(descriptor: int) -> Iterator[bytes]:
     """Gives the text of an open file that is at its beginning, unpacked by its first bytes."""
     pieces, start = pieces_of(descriptor), b""
@@ -119,6 +154,8 @@ def text_of(descriptor: int) -> Iterator[bytes]:
         raise UnsupportedError(f"compression not supported: {other_packing(start)}")
     if start.startswith(COMPRESS):
         yield from _out_of_compress(descriptor)
+    elif start.startswith((BZIP2, ZIP, XZ)):
+        yield from _out_of_archive(descriptor, start)
     else:
         yield from out_of_gzip(chain((start,), pieces)) if start.startswith(GZIP) else chain((start,), pieces)
 

@@ -20,6 +20,7 @@ _NO_LINKS = (errno.EPERM, errno.EOPNOTSUPP, errno.ENOSYS, errno.EMLINK)
 _NO_SUCH_RENAME = (errno.EINVAL, errno.ENOSYS, errno.EOPNOTSUPP)
 _NO_LIST = (errno.ENODATA, errno.EOPNOTSUPP, errno.ENOSYS)
 _NOREPLACE = 1  # a flag of renameat2
+FOLDER = os.O_RDONLY | os.O_DIRECTORY | os.O_CLOEXEC
 _unfinished: Set[Part] = set()
 
 
@@ -73,10 +74,30 @@ def sync_folder(folder: int) -> None:
             raise
 
 
+def disown_unfinished() -> None:
+    """Leaves the temporary files so far to the process that this one was forked from."""
+    _unfinished.clear()
+
+
 def remove_unfinished() -> None:
     """Removes all temporary files of this process."""
     for part in list(_unfinished):
         part.remove()
+
+
+def make_folder(name: str) -> None:
+    """Makes a folder and those that it is in, as far as they don't exist, and flushes their names to the disk."""
+    if not name or os.path.isdir(name):
+        return
+    above = os.path.dirname(name)
+    make_folder(above)
+    with suppress(FileExistsError):
+        os.mkdir(name)
+    folder = os.open(above or ".", FOLDER)
+    try:
+        sync_folder(folder)
+    finally:
+        os.close(folder)
 
 
 def _give_rights(file: int, like: os.stat_result, to_owner_alone: bool) -> bool:
@@ -111,7 +132,7 @@ class Part:
     def begin(self) -> None:
         """Creates the file, empty."""
         with saying(f"cannot write beside {self._where}"):
-            self._folder = os.open(self._home or ".", os.O_RDONLY | os.O_DIRECTORY | os.O_CLOEXEC)
+            self._folder = os.open(self._home or ".", FOLDER)
             _unfinished.add(self)
             self.file = os.open(self._name, os.O_RDWR | os.O_CREAT | os.O_EXCL | os.O_CLOEXEC, 0o600, dir_fd=self._folder)
 

@@ -17,14 +17,17 @@ if os.name == "nt":  # which has no call that names a file and replaces nothing
 
 from ._calls import RnxcmpError, version
 from ._names import is_packed, quoted
-from ._parts import CannotName, FileError, Part, remove_unfinished
-from ._whole import COMPACTION, EXACT, EXPANSION, MADE, NORMAL_FORM, REPLACED, THERE, Choices, Done, Whole
+from ._parts import CannotName, FileError, Part, remove_unfinished, saying
+from ._whole import COMPACTION, EXACT, EXPANSION, MADE, NORMAL_FORM, PASSED, REPLACED, THERE, Choices, Done, Whole, output_name
 
 TYPE_CHECKING = False
 if TYPE_CHECKING:
-    from typing import Callable, List, NoReturn, Optional, Sequence, Tuple, Union
+    from typing import Callable, Dict, Iterator, List, NoReturn, Optional, Sequence, Tuple, Union
 
+    from ._checked import Checked
     from ._on_disk import compress_on_disk, decompress_on_disk
+
+    Result = Union[Done, Checked, "Failure"]
 
 __all__ = ["compress_on_disk", "decompress_on_disk", "main"]
 
@@ -33,14 +36,22 @@ GOOD, FAILED, SKIPPED = 0, 1, 2  # statuses
 USAGE = """\
 usage: rnxcmp-file rnx2crx [options] INPUT..
        rnxcmp-file crx2rnx [options] INPUT..
+       rnxcmp-file check [-j N] [--json] [-q] [--inputs LIST] INPUT..
        rnxcmp-file explain [--json] [--inputs LIST] INPUT..
 
 Compacts (rnx2crx) or expands (crx2rnx) whole files. The output is beside the
 input, under its name with the other ending, packed by gzip if the input is.
-With explain it says why a file is refused, isn't standard, or may be cut off:
-the line, its field, the expected text, and the likely causes.
+With check it says which files aren't valid or may be cut off. With explain it
+says why a file is refused, isn't standard, or may be cut off: the line, its
+field, the expected text, and the likely causes.
 
-  -o OUTPUT           the output's name, for one input
+  -o OUTPUT           the output's name, for one input; - is standard output of
+                      crx2rnx
+  --to FOLDER         the folder below which the outputs are named as the inputs
+  --from FOLDER       with --to: the folder below which the inputs are
+  --new               pass over each input whose output exists
+  -j N                do N files at once; as many as there are processors if no
+                      number follows
   --inputs LIST       the names of more inputs, each with a NUL; - is standard
                       input
   --gzip, --no-gzip   pack the output, or don't
@@ -64,15 +75,16 @@ the line, its field, the expected text, and the likely causes.
 
 It never changes or removes an input. An output that exists is left as it is: if
 it holds this input that is fine, otherwise an error, unless -f is given. Exit
-status: 0 all files are done; 2 epochs were skipped, so a file isn't verified; 1
-an error. Each message begins with the input's name.
+status: 0 all files are done; 2 epochs were skipped, so a file isn't verified,
+or a checked file may be cut off; 1 an error. Each message begins with the
+input's name.
 """
 REMOVES_NOTHING = (
     "is no longer an option: no input is ever removed; "
     "--verified-to LIST writes the names of those that are verified, for xargs -0 rm --"
 )
 WARNINGS = 3  # that are printed of a file
-EXPLANATION = "explain"
+EXPLANATION, CHECK = "explain", "check"
 _UNITS = {"": 1, "k": 10**3, "M": 10**6, "G": 10**9}
 
 
@@ -106,6 +118,10 @@ def _parser() -> argparse.ArgumentParser:
         parser.add_argument(flag, action="store_true")
     for flag, name in (("-f", "force"), ("-s", "skip"), ("-q", "quiet"), ("-h", "help"), ("--help", "help")):
         parser.add_argument(flag, dest=name, action="store_true")
+    parser.add_argument("--new", action="store_true")
+    parser.add_argument("--to")
+    parser.add_argument("--from", dest="base")
+    parser.add_argument("-j", dest="jobs")
     parser.add_argument("--inputs", dest="more", action="append")
     parser.add_argument("--verified-to", dest="list")
     parser.add_argument("--max-output", dest="most")
@@ -120,6 +136,10 @@ def _is_date(text: str) -> bool:
 
 def _arguments(words: Sequence[str]) -> argparse.Namespace:
     """The arguments; refuses what doesn't go together."""
+    words = list(words)
+    for at in range(len(words)):
+        if words[at] == "-j" and not re.match("[0-9]", "".join(words[at + 1 : at + 2])):
+            words[at] = f"-j{len(os.sched_getaffinity(0))}"
     found, unknown = _parser().parse_known_intermixed_args(words)
     if unknown:
         _refuse(f"unrecognized arguments: {' '.join(map(quoted, unknown))}")
@@ -127,8 +147,10 @@ def _arguments(words: Sequence[str]) -> argparse.Namespace:
         return found
     if found.delete or found.d:
         _refuse(f"{'--delete' if found.delete else '-d'} {REMOVES_NOTHING}")
-    if found.direction not in (COMPACTION, EXPANSION, EXPLANATION):
-        _refuse(f"neither rnx2crx nor crx2rnx nor explain: {quoted(found.direction)}" if found.direction else "rnx2crx or crx2rnx is missing")
+    if found.direction not in (COMPACTION, EXPANSION, CHECK, EXPLANATION):
+        if not found.direction:
+            _refuse("rnx2crx or crx2rnx is missing")
+        _refuse(f"neither rnx2crx nor crx2rnx nor check nor explain: {quoted(found.direction)}")
     if found.more:
         found.inputs += [name for one in found.more for name in _listed(one)]
     elif not found.inputs:
@@ -139,18 +161,53 @@ def _arguments(words: Sequence[str]) -> argparse.Namespace:
 
 
 def _ensure_names(found: argparse.Namespace) -> None:
-    if "" in (*found.inputs, found.output, found.list):
+    if "" in (*found.inputs, found.output, found.list, found.to, found.base):
         _refuse("an empty name")
-    if "-" in (found.output, found.list):
-        _refuse("no file is written to standard output; ./- is the name of a file")
-    if found.output is not None and len(found.inputs) > 1:
-        _refuse("-o names one output, and there is more than one input")
+    if found.list == "-" or (found.output == "-" and found.direction != EXPANSION):
+        _refuse("only crx2rnx -o - writes to standard output; ./- is the name of a file")
+    if found.output == "-" and (found.verify or found.list or found.force or found.json or found.new):
+        _refuse("-o - makes no file, and goes without --verify, --verified-to, -f, --new and --json")
+    if found.output is not None and (len(found.inputs) > 1 or found.jobs or found.to):
+        _refuse("-o names one output of one input, and goes without -j and --to")
+    if found.base is not None and found.to is None:
+        _refuse("--from belongs to --to")
+    for name in found.inputs if found.to is not None else ():
+        if ".." in (place := _place(found, name).split("/")) or not place[0]:
+            _refuse(f"--to needs --from FOLDER for a name that is absolute or has ..: {quoted(name)} isn't below such a folder")
+
+
+def _place(found: argparse.Namespace, name: str) -> str:
+    """An input's name as it is below the folder of --from, or as it is given."""
+    return name if found.base is None else os.path.relpath(os.path.abspath(name), os.path.abspath(found.base))
+
+
+def _output_of(found: argparse.Namespace, choices: Choices, name: str) -> str:
+    """The name of an input's output, by the arguments."""
+    if found.output is not None or found.to is None:
+        return found.output or output_name(name, choices)
+    return os.path.join(found.to, os.path.dirname(_place(found, name)), os.path.basename(output_name(name, choices)))
+
+
+def _ensure_own_outputs(found: argparse.Namespace, choices: Choices) -> None:
+    """Refuses two inputs with one output, of which two processes would make one file."""
+    outputs: Dict[str, str] = {}
+    for name in found.inputs:
+        with suppress(FileError):
+            other = outputs.setdefault(os.path.abspath(_output_of(found, choices, name)), name)
+            if other is not name:
+                _refuse(f"-j does files at once, and these have one output: {quoted(other)} and {quoted(name)}")
 
 
 def _ensure_choices(found: argparse.Namespace) -> None:
-    given = [name for name, value in vars(found).items() if value not in (None, False)]
-    if found.direction == EXPLANATION and not {*given} <= {"direction", "inputs", "more", "json"}:
+    given = {name for name, value in vars(found).items() if value not in (None, False)} - {"direction", "inputs", "more", "json"}
+    if found.direction == EXPLANATION and given:
         _refuse("explain takes --json and --inputs alone")
+    if found.direction == CHECK and given - {"quiet", "jobs"}:
+        _refuse("check takes -j, --json, -q and --inputs alone")
+    if found.jobs is not None and not (re.fullmatch("[0-9]{1,3}", found.jobs) and 1 <= int(found.jobs) <= 256):
+        _refuse("the number of -j is from 1 to 256")
+    if found.new and found.force:
+        _refuse("--new passes over outputs that exist, and -f replaces them")
     if found.direction == EXPANSION and (found.every is not None or found.date is not None):
         _refuse("-e and --date belong to rnx2crx")
     if found.every is not None and not (re.fullmatch("[0-9]{1,20}", found.every) and 1 <= int(found.every) <= 1000000):
@@ -188,14 +245,15 @@ def _choices(found: argparse.Namespace) -> Choices:
         pack = is_packed(found.output)
     every = None if found.every is None else int(found.every)
     most = None if found.most is None else _size_of(found.most)
-    return Choices(found.direction, pack, found.verify or found.list is not None, found.force, found.skip, every, found.date, most)
+    verify = found.verify or found.list is not None
+    return Choices(found.direction, pack, verify, found.force, found.skip, every, found.date, most, found.new, found.to is not None)
 
 
 # ---- what is printed
 
 
-def _write_all(descriptor: int, text: str) -> None:
-    view = memoryview(os.fsencode(text))
+def _write_all(descriptor: int, text: Union[str, bytes]) -> None:
+    view = memoryview(text if isinstance(text, bytes) else os.fsencode(text))
     while view:
         view = view[os.write(descriptor, view) :]
 
@@ -213,15 +271,19 @@ class Failure:
         self.text, self.line, self.code = text, line, code
 
 
-def _as_json(name: str, done: Optional[Done], failure: Optional[Failure]) -> str:
+def _as_json(name: str, result: Result, checks: bool) -> str:
     from json import dumps
 
-    return dumps({
-        "input": name, "output": done and done.output, "state": done.state if done else "error",
-        "verified": (done and done.verified) or None, "skipped": done.skipped if done else 0,
-        "may_be_cut_off": bool(done and done.may_be_cut_off), "error": failure and failure.text,
-        "line": (failure and failure.line) or None, "code": (failure and failure.code) or None,
-    })  # fmt: skip
+    found: Dict[str, object] = {} if checks else {"output": None, "verified": None, "skipped": 0}
+    found.update({"state": "error", "may_be_cut_off": False, "error": None, "line": None, "code": None})
+    if isinstance(result, Failure):
+        found.update({"error": result.text, "line": result.line or None, "code": result.code or None})
+    elif isinstance(result, Done):
+        found.update({"output": result.output, "state": result.state, "verified": result.verified or None, "skipped": result.skipped})
+    else:
+        found.update(result.fields())
+    found["may_be_cut_off"] = getattr(result, "may_be_cut_off", False)
+    return dumps({"input": name, **found})
 
 
 class Printer:
@@ -232,7 +294,8 @@ class Printer:
         self._always = found.more is not None
         self._shows = self._count > 1 and os.isatty(2)
         self._number = 0
-        self._counts = dict.fromkeys((MADE, REPLACED, THERE, "error", EXACT, NORMAL_FORM, "", "skipped"), 0)
+        self._new, self._checks = found.new, found.direction == CHECK
+        self._counts = dict.fromkeys((MADE, REPLACED, THERE, PASSED, "error", EXACT, NORMAL_FORM, "", "skipped", "cut off"), 0)
         self.failed = False
 
     def begin(self, name: str) -> None:
@@ -263,45 +326,51 @@ class Printer:
             self.failed = True
             _say(f"rnxcmp-file: ERROR: cannot write to standard output: {error.strerror}")
 
-    def file(self, name: str, done: Optional[Done], failure: Optional[Failure]) -> None:
+    def file(self, name: str, result: Result) -> None:
         """What was done with a file, or why nothing was."""
-        for what in (done.state, done.verified, "skipped" if done.skipped else "") if done else ("error",):
+        done = result if isinstance(result, Done) else None
+        for what in (done.state, done.verified, "skipped" if done.skipped else "") if done else ("error" if isinstance(result, Failure) else "",):
             self._counts[what] += 1
+        self._counts["cut off"] += getattr(result, "may_be_cut_off", False)
         if self._json:
-            self.line(_as_json(name, done, failure))
+            self.line(_as_json(name, result, self._checks))
         elif done and not self._quiet:
-            said = f"{quoted(done.output)} is there already" if done.state == THERE else f"{done.state} {quoted(done.output)}"
+            said = f"{done.state} {quoted(done.output)}" if done.state in (MADE, REPLACED) else f"{quoted(done.output)} is there already"
+            said += ", passed over" if done.state == PASSED else ""
             said += f", verified {done.verified}" if done.verified else ""
             said += f", not verified: {done.skipped} warnings" if done.skipped else ""
             self.line(f"{quoted(name)}: {said}")
 
     def summary(self) -> None:
         """How many files were done in which way; of each file no more is kept than that, since there may be many."""
-        if self._json or (self._count < 2 and not self._always):
+        if self._json or (self._checks and self._quiet) or (self._count < 2 and not self._always):
             return
-        counts, words = self._counts, {MADE: "made", REPLACED: "replaced", THERE: "there already", "error": "errors"}
-        done = ", ".join(f"{counts[state]} {said}" for state, said in words.items())
+        counts, words = self._counts, {MADE: "made", REPLACED: "replaced", THERE: "there already", PASSED: "passed over", "error": "errors"}
+        if self._checks:
+            self.line(f"{self._number} files: {self._number - counts['error']} valid, {counts['cut off']} of them may be cut off, {counts['error']} errors")
+            return
+        done = ", ".join(f"{counts[state]} {said}" for state, said in words.items() if state != PASSED or self._new)
         verified = ", ".join(f"{counts[how]} {how}" for how in (EXACT, NORMAL_FORM))
         self.line(f"{self._number} files: {done}; verified: {verified}; with skipped epochs: {counts['skipped']}")
 
 
 class Warnings:
-    """The warnings about a file: of those about lines some are printed, and how many more there are, or all."""
+    """The warnings about a file: of those about lines some are said, and how many more there are, or all."""
 
-    def __init__(self, printer: Printer, name: str, all_of_them: bool) -> None:
-        self._printer, self._name, self._all, self._count = printer, name, all_of_them, 0
+    def __init__(self, say: Callable[[str], None], all_of_them: bool) -> None:
+        self._say, self._all, self._count = say, all_of_them, 0
 
     def tell(self, text: str) -> None:
         if not text.startswith("line "):
-            self._printer.say(self._name, f"WARNING: {text}")
+            self._say(f"WARNING: {text}")
             return
         self._count += 1
         if self._all or self._count <= WARNINGS:
-            self._printer.say(self._name, f"WARNING {text}")
+            self._say(f"WARNING {text}")
 
     def end(self) -> None:
         if self._count > WARNINGS and not self._all:
-            self._printer.say(self._name, f"WARNING: {self._count - WARNINGS} more; -v prints all")
+            self._say(f"WARNING: {self._count - WARNINGS} more; -v prints all")
 
 
 # ---- the list of verified inputs
@@ -350,10 +419,10 @@ class VerifiedList:
 # ---- the run
 
 
-def _done_by(name: str, choices: Choices, output: Optional[str], tell: Callable[[str], None]) -> Union[Done, Failure]:
+def _tried(work: Callable[[], Result]) -> Result:
     """Does a file: what was done, or the message of its error."""
     try:
-        return Whole(name, choices, output, tell).run()
+        return work()
     except (RnxcmpError, MemoryError) as error:
         words = str(error) or "out of memory"  # of which Python says nothing
         text = f"ERROR {words}" if words.startswith("line ") else f"ERROR: {words}"
@@ -362,43 +431,93 @@ def _done_by(name: str, choices: Choices, output: Optional[str], tell: Callable[
         return Failure(f"ERROR: {error.strerror or error}")
 
 
+def _to_standard_output(data: bytes) -> None:
+    with saying("cannot write to standard output"):
+        _write_all(1, data)
+
+
 class Run:
     """One call of the tool."""
 
     def __init__(self, found: argparse.Namespace) -> None:
         self._found, self._choices = found, _choices(found)
+        if found.jobs is not None and found.direction != CHECK:
+            _ensure_own_outputs(found, self._choices)
+        found.quiet |= found.output == "-"
         self._printer = Printer(found)
         self._verified = None if found.list is None else VerifiedList(found.list, found.normal_form, found.accept_cut, found.force)
 
-    def _do(self, name: str) -> int:
-        """Does one file, and says so: the status."""
-        printer, warnings = self._printer, Warnings(self._printer, name, self._found.v)
-        printer.begin(name)
-        result = _done_by(name, self._choices, self._found.output, warnings.tell)
+    def _work(self, name: str, tell: Callable[[str], None]) -> Result:
+        if self._found.direction == CHECK:
+            from ._checked import checked
+
+            return checked(name, tell)
+        work = Whole(name, self._choices, _output_of(self._found, self._choices, name), tell)
+        return work.write_to(_to_standard_output) if self._found.output == "-" else work.run()
+
+    def _do(self, name: str, say: Callable[[str], None]) -> Result:
+        """Does one file; `say` is called with each message."""
+        warnings = Warnings(say, self._found.v)
+        result = _tried(lambda: self._work(name, warnings.tell))
         warnings.end()
         if isinstance(result, Failure):
             result = self._with_cause(name, result)
-            printer.say(name, result.text)
-            printer.file(name, None, result)
-            return FAILED
-        if self._choices.verify and not result.verified:
-            printer.say(name, "WARNING: not verified, since epochs were skipped")
-        if self._verified:
+            say(result.text)
+        elif isinstance(result, Done) and self._choices.verify and result.skipped:
+            say("WARNING: not verified, since epochs were skipped")
+        return result
+
+    def _tell(self, name: str, result: Result) -> int:
+        """Says what was done with a file: the status."""
+        if self._verified and isinstance(result, Done):
             self._verified.add(name, result)
-        printer.file(name, result, None)
-        return SKIPPED if result.skipped else GOOD
+        self._printer.file(name, result)
+        if isinstance(result, Failure):
+            return FAILED
+        return SKIPPED if (result.skipped if isinstance(result, Done) else result.may_be_cut_off) else GOOD
 
     def _with_cause(self, name: str, failure: Failure) -> Failure:
         """Adds the likely causes of a fault of the input, in parentheses."""
         if not failure.code or not failure.text.startswith("ERROR line "):
             return failure
+        from ._checked import direction_of
         from ._explain import likely
 
-        return Failure(f"{failure.text} ({likely(failure.code, self._choices.direction, name)})", failure.line, failure.code)
+        direction = direction_of(name) if self._found.direction == CHECK else self._found.direction
+        return Failure(f"{failure.text} ({likely(failure.code, direction, name)})", failure.line, failure.code)
+
+    def _one_by_one(self) -> Iterator[int]:
+        for name in self._found.inputs:
+            self._printer.begin(name)
+            yield self._tell(name, self._do(name, lambda text, name=name: self._printer.say(name, text)))  # type: ignore[misc]
+
+    def _answer(self, name: str) -> Tuple[List[str], Result]:
+        texts: List[str] = []
+        return texts, self._do(name, texts.append)
+
+    def _at_once(self) -> Iterator[int]:
+        """Does several files at once. A signal, or a process that dies, lets the others finish the files that they have begun."""
+        from ._workers import Workers
+
+        workers, undone = Workers(int(self._found.jobs), self._answer, self._found.inputs), []
+        _handle_signals(lambda *_: workers.ask_to_end())
+        for name, answer in zip(self._found.inputs, workers.answers()):
+            if answer is None:
+                undone.append(name)
+                continue
+            self._printer.begin(name)
+            for text in answer[0]:
+                self._printer.say(name, text)
+            yield self._tell(name, answer[1])
+        reason = "a process died" if workers.died() else "a signal asked to end"
+        if undone:
+            self._printer.clear()
+            _say(f"rnxcmp-file: ERROR: {reason}, and {len(undone)} files aren't done: {quoted(undone[0])} is the first")
+            yield FAILED
 
     def _do_all(self) -> int:
-        """Does one file after another: the status."""
-        statuses = {self._do(name) for name in self._found.inputs}
+        """Does all files: the status."""
+        statuses = {*(self._at_once() if self._found.jobs and len(self._found.inputs) > 1 else self._one_by_one())}
         self._printer.clear()
         self._printer.summary()
         if FAILED in statuses or self._printer.failed:
@@ -441,14 +560,14 @@ def _end_by(number: int, _: object) -> None:
     os.kill(os.getpid(), number)
 
 
-def _handle_signals() -> None:
-    """Has the signals that ask a run to end remove its temporary files, unless they are ignored."""
+def _handle_signals(handler: Callable[[int, object], None] = _end_by) -> None:
+    """Has a handler called for the signals that ask a run to end, unless they are ignored."""
     import signal
 
     for name in ("HUP", "INT", "QUIT", "TERM", "ALRM", "USR1", "USR2", "XCPU"):
         number = getattr(signal, f"SIG{name}")
         if signal.getsignal(number) != signal.SIG_IGN:
-            signal.signal(number, _end_by)
+            signal.signal(number, handler)
 
 
 def _run_words(words: Sequence[str]) -> int:
