@@ -50,14 +50,18 @@ _CRX2RNX() {
 }
 
 _rnxcmp_file() {
-    local choices='-o --inputs --gzip --no-gzip --verify --verified-to --normal-form --accept-cut -f -s -v --max-output --json -q -h --help'
+    local choices='-o --to --from --new -j --inputs --gzip --no-gzip --verify --verified-to --normal-form --accept-cut -f -s -v --max-output --json -q -h --help'
     COMPREPLY=()
     if [[ $COMP_CWORD -eq 1 ]]; then
-        mapfile -t COMPREPLY < <(compgen -W 'rnx2crx crx2rnx explain -h --help --version' -- "$2")
+        mapfile -t COMPREPLY < <(compgen -W 'rnx2crx crx2rnx check explain -h --help --version' -- "$2")
         return
     fi
     case $3 in
         -e | --date | --max-output) return ;;
+        --to | --from)
+            mapfile -t COMPREPLY < <(compgen -d -- "$2")
+            return
+            ;;
         -o | --inputs | --verified-to)
             mapfile -t COMPREPLY < <(compgen -o plusdirs -f -- "$2")
             return
@@ -66,10 +70,11 @@ _rnxcmp_file() {
     [[ ${COMP_WORDS[1]} == rnx2crx ]] && choices+=' -e --date'
     case ${COMP_WORDS[1]}$2 in
         rnx2crx-* | crx2rnx-*) mapfile -t COMPREPLY < <(compgen -W "$choices" -- "$2") ;;
-        rnx2crx*) _rnxcmp_files '*.@(rnx|RNX|[0-9][0-9][oO])?(.gz|.Z)' "$2" ;;
-        crx2rnx*) _rnxcmp_files '*.@(crx|CRX|[0-9][0-9][dD])?(.gz|.Z)' "$2" ;;
+        rnx2crx*) _rnxcmp_files '*.@(rnx|RNX|[0-9][0-9][oO])?(.gz|.Z|.bz2|.xz|.zip)' "$2" ;;
+        crx2rnx*) _rnxcmp_files '*.@(crx|CRX|[0-9][0-9][dD])?(.gz|.Z|.bz2|.xz|.zip)' "$2" ;;
+        check-*) mapfile -t COMPREPLY < <(compgen -W '-j --json -q --inputs -h --help' -- "$2") ;;
         explain-*) mapfile -t COMPREPLY < <(compgen -W '--json --inputs -h --help' -- "$2") ;;
-        explain*) _rnxcmp_files '*.@(rnx|RNX|crx|CRX|[0-9][0-9][oOdD])?(.gz|.Z)' "$2" ;;
+        check* | explain*) _rnxcmp_files '*.@(rnx|RNX|crx|CRX|[0-9][0-9][oOdD])?(.gz|.Z|.bz2|.xz|.zip)' "$2" ;;
     esac
 }
 

@@ -151,7 +151,7 @@ def twice(top, texts, acl=False):
         work.mkdir()
         inputs = files_on(work, texts, direction, acl)
         for listed, state in (("one", "made"), ("two", "there")):
-            wrong += differs(end(start(work, direction, listed)), 0, told(state))
+            wrong += differs(end(start(work, direction, listed, *(("-j", "4") if direction == "crx2rnx" else ()))), 0, told(state))
         wrong += after(work, texts, direction, inputs, ("one", "two"), 0o600 if acl else None)
     return wrong
 
@@ -210,7 +210,8 @@ def from_a_source_that_is_read_only(texts, folder):
                 for state in ("made", "is there already"):
                     run = place.run(direction, "--verified-to", f"{name} {state}", "-o", promise.output.name, str(top / name))
                     wrong += differs(run, 0, [state, "verified exact"]) + promise.broken(run.stdout)
-            wrong += [f"left: {place.parts()}"] if place.parts() or len(place.names()) != 3 * FILES else []
+            wrong += differs(end(start(top, direction, place.work / "list", "--to", place.work / "out", "-j", "4")), 0, told("made"))
+            wrong += [f"left: {place.parts()}"] if place.parts() or len(place.names()) != 3 * FILES + 2 else []
     return wrong[:6]
 
 

@@ -2,10 +2,14 @@
 are made, the names in `list`, and a script that changes the tool first. Every file of the start that isn't to be replaced or gone stays as it
 is, and no temporary file is left."""
 
+import bz2
 import gzip
+import io
+import lzma
 import os
 import shlex
 import signal
+import zipfile
 from functools import reduce
 
 from place import DATE, GOOD, Place, changed_epoch, differs, marked, padded, state_of, unpacked
@@ -24,6 +28,15 @@ def compressed(text, *more):
     codes = [code for at in range(0, len(text), 247) for code in (*text[at : at + 247], 256)]
     bits = sum(code << 9 * k for k, code in enumerate([*codes, *more]))
     return b"\x1f\x9d\x90" + bits.to_bytes(-(-9 * (len(codes) + len(more)) // 8), "little")
+
+
+def zipped(**files):
+    """A zip with these files."""
+    held = io.BytesIO()
+    with zipfile.ZipFile(held, "w", zipfile.ZIP_DEFLATED) as file:
+        for name, content in files.items():
+            file.writestr(name, content)
+    return held.getvalue()
 
 
 def row(files, words, status=0, out=(), err=(), made=(), listed=None, replaced=(), gone=(), script=""):
@@ -56,7 +69,10 @@ def choices(texts):
 
 REFUSED = (
     ("", "rnx2crx or crx2rnx is missing"), ("pack a.rnx", "neither rnx2crx nor crx2rnx"), ("'pa\nck' a.rnx", r"explain: 'pa'$'\n''ck'"), ("rnx2crx", "the input is missing"), ("rnx2crx ''", "an empty name"),
-    ("rnx2crx a.rnx -o ''", "an empty name"), ("rnx2crx a.rnx -o -", "no file is written to standard output"), ("rnx2crx a.rnx --verified-to -", "no file is written to standard output"),
+    ("rnx2crx a.rnx -o ''", "an empty name"), ("rnx2crx a.rnx -o -", "only crx2rnx -o - writes to standard output"), ("rnx2crx a.rnx --verified-to -", "only crx2rnx -o - writes to standard output"),
+    ("crx2rnx a.crx -o - --verify", "-o - makes no file"), ("rnx2crx -j 2 a.rnx -o c", "goes without -j"), ("rnx2crx -j 0 a.rnx", "from 1 to 256"), ("rnx2crx -j 257 a.rnx", "from 1 to 256"), ("rnx2crx --new -f a.rnx", "--new passes over"),
+    ("rnx2crx --from . a.rnx", "--from belongs to --to"), ("rnx2crx --to out /a.rnx", "--to needs --from FOLDER"), ("rnx2crx --to out ../a.rnx", "--to needs --from FOLDER"), ("rnx2crx --to out --from folder.rnx a.rnx", "a.rnx isn't below"),
+    ("rnx2crx -j 2 a.rnx ./a.rnx", "these have one output: a.rnx and ./a.rnx"), ("check -f a.rnx", "check takes -j, --json, -q and --inputs alone"), ("rnx2crx a.rnx -o b.crx.bz2", "an output is packed by gzip only"),
     ("rnx2crx a.rnx b.rnx -o c", "-o names one output"), ("crx2rnx a.rnx -e 2", "belong to rnx2crx"), ("crx2rnx a.rnx --date x", "belong to rnx2crx"), ("rnx2crx a.rnx -e 0", "from 1 to 1000000"),
     ("rnx2crx a.rnx -e 1000001", "from 1 to 1000000"), ("rnx2crx a.rnx -e x", "from 1"), (f"rnx2crx a.rnx -e {'9' * 5000}", "from 1 to 1000000"), (f"rnx2crx a.rnx --date {'x' * 21}", "bad date"),
     ("rnx2crx a.rnx --date \u00e9", "bad date"), ("rnx2crx a.rnx --gzip --no-gzip", "not allowed"), ("rnx2crx a.rnx --ver", "unrecognized arguments: --ver;"),
@@ -66,11 +82,11 @@ REFUSED = (
     ("rnx2crx . -o b", "this is a folder"), ("rnx2crx a.rnx -o b.24o.gz", "named as an input"), ("crx2rnx a.crx -o folder.rnx/.CRX", "named as an input"), ("rnx2crx pipe.rnx", "no regular file"),
     ("rnx2crx none.rnx", "none.rnx: ERROR: cannot read this file: No such file"), ("rnx2crx a.rnx -o no/b", "cannot write beside no/b: No such file"), ("rnx2crx a.rnx -o a.rnx/b", "cannot look at a.rnx/b: Not a directory"),
     ("rnx2crx a.rnx -o pipe", "the output is no regular file: pipe"), ("rnx2crx -f a.rnx -o pipe", "the output is no regular file: pipe"), ("rnx2crx a.rnx -o dangling", "a link to nothing"), ("rnx2crx empty.rnx", "ERROR line 1 code 3"),
-    ("rnx2crx a.bz2.rnx", "bzip2"), ("rnx2crx round", "no output name"), ("rnx2crx a.rnx -o round", "cannot look at round: Too many levels of symbolic links"), ("rnx2crx --inputs half", "doesn't end in a NUL: half"),
+    ("rnx2crx a.bz2.rnx", "the packed text is "), ("rnx2crx zstd.rnx", "zstd"), ("rnx2crx round", "no output name"), ("rnx2crx a.rnx -o round", "cannot look at round: Too many levels of symbolic links"), ("rnx2crx --inputs half", "doesn't end in a NUL: half"),
     ("rnx2crx --inputs none", "cannot read the list of inputs none: No such file"), ("rnx2crx --inputs .", "cannot read the list of inputs .: Is a directory"), ("explain -f a.rnx", "explain takes --json and --inputs alone"),
 )  # fmt: skip
 AT_START = {
-    **A, "empty.rnx": b"", "a.bz2.rnx": b"BZh91AY", "folder.rnx": FOLDER, "pipe.rnx": PIPE, "pipe": PIPE, "dangling": "nothing", "round": "round", "half": b"a b.rnx\0c\nd.rnx",
+    **A, "empty.rnx": b"", "a.bz2.rnx": b"BZh91AY", "zstd.rnx": b"\x28\xb5\x2f\xfd", "folder.rnx": FOLDER, "pipe.rnx": PIPE, "pipe": PIPE, "dangling": "nothing", "round": "round", "half": b"a b.rnx\0c\nd.rnx",
 }  # fmt: skip
 
 
@@ -168,6 +184,32 @@ def packs(texts):
     yield row({"a.crx": texts.plain_compact, "a.rnx.Z": squeezed}, "crx2rnx --verify a.crx -o a.rnx.Z", 0, "a.rnx.Z is there already, verified exact")
     for content in (squeezed[: len(squeezed) // 2], compressed(GOOD, 500, 500)):
         yield row({"a.rnx.Z": content}, "rnx2crx --verify a.rnx.Z", 1, (), "a.rnx.Z: ERROR")
+
+
+def archives(texts):
+    """check, several files at once, a folder for the outputs, --new, standard output, and other packings."""
+    bad = {**A, **P, **BAD, "c.rnx": GOOD[:-1], "a.crx": texts.plain_compact, "z.crx.gz": gzip.compress(texts.plain_compact[:-400])}
+    for words in ("", "-j 3"):
+        said = ["bad.rnx: ERROR line 1 code 3", "c.rnx: WARNING: the last line has no line end", "z.crx.gz: ERROR line"]
+        yield row(bad, f"check {words} {' '.join(bad)}", 1, "6 files: 4 valid, 1 of them may be cut off, 2 errors\n", said)
+        yield row(bad, f"check {words} -q a.rnx c.rnx", 2, (), said[1])
+        yield row(bad, f"check {words} -q a.rnx p.rnx a.crx")
+        json = ['"input": "a.crx", "state": "good", ', '"compact": true, "format": "3.05", "epochs": 20,', '"input": "bad.rnx", "state": "error", ', '"line": 1, "code": 3']
+        yield row(bad, f"check {words} --json a.crx bad.rnx", 1, json, said[0])
+    deep = {"in": FOLDER, "in/d": FOLDER, "in/d/a.rnx": GOOD, "in/b.rnx": marked(GOOD, 2), "in/s.rnx": STRANGE, "in/bad.rnx": b"x\n"}
+    made = ("out", "out/d", "out/d/a.crx.gz", "out/b.crx.gz", "list")
+    for words in ("", "-j 2", "-j"):
+        said = ["in/s.rnx: ERROR line", "in/bad.rnx: ERROR line 1 code 3"]
+        yield row(deep, f"rnx2crx --gzip {words} --to out --from in --verified-to list in/d/a.rnx in/b.rnx in/s.rnx in/bad.rnx", 1, "4 files: 2 made", said, made, ["in/d/a.rnx", "in/b.rnx"])
+        there = {**deep, "in/d/a.crx": b"anything"}
+        yield row(there, f"rnx2crx --new {words} --verified-to list in/d/a.rnx in/b.rnx", 0, ["in/d/a.crx is there already, passed over", "0 there already, 1 passed over, 0 errors"], (), ("in/b.crx", "list"), ["in/b.rnx"])
+    yield row(deep, "rnx2crx --to out/in in/d/a.rnx", 0, "made out/in/in/d/a.crx", (), ("out", "out/in", "out/in/in", "out/in/in/d", "out/in/in/d/a.crx"))
+    yield row({"a.crx": gzip.compress(texts.plain_compact)}, "crx2rnx a.crx -o -", 0, GOOD.decode())
+    for ending, packed in (("bz2", bz2.compress(GOOD[:900]) + bz2.compress(GOOD[900:])), ("xz", lzma.compress(GOOD)), ("zip", zipped(a=GOOD))):
+        yield row({f"a.rnx.{ending}": packed}, f"rnx2crx --verify a.rnx.{ending}", 0, "made a.crx.gz, verified exact", (), ("a.crx.gz",))
+        for cut in (packed[:-30], packed[:400], packed[:300] + b"abcd" + packed[304:]):
+            yield row({f"a.rnx.{ending}": cut}, f"rnx2crx a.rnx.{ending}", 1, (), f"a.rnx.{ending}: ERROR: the packed text is ")
+    yield row({"a.rnx.zip": zipped(a=GOOD, b=GOOD)}, "rnx2crx a.rnx.zip", 1, (), "a zip with 2 files, not one")
 
 
 def no_epoch(texts):
@@ -316,7 +358,7 @@ def run_row(files, words, status, out, err, made, listed, replaced, gone, script
 
 def checks(texts):
     for group in (
-        names_of_outputs, choices, refusals, lists, cut_files, ways_back, texts_that_end_elsewhere, links, packs, no_epoch, inputs_that_change, outputs_that_come, bytes_that_change_on_the_disk, signals,
+        names_of_outputs, choices, refusals, lists, cut_files, ways_back, texts_that_end_elsewhere, links, packs, archives, no_epoch, inputs_that_change, outputs_that_come, bytes_that_change_on_the_disk, signals,
         lists_of_changed_files, disks,
     ):  # fmt: skip
         yield group.__name__.replace("_", " "), lambda group=group: [line for one in group(texts) for line in run_row(*one)]
