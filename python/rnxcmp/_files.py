@@ -1,4 +1,4 @@
-"""The content of files, gzipped or not, as users of the package ``hatanaka`` know the calls."""
+"""The content of files, packed or not, as users of the package ``hatanaka`` know the calls."""
 
 from __future__ import annotations
 
@@ -81,7 +81,7 @@ def _warn_if_cut(data: bytes) -> None:
 
 
 def decompress(content: Content, *, skip_strange_epochs: bool = False, max_length: Optional[int] = USUAL) -> bytes:
-    """The content of a file, or of bytes, as RINEX: out of gzip or ``.Z``, and expanded where it is Compact RINEX 3.0.
+    """The content of a file, or of bytes, as RINEX: unpacked, and expanded if it is Compact RINEX 3.0.
 
     What is neither comes back as it is. Other compressions, and Compact RINEX 1.0, raise :class:`UnsupportedError`.
 

@@ -86,8 +86,8 @@ def first_line(start, kind):
 # as .rnx
 OF_RINEX = (
     Kind("gzip in gzip", lambda text: gzip.compress(gzip.compress(text, mtime=0), mtime=0), 1, 3, ("likely: this is gzip",), (61, 80)),
-    Kind("bzip2", lambda text: b"BZh91AY&SY" + text[:100], 0, None, ("refused: compression not supported: bzip2",)),
-    Kind("zip", lambda text: b"PK\x03\x04" + text[:100], 0, None, ("refused: compression not supported: zip",)),
+    Kind("a damaged bzip2", lambda text: b"BZh91AY&SY" + text[:100], 0, None, ("refused: the packed text is damaged",)),
+    Kind("zstd", lambda text: b"\x28\xb5\x2f\xfd" + text[:100], 0, None, ("refused: compression not supported: zstd",)),
     Kind("Compact RINEX", lambda text: COMPACT + text, 1, 3, ("likely: this is Compact RINEX", "to do: expand it"), (61, 80)),
     Kind("a byte order mark", lambda text: b"\xef\xbb\xbf" + text, 1, 3, ("likely: a byte order mark is before the text",), (61, 80)),
     Kind("UTF-16", lambda text: text.decode("ascii").encode("utf-16"), 1, 3, ("likely: this is UTF-16",), (61, 80)),

@@ -446,7 +446,7 @@ def check_faults_of_opened(compact, path):
 
 
 def check_refusals(data, compact):
-    for content, name in ((b"BZh9", "bzip2"), (b"PK\x03\x04", "zip"), (b"1.0" + compact[3:], "RINEX 2")):
+    for content, name in ((b"\x28\xb5\x2f\xfd", "zstd"), (b"1.0" + compact[3:], "RINEX 2")):
         fault = raised(rnxcmp.UnsupportedError, lambda: rnxcmp.decompress(content))
         expect("a refusal's name", name in f"{fault}", True)
     expect("RINEX 2", "RINEX 2.11" in f"{raised(rnxcmp.UnsupportedError, lambda: rnxcmp.compress(b'     2.11' + data[9:]))}", True)
