@@ -8,7 +8,7 @@ from pathlib import Path
 sys.path.insert(0, str(Path(__file__).parent))
 from place import lacking, outcomes_of  # noqa: E402
 
-MODULES = ("matrix", "rows", "options", "promises", "faults", "signals")
+MODULES = ("matrix", "table", "options", "promises", "faults", "signals")
 AT_ONCE = 3  # modules that are tried side by side, since most of the time is spent waiting
 
 

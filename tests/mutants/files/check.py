@@ -18,7 +18,7 @@ import faults  # noqa: E402
 import matrix  # noqa: E402
 import options  # noqa: E402
 import promises  # noqa: E402
-import rows  # noqa: E402
+import table  # noqa: E402
 import signals  # noqa: E402
 from place import Texts  # noqa: E402
 
@@ -35,7 +35,7 @@ ABOUT = {  # words in the names of the checks that are about a file
 
 def main():
     texts, late = Texts(PROGRAM), ""
-    checks = [check for module in (rows, promises, options, matrix, faults, signals) for check in module.checks(texts)]
+    checks = [check for module in (table, promises, options, matrix, faults, signals) for check in module.checks(texts)]
     for name, check in sorted(checks, key=lambda check: not any(word in check[0] for word in ABOUT.get(FILE.name, ()))):
         try:
             wrong = check()
