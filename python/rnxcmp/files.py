@@ -510,6 +510,7 @@ class Run:
                 self._printer.say(name, text)
             yield self._tell(name, answer[1])
         reason = "a process died" if workers.died() else "a signal asked to end"
+        _handle_signals()
         if undone:
             self._printer.clear()
             _say(f"rnxcmp-file: ERROR: {reason}, and {len(undone)} files aren't done: {quoted(undone[0])} is the first")
