@@ -25,10 +25,10 @@ from place import Texts  # noqa: E402
 NOT_KNOWN = 3  # the status where a check didn't end in time, and no other has seen anything
 ABOUT = {  # words in the names of the checks that are about a file
     "_parts.py": ("order", "modes", "access", "disks", "outputs that", "signals"),
-    "_whole.py": ("ways back", "cut files", "lists of", "inputs that", "bytes that", "links", "no epoch", "order", "refusals"),
+    "_whole.py": ("ways back", "cut files", "lists of", "inputs that", "bytes that", "links", "no epoch", "order", "refusals", "archives"),
     "_names.py": ("names",),
     "_on_disk.py": ("from python",),
-    "_packed.py": ("packs",),
+    "_packed.py": ("packs", "archives"),
     "files.py": ("lists", "signals", "choices", "cut files", "lines", "refusals"),
 }
 
