@@ -399,7 +399,7 @@ def check_opened(data, compact, folder):
     most = tracemalloc.get_traced_memory()[1]
     tracemalloc.stop()
     expect("a long file", (length, most < 3_000_000), (len(long), True))
-    for content, error in ((b"1.0" + compact[3:], rnxcmp.UnsupportedError), (b"BZh9", rnxcmp.UnsupportedError), (compact[:85] + b"x\n", rnxcmp.RnxcmpError)):
+    for content, error in ((b"1.0" + compact[3:], rnxcmp.UnsupportedError), (b"\x28\xb5\x2f\xfd", rnxcmp.UnsupportedError), (b"BZh9", rnxcmp.RnxcmpError), (compact[:85] + b"x\n", rnxcmp.RnxcmpError)):
         path.write_bytes(content)
         raised(error, lambda: rnxcmp.open(path))
     check_faults_of_opened(compact, path)
