@@ -11,8 +11,7 @@ import sys
 import tempfile
 from pathlib import Path
 
-sys.path[:0] = [str(Path(__file__).parent), str(Path(__file__).parents[1])]
-import prove  # noqa: E402
+sys.path.insert(0, str(Path(__file__).parent))
 from empty_root import check_archive_in_empty_root, check_in_empty_root  # noqa: E402
 from found import check_found, check_lintian, check_sums, check_wheel  # noqa: E402
 from names import check_names, check_quoted  # noqa: E402
@@ -156,9 +155,7 @@ def check_unpacked(prefix, doc):
     wrong += check_tool(prefix)
     parts = json.loads((prefix / "share/doc/rnxcmp/parts.spdx.json").read_text())
     found = {part["name"]: part["versionInfo"] for part in parts["packages"]}
-    wrong += [] if found.get("rnxcmp") == VERSION and found.get("glibc") and found.get("rattle") == prove.version() else [f"parts {found}"]
-    notices = next(path for name in ("NOTICES", "copyright") if (path := prefix / "share/doc/rnxcmp" / name).exists())
-    return wrong + ([] if re.search(rf"^rattle +{prove.version()}  ", notices.read_text(), re.M) else [f"{notices.name} doesn't name the kit"])
+    return wrong + ([] if found.get("rnxcmp") == VERSION and found.get("glibc") else [f"parts {found}"])
 
 
 def check_archive(made_in, folder):

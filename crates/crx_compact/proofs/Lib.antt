@@ -18,6 +18,7 @@ pub mod Identifiers
 pub mod Marks
 pub mod Naming
 mod NamedAgain
+mod Marked
 pub mod Results
 pub mod ShownEpochs
 pub mod ShownRows
@@ -30,6 +31,7 @@ mod Justified
 pub mod Lists
 pub mod AlikeFrom
 pub mod PrintedBlocks
+mod ReadingRooms
 mod SatelliteLines
 pub mod Resizing
 pub mod CellsFor

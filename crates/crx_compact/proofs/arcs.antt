@@ -5,3 +5,4 @@ pub mod Running
 pub mod Stepping
 pub mod Bounds
 pub mod Arcs
+pub mod Parts

@@ -14,7 +14,8 @@ use Rattle.crx_rinex.specs.declared.rows_so_far.RowsSoFar.{RowsSoFar}
 abbrev pub satellite_with : SatelliteHistoryInside → SatelliteHistoryInside → SatelliteHistoryInside
 satellite_with one other = record one {
   indicators = other.indicators;
-  arcs = other.arcs;
+  near = other.near;
+  far = other.far;
   count = other.count;
 }
 

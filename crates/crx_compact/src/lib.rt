@@ -12,6 +12,7 @@ pub mod encoder;
 mod ghost_tail;
 mod history;
 pub mod laws;
+mod refusals;
 pub mod same;
 mod satellite;
 mod satellites;

@@ -2,6 +2,7 @@
 pub mod Following
 pub mod Lines
 pub mod MoreLines
+pub mod Collecting
 pub mod Rinex
 pub mod Compaction
 pub mod Expansion
@@ -12,5 +13,7 @@ pub mod CheckedOn
 pub mod Lawful
 pub mod CheckLawful
 pub mod CheckGoes
-pub mod CutOff
+pub mod Memory
+pub mod MemoryOfCompactText
+pub mod MemoryOfRinex
 pub mod DirectionSteps

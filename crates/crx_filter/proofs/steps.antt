@@ -4,8 +4,10 @@ pub mod CompactionSteps
 pub mod RowSteps
 pub mod Together
 pub mod EngineFaults
-pub mod ExpansionKnows
+pub mod Enough
 pub mod Given
+pub mod HeldRows
+pub mod ExpansionKnows
 pub mod StepCounts
 pub mod CheckerSteps
 pub mod CheckerEnds

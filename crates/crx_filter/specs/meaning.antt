@@ -7,6 +7,7 @@ pub mod Compacted
 pub mod Expanded
 pub mod Standard
 pub mod Damage
+pub mod Memory
 pub mod Directions
 pub mod WayBack
 pub mod Lossless
@@ -16,6 +17,5 @@ pub mod WrittenStandard
 pub mod Canonical
 pub mod Promises
 pub mod Stretches
-pub mod Fate
 pub mod Accounts
 pub mod ByResults

@@ -7,12 +7,11 @@ ghost use Rattle.indexmap.specs.IndexMap.{spare};
 
 use crate::columns::{is_labelled, number};
 use crate::labels::TYPES_LABEL;
+use crx_base::Fault;
 use crx_base::limits::TYPES_LIMIT;
-use crx_base::memory::reserve_entries;
-use crx_base::{Fault, Refused};
 use crx_text::columns::character;
 use indexmap::IndexMap;
-use std::alloc::Global;
+use std::alloc::{AllocError, Global};
 use std::marker::Model;
 
 /// How many bytes there are that a letter may be.
@@ -85,7 +84,9 @@ impl Types {
             }
             _ => return Err(Fault::BadTypesLine),
         };
-        put(&mut self.counts, letter, count)?;
+        if put(&mut self.counts, letter, count).is_err() {
+            return Err(Fault::OutOfMemory);
+        }
         self.by_letter[letter as usize] = count as u16;
         Ok(())
     }
@@ -128,7 +129,7 @@ impl Types {
 /// Replaces the count of a system, or puts it after those of the others. Where no system has types yet, room
 /// is asked for, for all systems; later no more is needed.
 #[tactic(auto, using(crate::proofs::Counts::put_counts))]
-fn put(counts: &mut IndexMap<u8, usize>, letter: u8, count: usize) -> Result<(), Refused>
+fn put(counts: &mut IndexMap<u8, usize>, letter: u8, count: usize) -> Result<(), AllocError>
     requires counts { AreCounts counts.old.entries }
     requires system { is_system letter ≡ true }
     requires room { HasSystemRoom counts.old.entries (spare counts.old) }
@@ -141,9 +142,9 @@ fn put(counts: &mut IndexMap<u8, usize>, letter: u8, count: usize) -> Result<(),
         return Ok(());
     }
     if counts.is_empty() {
-        reserve_entries(counts, SYSTEMS)?;
+        counts.reserve(SYSTEMS)?;
     }
-    counts.insert(letter, count).unwrap();
+    counts.insert(letter, count)?;
     Ok(())
 }
 

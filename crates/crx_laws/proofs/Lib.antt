@@ -9,6 +9,3 @@ pub mod HoursMakeADay
 pub mod Wild
 pub mod Theorems
 pub mod Opened
-pub mod EpochLines
-pub mod Checks
-pub mod Cuts

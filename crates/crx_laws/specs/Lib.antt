@@ -9,5 +9,4 @@ pub mod SmallStretches
 pub mod Blocks
 pub mod Sizes
 pub mod Again
-pub mod Cuts
 pub mod WildText

@@ -20,6 +20,8 @@ mod failures;
 #[cfg(test)]
 mod faults;
 #[cfg(test)]
+mod interruptions;
+#[cfg(test)]
 mod line_ends;
 #[cfg(test)]
 mod lines;
@@ -31,6 +33,8 @@ mod numbers;
 mod options;
 #[cfg(test)]
 mod owned;
+#[cfg(test)]
+mod rinex;
 #[cfg(test)]
 mod steps;
 #[cfg(test)]
