@@ -5,6 +5,7 @@ are run over the package in COPY, up to the first that fails; first those that a
 import os
 import subprocess
 import sys
+from contextlib import redirect_stdout
 from pathlib import Path
 
 PROGRAM, COPY, MADE, FILE = (Path(word) for word in sys.argv[1:5])
@@ -38,7 +39,8 @@ def main():
     checks = [check for module in (table, promises, options, matrix, faults, signals) for check in module.checks(texts)]
     for name, check in sorted(checks, key=lambda check: not any(word in check[0] for word in ABOUT.get(FILE.name, ()))):
         try:
-            wrong = check()
+            with redirect_stdout(sys.stderr):  # a check may print how often it tried
+                wrong = check()
         except subprocess.TimeoutExpired as error:  # which may be the machine's fault
             late, wrong = f"{name}: {error}", []
         except Exception as error:  # what can't go on has seen it too
