@@ -2,7 +2,7 @@
 #             and shows what was written
 # make test   runs the gate: proofs (from nothing, but for what a gate has passed on this machine), wrong bodies, the program's stored
 #             run, and tests; then the built program over whole texts, as a process, by the recipes of docs/ARCHIVES.md, and by the
-#             commands in print
+#             commands in print; with STRICT=1 in the environment it fails if a test was left out
 # make quick  proves what changed of the program, and of other crates that were proved here, and runs the tests of the built program:
 #             without the tests in Rattle and without wrong bodies (what the prover prints goes into out/logs)
 # make proofs proves all crates, but for their tests in Rattle
@@ -16,9 +16,8 @@
 # make explain-test explains 20,000 damaged files and 2,000 cut ones, and opens 2,000 with CRs (tests/explain)
 # make conformance PEER='RNX2CRX -;CRX2RNX -'
 #             runs the suite for other programs (conformance) over this one and over the two commands; out/conformance has the report
-# make laws-test asks sentences of README.md of what the program that make built does: on 100,000 flips of a bit and 100,000 damages of random
-#             files, on 20,000 files, on 2,000 runs that signals end, on 200,000 damaged texts, and on 100,000
-#             of any writer (tests/laws; some forty minutes)
+# make laws-test asks the sentences of README.md and docs/GUARANTEES.md of the program that make built: on 300,000 damaged texts, 5,000 files and
+#             texts made of them, 2,000 runs that signals end, and 100,000 texts of any writer (tests/laws; about ten minutes on 4 cores)
 # make cluster-test runs the recipes for several machines over 200 files, with Slurm and sshd on this one (tests/cluster; 11 minutes)
 # make debian11-test tries what make dist made in a root of Debian 11, in out/debian11 (tests/debian11)
 # make docs   writes what one reads to know what is claimed, from the sources, into out/docs (docs/READING.md): DEFINITIONS, with the
@@ -67,8 +66,8 @@ include packaging/machines.mk
 ARCHIVE := crates/rnxcmp_c/out/librnxcmp_c.a
 # A proof at a time for each core, and 2 GB of memory for each.
 JOBS := $(shell awk -v jobs="$$(nproc)" '/^MemTotal/ { n = int($$2 / 2e6); print n < 1 ? 1 : n < jobs ? n : jobs }' /proc/meminfo)
-# What crates.mk makes, all at once; where a proof fails, its errors are the last lines that are printed.
-made = @rm -rf out/failed; $(MAKE) --no-print-directory $(if $(findstring jobserver,$(MAKEFLAGS)),,-j$(JOBS)) $(1) || tests/prove.py failures
+# What crates.mk makes, all at once; if a proof fails, its errors are the last lines that are printed.
+made = @+tests/prove.py made $(MAKE) --no-print-directory $(if $(findstring jobserver,$(MAKEFLAGS)),,-j$(JOBS)) $(1)
 
 .PHONY: all proofs test quick memory-test memory-random-test instruction-counts archive-test files-test explain-test conformance laws-test cluster-test debian11-test docs numbers install dist
 
@@ -99,6 +98,7 @@ quick:
 
 memory-test:
 	tests/memory/run.py $(PROGRAM)
+	tests/memory/places.py $(PROGRAM)
 
 memory-random-test:
 	tests/memory/at_random.py $(PROGRAM)
@@ -121,7 +121,6 @@ conformance:
 laws-test:
 	tests/laws/damage.py $(PROGRAM)
 	tests/laws/sentences.py $(PROGRAM)
-	tests/laws/standard.py $(PROGRAM)
 	tests/laws/any_writer.py $(PROGRAM)
 
 cluster-test:
@@ -173,17 +172,21 @@ MUTANTS := $(dir $(wildcard tests/mutants/*/check.py))
 mutants-test:
 	python3 tests/mutants/run.py $(PROGRAM) $(MUTANTS)
 
-python: library
+python:
+	@packaging/compilers.sh x86-64-v2
+	@$(MAKE) --no-print-directory library
 	$(call made,machine-x86-64-v2)
 	rm -rf out/python
 	python3 python/build_wheel.py out/library out/python --program out/machines/x86-64-v2/built/rnxcmp
 
 dist:
+	@packaging/compilers.sh $(TARGETS)
 	$(call made,$(TARGETS:%=machine-%))
 	KEY='$(KEY)' packaging/dist.sh out/dist out/machines $(TARGETS)
 	@cat out/dist/SHA256SUMS
 
 machines-test:
+	@packaging/compilers.sh $(MACHINES) musl
 	$(call made,$(PROGRAM) $(MACHINES:%=machine-%))
 	tests/machines/run.py $(PROGRAM) --files $(FILES)
 

@@ -126,17 +126,19 @@ def rinex_lines(lines: List[bytes], types: Dict[bytes, int]) -> Iterator[Line]:
             at += count
 
 
+def normal_line(what: str, line: bytes, count: int) -> bytes:
+    """A line as it comes back: numbers in one form, and no blanks at the end of an epoch's lines."""
+    if what == "epoch":
+        return (line[:41].ljust(41) + printed(number_in(line[41:56].ljust(15), 12), 12, 15)).rstrip(b" ")
+    if what == "satellite":
+        cells = [line[3 + 16 * k : 19 + 16 * k].ljust(16) for k in range(count)]
+        return (line[:3] + b"".join(printed(number_in(cell[:14], 3), 3, 14) + cell[14:] for cell in cells)).rstrip(b" ")
+    return line
+
+
 def normal_form(data: bytes) -> bytes:
-    """A RINEX text as it comes back: numbers in one form, and no blanks at the end of an epoch's lines."""
-    made = []
-    for what, line, count in rinex_lines(contents(data), {}):
-        if what == "epoch":
-            line = (line[:41].ljust(41) + printed(number_in(line[41:56].ljust(15), 12), 12, 15)).rstrip(b" ")
-        elif what == "satellite":
-            cells = [line[3 + 16 * k : 19 + 16 * k].ljust(16) for k in range(count)]
-            line = (line[:3] + b"".join(printed(number_in(cell[:14], 3), 3, 14) + cell[14:] for cell in cells)).rstrip(b" ")
-        made.append(line + b"\n")
-    return b"".join(made)
+    """A RINEX text as it comes back."""
+    return b"".join(normal_line(*line) + b"\n" for line in rinex_lines(contents(data), {}))
 
 
 # ---- Compact RINEX 3.0, as it is read

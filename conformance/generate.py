@@ -22,7 +22,8 @@ from math import comb
 SYSTEMS = "GREJCIS"
 OBSERVATION_WIDTH, CLOCK_WIDTH = 14, 15
 MARKS = "123456789AS"
-COPIED = (b"", b"some words", b"> no event here", b"\x80\xff\t", b"&", b"G    9" + b" " * 54 + b"COMMENT", b"ends in CR\r", b"ends in two\r\r")
+LIKE_EPOCHS = tuple(b"> 2024 01 01 00 00  0.0000000  " + end for end in (b"0  2", b"4  1", b"6999"))
+COPIED = (b"", b"some words", b"> no event here", *LIKE_EPOCHS, b"\x80\xff\t", b"&", b"G    9" + b" " * 54 + b"COMMENT", b"ends in CR\r", b"ends in two\r\r")
 
 
 @dataclass

@@ -55,7 +55,10 @@ CHAPTERS = (
         "Any writer, and no other",
         "Which texts are compact text of a file, whoever wrote them: by what stands in their lines, and by no reader. These are expanded to that"
         " file, and no other text is accepted.",
-        (("crx_filter::expand", "any_writer no_other"),),
+        (
+            ("crx_filter::expand", "any_writer no_other"),
+            *((f"crx_laws::{law}", "*") for law in ("any_text_is_read", "no_other_text_is_read", "a_text_is_of_one_file")),
+        ),
         RESULTS + FILTERS + DEVICES,
         own=True,
     ),
@@ -75,10 +78,15 @@ CHAPTERS = (
     Chapter(
         "Laws of the results",
         "What follows of `compacted` and `expanded` alone: whatever text is expanded, standard files come of it; files with the same normal"
-        " form have the same compact text; no line is lost in silence, and blocks are short; again changes nothing; hours make a day; blocks of compact text"
-        " stand alone; and how much output a byte of it can make.",
+        " form have the same compact text; no line is lost in silence; a check tells of a compaction; a cut is noticed; blocks are short;"
+        " again changes nothing; hours make a day; blocks of compact text stand alone; and how much output a byte of it can make.",
         (
+            ("crx_laws::what_passes_comes_back", "*"),
+            ("crx_laws::what_was_compacted_comes_back", "*"),
             ("crx_laws::nothing_is_lost_in_silence", "*"),
+            ("crx_laws::the_lines_of_an_epoch", "*"),
+            ("crx_laws::a_check_tells_of_a_compaction", "*"),
+            ("crx_laws::a_cut_is_noticed", "*"),
             ("crx_laws::blocks_are_short", "*"),
             ("crx_laws::compacting_again_changes_nothing", "*"),
             ("crx_laws::expanding_again_changes_nothing", "*"),
@@ -94,9 +102,33 @@ CHAPTERS = (
     ),
     Chapter("Devices", "What readers and writers are.", tuple((f"crx_lines::{name}", "") for name in DEVICES)),
     Chapter(
+        "In time",
+        "How a run goes on from line to line: before a step reads more it has written the output and the warnings of all lines so far.",
+        (("crx_runs::Run::step", "stepped goes handed_on"), ("crx_lines::reads_may_wait", "*"), ("rnxcmp::run_streams", "waits")),
+        own=True,
+    ),
+    Chapter(
         "Arguments",
-        "What the arguments of the program ask for, what is done, and what is shown where nothing is run.",
-        (("rnxcmp::run_streams", "*"), ("crx_program::run", "*")),
+        "Which run, help or refusal the arguments of the program mean, what the program then does, and which text it shows if it runs no filter.",
+        (
+            ("rnxcmp::run_streams", "*"),
+            ("crx_program::run", "*"),
+            ("crx_command::plan", "value"),
+            ("crx_command::default_date", "date"),
+            ("crx_program::Opener::open_to_read", "calls opened"),
+            ("crx_program::Whole::close", "*"),
+        ),
+        own=True,
+    ),
+    Chapter(
+        "What a run holds",
+        "Which parts hold anything between two lines, and how large they can be.",
+        (
+            *((f"crx_laws::bounded_{it}", "*") for it in ("compaction", "expansion", "lines")),
+            *((f"crx_{law}", "*") for law in ("lines::line_reader_holds", "rinex::epochs_hold", "compact::columns_hold")),
+            *((f"crx_filter::{law}", "*") for law in ("readers_hold", "engines_hold")),
+        ),
+        own=True,
     ),
     Chapter(
         "The library for C",

@@ -52,8 +52,13 @@ def end_of(lines, start, kind):
     if kind == ".rt":
         last = r"\}" if lines[start].endswith("{") else r".*;$"
         return next(at for at in range(start, len(lines)) if re.match(last, lines[at])) + 1
+    head = HEADS[kind].match(lines[start])
+    equation = (head[1] or head[2]) + " "
     at = start + 1
-    while at < len(lines) and not HEADS[kind].match(lines[at]) and not re.match(r"--|use |pub use |pub mod |module ", lines[at]):
+    while at < len(lines) and not HEADS[kind].match(lines[at]) and not re.match(r"use |pub use |pub mod |module ", lines[at]):
+        # Comments between its equations belong to it.
+        if lines[at].startswith("--") and not next((it for it in lines[at:] if not it.startswith("--")), "").startswith(equation):
+            break
         at += 1
     return at
 

@@ -29,7 +29,7 @@ HELP = {"rnx2crx": "help_of_a_compaction", "crx2rnx": "help_of_an_expansion", "c
 STATED = {
     "README.md": (
         "In the library C_LINES lines of C", "the DEFINITIONS definitions of what RINEX", "on FIRST_DEFINITIONS definitions",
-        "takes some USUAL_MEMORY MB of memory", "at most INPUT_LIMIT bytes",
+        "takes some USUAL_MEMORY MB of memory", "at most INPUT_LIMIT bytes", "over which HAND_PROOFS proofs are written",
     ),
     "docs/FORMATS.md": (
         "content of more than LINE_LIMIT bytes is fault 1", "| a content of more than LINE_LIMIT bytes |", "input of more than INPUT_LIMIT bytes",
@@ -39,7 +39,7 @@ STATED = {
     "docs/DECISIONS.md": ("`-e` is from 1 to EVERY.", "less than READY_LIMIT bytes, and then", "bytes?** Those are READY_LIMIT bytes"),
     "docs/ARCHIVES.md": ("plants TOOL_BUGS bugs in the tool",),
     "docs/GUARANTEES.md": (
-        "has the FIRST_DEFINITIONS definitions", "stops after INPUT_LIMIT bytes", "has at most INPUT_LIMIT",
+        "stops after INPUT_LIMIT bytes", "has at most INPUT_LIMIT",
         "Some USUAL_MEMORY MB over usual files, and some GREATEST_MEMORY MB at the limits", "at most PRINTED_ENDED times as many bytes",
         "row of PRINTED_ENDED bytes",
     ),
@@ -92,8 +92,8 @@ def limits():
 def numbers():
     """The limits by their names, and what follows from them: the longest line of an epoch with its LF, and the most MB of a text that a handle
     keeps. NO_FAULT is the first number that no fault has, EVERY the greatest N of -e. Then come how many definitions one has to believe, and how
-    many for the first promise; the lines of C of the library; the bugs that tests plant; and the greatest memory of the program over a usual
-    file and at the limits, in MB, by the table of bench/README.md."""
+    many for the first promise; the proofs that are written by hand; the lines of C of the library; the bugs that tests plant; and the greatest
+    memory of the program over a usual file and at the limits, in MB, by the table of bench/README.md."""
     found = limits()
     command = (TOP / "crates/crx_command/src/command.rt").read_text(encoding="utf-8")
     waiting = found["READY_LIMIT"] + 2 * (found["SATELLITES_LIMIT"] + 2) * (found["LINE_LIMIT"] + 1)
@@ -110,6 +110,7 @@ def numbers():
         "EVERY": int(re.search(r"range\(1\.\.=([\d_]+)\)", command)[1]),
         "DEFINITIONS": len(trusted),
         "FIRST_DEFINITIONS": sum(map(is_definition, book.contents[0].items)),
+        "HAND_PROOFS": sum(1 for _ in (TOP / "crates").glob("*/proofs/**/Proof.antt")),
         "C_LINES": sum(len(path.read_text(encoding="utf-8").splitlines()) for path in (TOP / "library").glob("*.c")),
         "TOOL_BUGS": sum(1 for _ in (TOP / "tests/mutants/files").rglob("*.edit")),
         "LIBRARY_BUGS": sum(1 for _ in (TOP / "tests/mutants/library").rglob("*.edit")),

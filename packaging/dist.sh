@@ -19,7 +19,7 @@ for machine; do
     printf 'nothing was made for %s in %s: make dist TARGETS=%s\n' "$name" "$folder" "$name" >&2
     exit 1
 done
-for tool in dpkg-deb python3 gzip tar sha256sum; do
+for tool in rt dpkg-deb python3 gzip tar sha256sum; do
     command -v "$tool" > /dev/null || { echo "there is no $tool, which a release needs" >&2; exit 1; }
 done
 if [ -e "$top/.git" ]; then
@@ -73,9 +73,10 @@ windows() {
         install -m 755 "$built/rnxcmp.exe" "$root/bin/$name.exe"
     done
     "$top/packaging/install_library.sh" "$root" "$built/library"
-    for name in NOTICES LICENSE-MIT LICENSE-APACHE CHANGELOG.md docs/USE.md docs/GUARANTEES.md docs/FORMATS.md; do
+    for name in LICENSE-MIT LICENSE-APACHE CHANGELOG.md docs/USE.md docs/GUARANTEES.md docs/FORMATS.md; do
         install -m 644 "$top/$name" "$doc"
     done
+    install -m 644 "$NOTICES" "$doc"
     documents windows "$doc"
     parts windows "$root" "$doc/parts.spdx.json"
     "$top/packaging/zipped.py" "$root" "$to/$1.zip"
@@ -101,6 +102,8 @@ wheel() {
 }
 
 "$top/docs/pages.py" "$work/pages"
+sed "s/^\(rattle  *\)build  */\1$(rt version)  /" "$top/NOTICES" > "$work/NOTICES"
+export NOTICES="$work/NOTICES" # which packaging/install.sh and python/build_wheel.py take
 for machine; do
     case $machine in
     x86-64-v2)

@@ -4,7 +4,7 @@
 #     packaging/install.sh FOLDER PROGRAM LIBRARY [ZSH]
 # LIBRARY is the folder that library/build.sh made; where the shared library isn't in it, rnxcmp-file, which is Python over it, is left out,
 # and a message says so. ZSH is where below FOLDER zsh looks for completions, if not in share/zsh/site-functions. The lower-case names are
-# further copies. Each file is put in place by itself, so that where the file system takes both spellings of a name for one file the second
+# further copies. NOTICES may be set to the file of that name. Each file is put in place by itself, so that where the file system takes both spellings of a name for one file the second
 # copy takes the place of the first, with the same content.
 set -eu
 prefix=$1
@@ -49,7 +49,7 @@ for name in rnxcmp RNX2CRX CRX2RNX rnx2crx crx2rnx rnxcmp-file; do
     install -m 644 "$here/completions/rnxcmp.fish" "$prefix/share/fish/vendor_completions.d/$name.fish"
 done
 install -m 644 "$here/completions/_rnxcmp" "$prefix/$zsh/_rnxcmp"
-install -m 644 "$here/../NOTICES" "$here"/../LICENSE-* "$here/../CHANGELOG.md" "$prefix/share/doc/rnxcmp"
+install -m 644 "${NOTICES:-$here/../NOTICES}" "$here"/../LICENSE-* "$here/../CHANGELOG.md" "$prefix/share/doc/rnxcmp"
 for name in USE FILES ARCHIVES PLANNING GUARANTEES FORMATS; do
     install -m 644 "$here/../docs/$name.md" "$prefix/share/doc/rnxcmp"
 done

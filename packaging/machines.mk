@@ -6,24 +6,19 @@ MACHINES := x86-64-v2 x86-64 aarch64 windows
 target_of_x86-64 := --target x86_64-unknown-linux-gnu --cpu x86-64
 target_of_aarch64 := --target aarch64-unknown-linux-gnu
 
-# rattle's clang with a copy of each module that it is handed, for a machine: a toolchain of its own. Beside what is
-# proved stands the sum of what it was proved of, by which tests/machines knows whether it still is.
+# rattle's clang with a copy of each module that it is handed, for a machine: a toolchain of its own.
 keeping = $(CURDIR)/out/machines/$(1)/$(2)-toolchain
 
 define machine
 out/machines/$(1)/rnxcmp.o: $(call files_of,rnxcmp) $(call below_of,rnxcmp) packaging/keeping.sh | toolchain
 	@packaging/keeping.sh $(KIT)/toolchain $(call keeping,$(1),rnxcmp)
-	@packaging/sources.sh > $(call keeping,$(1),rnxcmp)/sum
 	$(call proof_of,rnxcmp,main,@$(1)) --toolchain $(call keeping,$(1),rnxcmp) --backend llvm $(target_of_$(1)) -o $(CURDIR)/$$@
-	@mv $(call keeping,$(1),rnxcmp)/module.bc out/machines/$(1)/rnxcmp.bc
-	@mv $(call keeping,$(1),rnxcmp)/sum out/machines/$(1)/rnxcmp.sum && rm -r $(call keeping,$(1),rnxcmp)
+	@mv $(call keeping,$(1),rnxcmp)/module.bc out/machines/$(1)/rnxcmp.bc && rm -r $(call keeping,$(1),rnxcmp)
 
 out/machines/$(1)/librnxcmp_c.a: $(call files_of,rnxcmp_c) $(call below_of,rnxcmp_c) packaging/keeping.sh | toolchain
 	@packaging/keeping.sh $(KIT)/toolchain $(call keeping,$(1),rnxcmp_c)
-	@packaging/sources.sh > $(call keeping,$(1),rnxcmp_c)/sum
 	$(call proof_of,rnxcmp_c,lib,@$(1)) --crate-type staticlib --toolchain $(call keeping,$(1),rnxcmp_c) --backend llvm $(target_of_$(1)) -o $(CURDIR)/$$@
-	@mv $(call keeping,$(1),rnxcmp_c)/module.bc out/machines/$(1)/rnxcmp_c.bc
-	@mv $(call keeping,$(1),rnxcmp_c)/sum out/machines/$(1)/rnxcmp_c.sum && rm -r $(call keeping,$(1),rnxcmp_c)
+	@mv $(call keeping,$(1),rnxcmp_c)/module.bc out/machines/$(1)/rnxcmp_c.bc && rm -r $(call keeping,$(1),rnxcmp_c)
 endef
 $(foreach it,x86-64 aarch64,$(eval $(call machine,$(it))))
 

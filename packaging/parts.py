@@ -38,6 +38,8 @@ def version_of(name, version, machine):
         return (TOP / "VERSION").read_text().strip()
     if version != "build":
         return version
+    if name == "rattle":
+        return of_compiler("rt", "version")
     compiler = COMPILERS.get(machine, "gcc")
     if name not in VERSIONS:
         return of_compiler(compiler, "-dumpfullversion")

@@ -38,6 +38,13 @@ def metadata(version, tag):
     )
 
 
+def licences():
+    """The files of licences by name; NOTICES may be set to the file of that name."""
+    files = {name: HERE.parent / name for name in LICENCES}
+    files["NOTICES"] = Path(os.environ.get("NOTICES", files["NOTICES"]))
+    return files
+
+
 def record_line(name, data):
     digest = base64.urlsafe_b64encode(hashlib.sha256(data).digest()).rstrip(b"=").decode()
     return f"{name},sha256={digest},{len(data)}\n"
@@ -65,7 +72,7 @@ def contents(library, version, program, tag):
     files[f"rnxcmp/{shared}"] = (library / shared).read_bytes()
     files.update({f"rnxcmp-{version}.data/scripts/{name}": data for name, data in programs(program, tag).items()})
     files[f"{info}/entry_points.txt"] = b"[console_scripts]\nrnxcmp-file = rnxcmp.files:main\n"
-    files.update({f"{info}/licenses/{name}": (HERE.parent / name).read_bytes() for name in LICENCES})
+    files.update({f"{info}/licenses/{name}": path.read_bytes() for name, path in licences().items()})
     files[f"{info}/METADATA"] = metadata(version, tag).encode()
     files[f"{info}/WHEEL"] = f"Wheel-Version: 1.0\nGenerator: rnxcmp build_wheel.py\nRoot-Is-Purelib: false\nTag: py3-none-{tag}\n".encode()
     return info, files

@@ -14,13 +14,16 @@ LIMITS = {name: int(limit) for name, limit in re.findall(r"const (\w+): \w+ = ([
 
 # programs that a command may need and a machine may lack
 TOOLS = ("awk", "bash", "cmp", "find", "fish", "groff", "gzip", "less", "make", "man", "mandoc", "nproc", "parallel", "sort", "xargs", "zsh")
-# programs that some tests use, and are left out without
-LIKED = (
-    *("strace", "valgrind", "parallel", "mandoc", "man", "groff", "fish", "zsh", "less", "rnx2rtkp"),
-    *("gcc", "g++", "gfortran", "nm", "readelf", "pkg-config", "git", "dpkg", "dpkg-deb", "sha256sum"),
-)
+# the packages of Debian that some tests use, each with its programs (CONTRIBUTING.md installs all); what needs one that isn't here is left out
+PACKAGES = {
+    **{name: name for name in ("cmake", "fish", "g++", "gcc", "gfortran", "git", "groff", "less", "lintian", "make", "mandoc", "parallel", "sshfs")},
+    **{name: name for name in ("pkg-config", "strace", "valgrind", "zsh")},
+    **{"binutils": "nm readelf", "gnupg": "gpg", "man-db": "man", "rtklib": "rnx2rtkp", "libc6-dev": "", "openssh-sftp-server": "", "python3-venv": ""},
+    **{"musl-tools": "musl-gcc", "gcc-aarch64-linux-gnu": "aarch64-linux-gnu-gcc", "libc6-dev-arm64-cross": "", "qemu-user": "qemu-x86_64 qemu-aarch64"},
+    **{"gcc-mingw-w64-x86-64": "x86_64-w64-mingw32-gcc", "wine": "wine wineserver", "wine64": ""},
+}
 
-left_out = []  # the checks that weren't run, each with the reason
+left_out = []  # of the checks that weren't run: their kind, the reason, how many there are, and their names
 found_wrong = []  # what the checks that failed told, as lines
 
 
@@ -35,6 +38,20 @@ def install(program, prefix):
         return "there is no library: make library"
     run = subprocess.run([TOP / "packaging/install.sh", prefix, program, LIBRARY], capture_output=True, text=True, timeout=60)
     return [] if run.returncode == 0 and not run.stderr else [f"status {run.returncode}, {run.stderr!r}"]
+
+
+def not_here():
+    """The programs that some tests use and this machine lacks."""
+    return [tool for tools in PACKAGES.values() for tool in tools.split() if not shutil.which(tool)]
+
+
+def told_left_out(entries):
+    """The checks that weren't run, as lines: those of one kind and reason together."""
+    together = {}
+    for kind, why, count, name in entries:
+        total, names = together.get((kind, why), (0, []))
+        together[kind, why] = (total + count, [*names, name])
+    return [f"    {total} of {kind}, {why}: {', '.join(names)}" for (kind, why), (total, names) in together.items()]
 
 
 def missing_tools(command):
@@ -54,7 +71,7 @@ def tally(kind, checks):
         except Exception:  # a check that can't go on has failed, and the others are run
             wrong = traceback.format_exc().splitlines()
         if isinstance(wrong, str):
-            left_out.append(f"{kind} {name}: {wrong}")
+            left_out.append((kind, wrong, 1, name))
             print(f"{kind} {name} ... left out: {wrong}", flush=True)
             continue
         passed, failed = (passed, failed + 1) if wrong else (passed + 1, failed)

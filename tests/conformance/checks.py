@@ -125,11 +125,8 @@ def page():
     return wrong + [f"{case['name']}: {choice}" for case in cases for choice in case.get("choices", []) if choice not in choices]
 
 
-def peer():
-    """Another program, where PEER names its two commands: its report is written, and shown by its first lines; it is no fault of this program."""
-    named = os.environ.get("PEER")
-    if not named:
-        return "PEER='COMPACT;EXPAND' names no other program"
+def peer(named):
+    """Another program by its two commands: its report is written, and shown by its first lines; it is no fault of this program."""
     with tempfile.TemporaryDirectory() as folder:
         run = conformed(*(word.strip() for word in named.split(";")), SUITE / "cases.json", random_cases(folder))
     (TOP / "out/conformance").mkdir(parents=True, exist_ok=True)
@@ -150,4 +147,5 @@ def checks(program):
     yield "planted, by the command", lambda: by_the_command(program)
     for command, failure in (("sleep 1000", "no end within 0.3 s"), ("sh -c 'kill -SEGV $$'", "ended by signal 11"), ("/no/such/command", "not started")):
         yield f"a command that fails: {failure}", lambda command=command, failure=failure: failing(command, failure)
-    yield "another program", peer
+    if named := os.environ.get("PEER"):
+        yield "another program", lambda: peer(named)

@@ -7,13 +7,15 @@ import re
 import subprocess
 import sys
 import tempfile
+from collections import Counter
 from functools import cache
 from pathlib import Path
 
 TOP = Path(__file__).resolve().parents[2]
-sys.path.insert(0, str(TOP / "docs"))
+sys.path[:0] = [str(TOP / "docs"), str(TOP / "tests")]
 import proved  # noqa: E402
-from chapters import CHAPTERS, Book, is_definition  # noqa: E402
+from chapters import CHAPTERS, Book, is_definition, is_ported, top_down  # noqa: E402
+from checking import PACKAGES  # noqa: E402
 from sources import crates, fault_names, functions_in, public_functions  # noqa: E402
 from stated import WRITTEN, faults, typed_in, wrong_in  # noqa: E402
 
@@ -34,8 +36,8 @@ def book():
 
 
 def made_pages():
-    """What is wrong with the pages that `make docs` makes: a link to nothing, a definition that isn't there once, or one that isn't to be
-    believed and that a chapter of others has."""
+    """What is wrong with the pages that `make docs` makes: a link to nothing, a line of a folder `meaning` that isn't there, a definition that
+    isn't there once, or one that isn't to be believed and that a chapter of others has."""
     with tempfile.TemporaryDirectory() as folder:
         run = subprocess.run([TOP / "docs/pages.py", folder], capture_output=True, text=True, timeout=300)
         if run.returncode or run.stderr:
@@ -48,6 +50,11 @@ def made_pages():
         wrong += [f"{name}: a link to {page or name}#{place}" for page, place in sorted(set(links)) if place not in places[page or name]]
         wrong += [f"{name}: {place} is there twice" for place in sorted(set(places[name])) if places[name].count(place) > 1]
     wrong += [f"{it.path.name}: {it.name} isn't there" for it in book().shown if f"\n{it.text}\n" not in texts["DEFINITIONS.md"]]
+    there = Counter(texts["DEFINITIONS.md"].split("\n"))
+    for path in sorted((TOP / "crates").glob("*/specs/meaning/**/*.antt")):
+        equations = re.sub(r"^(?:--|use |pub use |pub mod |module |infix).*\n", "", path.read_text(encoding="utf-8"), flags=re.M).split("\n")
+        there.subtract(equations)
+        wrong += [f"{path.relative_to(TOP)}: no chapter has {line}" for line in equations if line and there[line] < 0]
     return wrong + [f"{it.path.relative_to(TOP)}: {it.name} is outside the folders meaning" for it in book().outside()]
 
 
@@ -85,35 +92,36 @@ def clauses_without_names():
     return [f"{it.name}: a clause without a name" for it in functions if any(clause.kind == "ensures" and clause.name == "_" for clause in it.clauses)]
 
 
-def contracts():
-    """The clauses (`ensures`) of each public function: under its name, and under that of its type and it. Where two types of one name have it, a
-    page may name those that both have."""
+def by_name():
+    """The public functions by their names: each under its own, and under that of its type and it."""
     found = {}
     for function in (it for crate in crates() for it in public_functions(crate)):
-        clauses = {clause.name for clause in function.clauses if clause.kind == "ensures"}
-        of_type, _, name = function.name.rpartition("::")
-        if of_type:
-            found[function.name] = found.get(function.name, clauses) & clauses
-        found[name] = found.get(name, set()) | clauses
+        for name in {function.name, function.name.rpartition("::")[2]}:
+            found.setdefault(name, []).append(function)
     return found
 
 
-def clauses_named(page, known):
-    """The clauses that docs/GUARANTEES.md and README.md name and no function has."""
-    wrong = []
+def cited(page):
+    """The functions that a page names in parentheses, each with the clauses that it names, or with none where the function is a law."""
     text = re.sub(r"\s+", " ", (TOP / page).read_text(encoding="utf-8"))
-    for group in re.findall(r"\(([^()]*`: `[^()]*)\)", text):
+    for group in re.findall(r"\(([^()]*`: `[^()]*|laws? `[^()]*)\)", text):
         for part in group.split(";"):
             names, _, clauses = part.partition("`: `")
-            functions = re.findall(r"`([\w:]+)`?", names + "`")
-            for function in functions:
-                if function not in known:
-                    wrong.append(f"{page}: there is no public function {function}")
-                    continue
-                for clause in re.findall(r"(\w+)`", clauses):
-                    if clause not in known[function]:
-                        wrong.append(f"{page}: {function} has no clause {clause}")
-    return wrong
+            yield from ((name, re.findall(r"(\w+)`", clauses)) for name in re.findall(r"`([\w:]+)`?", names + "`"))
+
+
+def clauses_named(page, known):
+    """The functions and clauses that a page names and that aren't there, and the definitions that these stand on and that no chapter shows."""
+    wrong, below = [], set()
+    for name, clauses in cited(page):
+        wrong += [] if name in known else [f"{page}: there is no public function {name}"]
+        for clause in clauses or ["*"]:
+            has = [function for function in known.get(name, []) if clause == "*" or clause in (it.name for it in function.clauses)]
+            wrong += [] if has and (len(has) == len(known[name]) or "::" not in name) else [f"{page}: {name} has no clause {clause}"]
+            statements = ((function, it.statement) for function in has for it in function.clauses if clause in ("*", it.name))
+            below.update(item for function, statement in statements for item in book().names.below(function.path, statement))
+    items, _ = top_down(list(below), book().names, ())
+    return wrong + [f"{page} stands on {it.name}, which no chapter shows" for it in items if not is_ported(it) and it not in book().shown]
 
 
 def files_named(page):
@@ -272,18 +280,46 @@ def python_names():
     return [f"docs/LIBRARY.md has no {name}" for name in names if not re.search(rf"`[^`\n]*\b{name}\b", page)]
 
 
-def modules():
-    """The names that two modules of tests and pages have, but for `check`, `checks` and `run`: all kinds of tests are read into one process, where
-    the module that is read first would stand for both."""
-    seen = {}
-    for path in sorted([*(TOP / "tests").rglob("*.py"), *(TOP / "docs").glob("*.py")]):
-        if path.stem not in ("check", "checks", "run"):
-            seen.setdefault(path.stem, []).append(str(path.relative_to(TOP)))
-    return [f"one name: {', '.join(paths)}" for paths in seen.values() if len(paths) > 1]
+def code_of(path):
+    """The code of a file, without comments, imports and clauses."""
+    text = re.sub(r"//.*|^\s*(?:pub |ghost )*use [^;]*;", "", path.read_text(encoding="utf-8"), flags=re.M)
+    while clause := re.search(r"^\s*(?:requires|ensures|ghost)\b[^{]*\{", text, re.M):
+        depth, end = 1, clause.end()
+        while depth:
+            depth, end = depth + {"{": 1, "}": -1}.get(text[end], 0), end + 1
+        text = text[: clause.start()] + text[end:]
+    return text
+
+
+def refusals():
+    """The places where code says that memory ran out without a refused growth: `OutOfMemory` and `AllocError` as values, outside the conversions
+    from `Refused` and the edges of the program and of the library, where a text couldn't be written; fields of type `Refused`; and a `Refused`
+    that another module than `memory` makes."""
+    edges = {"crx_base/src/memory.rt": 2, "crx_program/src/refusal.rt": 1, "rnxcmp_c/src/answer.rt": 1}
+    types = r"Result<[^{;]*?\bAllocError>|From<AllocError>|(?::|->|for) AllocError\b"
+    wrong = []
+    for path in sorted((TOP / "crates").glob("*/src/**/*.rt")):
+        name, code = str(path.relative_to(TOP / "crates")), code_of(path)
+        if name.split("/")[0] in ("crx_tests", "crx_laws", "crx_devices"):
+            continue
+        values = len(re.findall(r"::OutOfMemory\b(?! =>| \}| \|)", code)) + len(re.findall(r"\bAllocError\b", re.sub(types, "", code)))
+        wrong += [] if values == edges.get(name, 0) else [f"{name}: {values} values that say that memory ran out"]
+        held = re.findall(r"\b(?:struct|enum) (\w+)[^{;]*\{[^}]*\bRefused\b|\bstruct (\w+)[^{;]*\([^;]*\bRefused\b", code)
+        wrong += [f"{name}: {''.join(it)} holds a Refused" for it in held]
+        if not name.startswith("crx_base/src/memory.rt"):
+            wrong += [f"{name}: a Refused is made" for _ in re.findall(r"\bRefused \{", code)]
+    return wrong
+
+
+def packages():
+    """Whether the command of CONTRIBUTING.md installs the packages that the tests use."""
+    command = re.search(r"^    apt-get install --no-install-recommends (.*)$", (TOP / "CONTRIBUTING.md").read_text(encoding="utf-8"), re.M)
+    return [] if command and command[1].split() == sorted(PACKAGES) else [f"it isn't that of {' '.join(sorted(PACKAGES))}"]
 
 
 def checks(program):
-    yield "modules of tests", modules
+    yield "CONTRIBUTING.md: packages", packages
+    yield "values that say that memory ran out", refusals
     yield "docs/LIBRARY.md: names of the package", python_names
     yield "made pages", made_pages
     yield "places of proofs", proofs_placed
@@ -299,7 +335,7 @@ def checks(program):
     yield "options", lambda: options(program)
     for file in WRITTEN:
         yield f"{file}: numbers", lambda file=file: wrong_in(file)
-    known = contracts()
+    known = by_name()
     for page in PAGES:
         if not (TOP / page).exists():
             continue

@@ -13,20 +13,16 @@ to come exactly where the relation finds units, and the output has to be theirs.
 these texts.
 """
 
-import argparse
 import os
-import shutil
 import sys
-import tempfile
 from collections import Counter
 from dataclasses import replace
 from math import comb
-from multiprocessing import Pool
 from pathlib import Path
 
 sys.path[:0] = [str(Path(__file__).resolve().parent), str(Path(__file__).resolve().parents[2] / "conformance")]
 from relation import LIMITS, Arc, NoSuchText, Relation, Written  # noqa: E402
-from runs import Runs  # noqa: E402
+from runs import asked_by, main  # noqa: E402
 from generate import Copied, Epoch, damaged, generator, rinex, units  # noqa: E402
 
 # ---- a writer that draws each freedom
@@ -131,6 +127,30 @@ class Writer:
     def text(self, all_units):
         lines = self.first_lines() + [line for part in self.parts(all_units) for line in part]
         return b"".join(self.ended(line, at == len(lines) - 1) for at, line in enumerate(lines))
+
+
+class Plain(Writer):
+    """Writes compact text without a choice, as the program does: by order 3, in full each time `every` epochs were written and after an event."""
+
+    def __init__(self, rng, every, date):
+        super().__init__(rng)
+        self.orders, self.every, self.date, self.count = (3,), every, date, 0
+
+    def does(self, choice):
+        return choice == "full" and self.count % self.every == 0
+
+    def first_lines(self):
+        words = ((b"3.0", 20), (b"COMPACT RINEX FORMAT", 40), (b"CRINEX VERS   / TYPE", 0)), ((b"RNX2CRX profile 1.0", 40), (self.date, 20), (b"CRINEX PROG / DATE", 0))
+        return [b"".join(word.ljust(width) for word, width in line) for line in words]
+
+    def parts(self, all_units):
+        for unit in all_units:
+            self.before = None if isinstance(unit, Copied) else self.before
+            yield unit.lines if isinstance(unit, Copied) else self.epoch(unit)
+            self.count += isinstance(unit, Epoch)
+
+    def ended(self, content, is_last):
+        return content + b"\n"
 
 
 # ---- units
@@ -265,93 +285,42 @@ def flipped(rng, made, text):
     return text[:at] + bytes([text[at] ^ 1 << rng.randrange(8)]) + text[at + 1 :]
 
 
-class Trial:
-    """Texts that are tried one after another, and what went wrong."""
-
-    def __init__(self, runs, seed, files=()):
-        self.runs, self.rng, self.relation = runs, generator(seed), Relation()
-        self.counts, self.wrong = Counter(), []
-        self.files = [real_units(Path(path).read_bytes()) for path in files]
-        self.unfound = {reader.__name__: reader() for reader in READERS}
-        self.found = {}
-
-    def say(self, name, is_right, text):
-        self.counts[name] += 1
-        if not is_right:
-            self.wrong.append((name, text))
-
-    def units(self):
-        if self.files and self.counts["texts"] % 2:
-            return cut_units(self.rng, self.rng.choice(self.files))
-        return other_flags(self.rng, units(self.rng))
-
-    def find(self, text, wanted):
-        """Tries the readers that no text has found yet."""
-        for name in [name for name, reader in self.unfound.items() if meaning(reader, text) != wanted]:
-            self.found[name] = self.counts["texts"]
-            del self.unfound[name]
-
-    def one(self):
-        made = self.units()
-        file, text = rinex(made), Writer(self.rng).text(made)
-        words = ["crx2rnx"] + ["-s"] * self.rng.randrange(2)
-        self.say("texts", self.runs.all_of(words, text) == (0, file, b""), text)
-        self.say("texts by the relation", meaning(self.relation, text) == file, text)
-        self.find(text, file)
-        bad = flipped(self.rng, made, text)
-        status, output = self.runs.of(words, bad)
-        wanted = meaning(self.relation, bad)
-        self.find(bad, wanted)
-        kind = "other texts that are compact text of a file" if wanted is not None else "other texts that are not"
-        self.say(kind, (status == 0) == (wanted is not None) and (wanted is None or output == wanted), bad)
+def one(runs, rng, relation, unfound, made):
+    """The name of each question about a text of some units, whether it is right, and the text. Readers that the text finds are taken from `unfound`."""
+    file, text = rinex(made), Writer(rng).text(made)
+    words = ["crx2rnx"] + ["-s"] * rng.randrange(2)
+    yield "any writer's text is read", runs.all_of(words, text) == (0, file, b"") and meaning(relation, text) == file, text
+    bad = flipped(rng, made, text)
+    status, output = runs.of(words, bad)
+    wanted = meaning(relation, bad)
+    yield READ if wanted is not None else OTHER, (status == 0) == (wanted is not None) and (wanted is None or output == wanted), bad
+    for name in [name for name, reader in unfound.items() if meaning(reader, text) != file or meaning(reader, bad) != wanted]:
+        del unfound[name]
+        yield f"the reader {name} is found", True, text
 
 
-def part(program, texts, seed, files):
-    """A trial of so many texts: the counts, what went wrong, and which readers were found by which text."""
-    folder = tempfile.mkdtemp(dir="/dev/shm" if os.path.isdir("/dev/shm") else None)
-    try:
-        trial = Trial(Runs(program, folder), seed, files)
-        for _ in range(texts):
-            trial.one()
-    finally:
-        shutil.rmtree(folder)
-    return trial.counts, trial.wrong, trial.found
+def part(runs, job):
+    """A trial of `count` texts: what was asked, and what is wrong."""
+    seed, count, files = job
+    rng, counts, wrong = generator(seed), Counter(), []
+    found = [real_units(Path(path).read_bytes()) for path in files]
+    unfound = {reader.__name__: reader() for reader in READERS}
+    for at in range(count):
+        made = cut_units(rng, rng.choice(found)) if found and at % 2 else other_flags(rng, units(rng))
+        for name, right, text in one(runs, rng, Relation(), unfound, made):
+            counts[name] += 1
+            wrong += [] if right else [f"{name}: {text!r}"]
+    return counts, wrong
 
 
-def tried(program, texts, seed, files=()):
-    """The same of as many processes as there are cores, and all that is wrong, as lines."""
-    jobs = os.cpu_count() or 1
-    with Pool(jobs) as pool:
-        parts = pool.starmap(part, [(program, -(-texts // jobs), 1000 * seed + job, files) for job in range(jobs)])
-    counts, found = Counter(), {}
-    for each, _, readers in parts:
-        counts += each
-        found = {**readers, **found}
-    wrong = [f"{name}: {text!r}" for _, pairs, _ in parts for name, text in pairs]
-    return counts, found, wrong + [f"no text finds the reader {reader.__name__}" for reader in READERS if reader.__name__ not in found]
+def tried(program, texts, seed=1):
+    """The same in as many processes as there are cores."""
+    jobs, files = os.cpu_count() or 1, os.environ.get("FILES", "").split()
+    return asked_by(part, program, [(1000 * seed + job, -(-texts // jobs), files) for job in range(jobs)], ASKED)
 
 
-def checks(program, texts=5000):
-    """What the gate tries: the name of a check, and a call that gives what is wrong."""
-    yield f"{texts} texts of any writer", lambda: tried(Path(program).resolve(), texts, 1)[2][:20]
-
-
-def main():
-    parser = argparse.ArgumentParser(description=__doc__, formatter_class=argparse.RawDescriptionHelpFormatter)
-    parser.add_argument("program", type=Path)
-    parser.add_argument("--texts", type=int, default=100000)
-    parser.add_argument("--seed", type=int, default=1)
-    arguments = parser.parse_args()
-    counts, found, wrong = tried(arguments.program.resolve(), arguments.texts, arguments.seed, os.environ.get("FILES", "").split())
-    for name, count in sorted(counts.items()):
-        print(f"{name}: {count}")
-    for name, text in sorted(found.items()):
-        print(f"reader {name} found by text {text} of a process")
-    for line in wrong[:5]:
-        print(f"FAILED, {line}")
-    print(f"{sum(counts.values()) + len(READERS) - len(wrong)} passed, {len(wrong)} failed")
-    return 1 if wrong else 0
-
+READ, OTHER = "other text that is compact text of a file is read", "no other text is accepted"
+ASKED = ("any writer's text is read", READ, OTHER, *(f"the reader {reader.__name__} is found" for reader in READERS))
 
 if __name__ == "__main__":
-    sys.exit(main())
+    sys.exit(main(__doc__, texts=(tried, 100000)))

@@ -3,48 +3,45 @@
 
     tests/laws/damage.py PROGRAM [--flips N] [--damages N] [--others N] [--seed S]
 
-Each file is made up here, compacted by the program, and then damaged behind its header: by one flipped bit, or in one place or many by
-bytes changed, lost and made, line ends among them, lines dropped, doubled and replaced, first lines of events and of blocks too, and texts
-cut off. Some records of its events read as first lines of events. `--others` damages the compact text of another writer in the same ways:
-any_writer.py's, which draws each freedom of the format at random. Of what the program makes of it with `crx2rnx -s` three sentences of
-README.md are asked, as they are printed there.
+Each file is made of random units and compacted by the program, or with `--others` by the writer of any_writer.py. Then it is damaged after its
+header: by one flipped bit, or in one place or many by bytes changed, lost and made, line ends among them, lines dropped, doubled and replaced,
+first lines of events and of blocks too, and texts cut off. Some records of events read as first lines of events. Three sentences are asked of
+the output of `crx2rnx -s`:
 
-What damage costs: all units before the first damaged stretch, then for each stretch some whole epochs followed by exactly the units that
-are kept; no fault. A stretch has all lines of each event and of each epoch that it touches. A unit is kept if its lines still stand
-together, on lines of their own, and if it is an event, an epoch in full, or an epoch as differences of one that is kept. Of two kinds of damage nothing is
-said, and both have to be reached: a line of a stretch reads as an event's first one, or an event that changes types is lost.
+What damage costs: no fault ends the run. All units before the first damaged stretch are written, then for each stretch some whole epochs, which
+may be wrong, followed by exactly the units that are kept. A stretch has all lines of each event and of each epoch that it touches. A unit is
+kept if its lines are still together, on lines of their own, and if it is an event, an epoch in full, or an epoch as differences from one that is
+kept. There are two exceptions, and both have to be reached: a line of a stretch reads as an event's first line, or an event that changes types
+is lost.
 
-Nothing is lost in silence: with status 0 each line after the two first ones was copied or is one of an epoch's that came out, and those hold
-characters 32 to 126 alone; with status 2 a warning tells of at least one line that wasn't, and each of another. Noise is noticed: where all
-damage is one byte of an epoch's lines that isn't one of the characters 32 to 126, nor LF, nor CR before LF or at the end, the status is 2;
-such an end of a line has to be reached too. The last line is `N passed, M failed`.
+No line is lost without a warning (fate.py). Noise is noticed: if all damage is one byte of an epoch's lines that isn't one of the characters 32
+to 126, nor LF, nor CR before LF or at the end, the status is 2. Such an end of a line has to be reached too, and so has damage that isn't noticed.
 """
 
 from __future__ import annotations
 
-import argparse
-import os
 import random
-import shutil
 import sys
-import tempfile
 from array import array
 from collections import Counter
 from dataclasses import dataclass, field
-from functools import lru_cache
-from multiprocessing import Pool
+from functools import lru_cache, partial
 from pathlib import Path
 
-sys.path[:0] = [str(Path(__file__).resolve().parents[1]), str(Path(__file__).resolve().parent)]
+sys.path[:0] = [str(Path(__file__).resolve().parent), str(Path(__file__).resolve().parents[2] / "conformance")]
+import generate  # noqa: E402
 from any_writer import Writer, real_units  # noqa: E402
-from checking import LIMITS  # noqa: E402
-from runs import Runs  # noqa: E402
+from fate import LONGEST, left_of, of_compact  # noqa: E402
+from runs import Runs, asked_by, main  # noqa: E402
 
-LF, CR, LONGEST = 10, 13, LIMITS["LINE_LIMIT"]
+LF, CR = 10, 13
 DAMAGES_OF_A_FILE = 40
+COSTS, NOISE, LOST = "what damage costs", "noise is noticed", "damaged text loses no line without a warning"
+UNNOTICED = "not promised: damage is noticed"
+ASKED = (COSTS, NOISE, LOST, UNNOTICED)
 EVENT_LINE, TYPES_LOST = "a line of a stretch reads as an event's first one", "an event that changes types is lost"
 LINE_END = "LF, or CR before LF or at the end, in an epoch's line"  # alone: no noise
-EXCEPTIONS = {"flips": (EVENT_LINE, TYPES_LOST), "damages": (EVENT_LINE, TYPES_LOST, LINE_END)}  # of a flip no such end comes
+EXCEPTIONS = {"flips": (EVENT_LINE, TYPES_LOST), "damages": (EVENT_LINE, TYPES_LOST, LINE_END)}  # a flip seldom makes such an end
 EXCEPTIONS["others"] = EXCEPTIONS["damages"]
 OF_RECORDS = (b" code 1: ", b" code 6: ", b" code 19: ")  # the faults of an event's records
 
@@ -74,83 +71,19 @@ class File:
 # ---- files
 
 
-def labelled(text: str, label: str) -> bytes:
-    return f"{text:<60}{label}".rstrip().encode()
-
-
-def types_line(system: bytes, count: int) -> bytes:
-    names = "".join(f" {'CLDS'[k % 4]}{1 + k // 4}C" for k in range(count))
-    return labelled(f"{system.decode()}  {count:3d}{names}", "SYS / # / OBS TYPES")
-
-
-def epoch_line(second: int, flag: int, count: int) -> str:
-    return f"> 2024 01 01 {second // 3600:02d} {second // 60 % 60:02d}{second % 60:11.7f}  {flag}{count:3d}"
-
-
-def number(value: int, decimals: int, width: int) -> str:
-    text = f"{abs(value):0{decimals + 1}d}"
-    return f"{'-' * (value < 0) + text[:-decimals] + '.' + text[-decimals:]:>{width}}"
-
-
-class Station:
-    """Makes up epochs and events, one after another."""
-
-    def __init__(self, pick: random.Random) -> None:
-        self.pick = pick
-        self.types = {system: pick.randint(1, 4) for system in pick.sample([b"G", b"R", b"E"], pick.randint(1, 3))}
-        self.values: dict[tuple[bytes, int], int] = {}
-        self.second = 0
-        self.clock = pick.randint(-10**8, 10**8)
-
-    def header(self) -> list[bytes]:
-        first = labelled("     3.04           OBSERVATION DATA    M", "RINEX VERSION / TYPE")
-        comments = [labelled(f"comment {k}", "COMMENT") for k in range(self.pick.randint(0, 2))]
-        return [first, *comments, *(types_line(*each) for each in self.types.items()), labelled("", "END OF HEADER")]
-
-    def cell(self, name: bytes, place: int) -> str:
-        if self.pick.random() < 0.1:
-            self.values.pop((name, place), None)
-            return " " * 16
-        value = self.values.get((name, place), self.pick.randint(-10**9, 10**10)) + self.pick.randint(-10**6, 10**6)
-        self.values[name, place] = value
-        return number(value, 3, 14) + self.pick.choice("      1") + self.pick.choice("    56789")
-
-    def epoch(self) -> Group:
-        self.second += self.pick.randint(1, 40)
-        names = [system + b"%02d" % k for system in self.types for k in range(1, 4)]
-        names = self.pick.sample(names, self.pick.randint(0, min(5, len(names))))
-        head = epoch_line(self.second, self.pick.choice([0, 0, 0, 1]), len(names))
-        if self.pick.random() < 0.5:
-            self.clock += self.pick.randint(-10**4, 10**4)
-            head = f"{head:<41}{number(self.clock, 12, 15)}"
-        rows = [(name.decode() + "".join(self.cell(name, k) for k in range(self.types[name[:1]]))).rstrip().encode() for name in names]
-        return Group([head.encode(), *rows], 2 + len(rows), False, dict(self.types), dict(self.types))
-
-    def record(self, number: int) -> bytes:
-        """A record of an event. Some read as an event's first line, which announces few records or many, or as that of an epoch."""
-        if self.pick.random() < 0.7:
-            return labelled(f"record {number}", "COMMENT")
-        return epoch_line(self.second, self.pick.choice([0, 2, 4, 4, 6]), self.pick.choice([0, 1, 2, 999])).encode()
-
-    def event(self) -> Group:
-        before, flag = dict(self.types), self.pick.choice([2, 3, 4, 4, 5, 6])
-        records = [self.record(k) for k in range(self.pick.randint(0, 3))]
-        if flag < 6 and self.pick.random() < 0.3:
-            system = self.pick.choice(list(self.types))
-            self.types[system] = self.pick.randint(1, 4)
-            records.append(types_line(system, self.types[system]))
-            self.values.clear()
-        lines = [epoch_line(self.second, flag, len(records)).encode(), *records]
-        return Group(lines, len(lines), True, before, dict(self.types))
-
-
 def made_up(pick: random.Random) -> tuple[File, bytes]:
-    """A file, and its RINEX text."""
-    station = Station(pick)
-    made = File(station.header())
-    for _ in range(pick.randint(2, 14)):
-        made.groups.append(station.event() if pick.random() < 0.15 else station.epoch())
-    return made, b"".join(line + b"\n" for line in made.header + [line for g in made.groups for line in g.lines])
+    """A file without a line that ends in CR, and its RINEX text."""
+    rinex = b"\r"
+    while b"\r" in rinex:
+        rinex = generate.rinex(generate.units(pick))
+    header, *rest = real_units(rinex)
+    made, types = File(header.lines), header.types
+    for unit in rest:
+        is_event = isinstance(unit, generate.Copied)
+        lines, after = generate.rinex([unit]).splitlines(), unit.types if is_event else types
+        made.groups.append(Group(lines, len(lines) + (not is_event), is_event, types, after))
+        types = after
+    return made, rinex
 
 
 def own_file(runs: Runs, pick: random.Random) -> File:
@@ -357,34 +290,6 @@ def is_saved(output: bytes, before: list[bytes], stretches: list[Stretch]) -> bo
     return matches(len(before), 0)
 
 
-def units_of(output: bytes) -> tuple[list[bytes], list[tuple[bool, int]]]:
-    """The lines of an output, and its units, the header as one: whether its lines are copied, and how many it has."""
-    lines = output.split(b"\n")[:-1]
-    at = lines.index(labelled("", "END OF HEADER")) + 1
-    found = [(True, at)]
-    while at < len(lines):
-        found.append((begins_event(lines[at]), 1 + int(lines[at][32:35].strip() or b"0")))
-        at += found[-1][1]
-    return lines, found
-
-
-def is_accounted_for(data: bytes, output: bytes, warnings: int) -> bool:
-    """Whether each line was copied, or is one of an epoch's, which has one more in compact text and holds characters 32 to 126 alone; or
-    warnings tell of it."""
-    given = [line.removesuffix(b"\r") for line in data.split(b"\n")][2 : None if data[-1:] != b"\n" else -1]
-    lines, found = units_of(output)
-    lost = len(given) - sum(size + (not copied) for copied, size in found)
-    if warnings or lost:
-        return warnings > 0 and lost >= warnings
-    at = there = 0
-    for copied, size in found:
-        own = given[there : there + size + (not copied)]
-        if not (own == lines[at : at + size] if copied else all(32 <= byte <= 126 for line in own for byte in line)):
-            return False
-        at, there = at + size, there + size + (not copied)
-    return True
-
-
 def noise_in(file: File, text: Damaged) -> str:
     """Whether all damage is one byte of an epoch's lines that no line of an epoch holds: noise, or an end of a line."""
     if len(text.data) != len(file.compact):
@@ -393,7 +298,7 @@ def noise_in(file: File, text: Damaged) -> str:
     if len(changed) != 1 or 32 <= text.data[changed[0]] <= 126 or not any(g.start <= changed[0] < g.end and not g.is_event for g in file.groups):
         return ""
     at, byte = changed[0], text.data[changed[0]]
-    return LINE_END if byte == LF or (byte == CR and text.data[at + 1 : at + 2] in (b"", b"\n")) else "noise"
+    return LINE_END if byte == LF or (byte == CR and text.data[at + 1 : at + 2] in (b"", b"\n")) else NOISE
 
 
 def judge(runs: Runs, file: File, text: Damaged) -> tuple[Counter, str]:
@@ -402,24 +307,24 @@ def judge(runs: Runs, file: File, text: Damaged) -> tuple[Counter, str]:
     parts, asked = stretches_of(file, text), Counter()
     status, output, messages = runs.all_of(["crx2rnx", "-s"], data)
     warned = messages.splitlines()
-    fault = status == 1 and messages.count(b"ERROR line ") == 1
     if isinstance(parts, str):
         asked[parts] += 1
-        if fault:
+        if status == 1 and messages.count(b"ERROR line ") == 1:
             asked["ended by a fault, in an exception"] += 1
             return asked, "" if any(code in messages for code in OF_RECORDS) else f"a fault that isn't of records: {messages!r}"
     if status != (2 if warned else 0) or not all(line.startswith(b"WARNING line ") for line in warned):
         return asked, f"status {status}, messages {messages!r}"
-    asked["noticed" if warned else "unnoticed"] += 1
-    if not is_accounted_for(data, output, len(warned)):
+    asked[LOST] += 1
+    if left_of(data, 2, output, messages, of_compact) is None:
         return asked, f"lines were lost in silence, or gained: {messages!r}"
+    asked[UNNOTICED] += data != file.compact and not warned
     noise = noise_in(file, text)
     if noise:
         asked[noise] += 1
-    if noise == "noise" and not warned:
+    if noise == NOISE and not warned:
         return asked, "noise wasn't noticed"
     if not isinstance(parts, str):
-        asked["costs"] += 1
+        asked[COSTS] += 1
         if not is_saved(output, *parts):
             return asked, "the output isn't what damage may cost"
     return asked, ""
@@ -443,56 +348,25 @@ def damaged(file: File, pick: random.Random) -> Damaged:
 KINDS = {"flips": (own_file, flipped), "damages": (own_file, damaged), "others": (others_file, damaged)}
 
 
-def try_file(job: tuple[str, str, int]) -> tuple[str, Counter, list[str]]:
-    """Damages one file so many times; gives what was asked, and what was wrong."""
-    program, kind, seed = job
+def try_file(runs: Runs, job: tuple[str, str]) -> tuple[Counter, list[str]]:
+    """Damages one file many times; gives what was asked, and what was wrong."""
+    kind, seed = job
     pick, asked, wrong = random.Random(f"{kind} {seed}"), Counter(), []
-    folder = tempfile.mkdtemp(dir="/dev/shm" if os.path.isdir("/dev/shm") else None)
-    try:
-        make_file, damage = KINDS[kind]
-        runs = Runs(program, folder)
-        file = make_file(runs, pick)
-        for _ in range(DAMAGES_OF_A_FILE):
-            text = damage(file, pick) if file.body < len(file.compact) else Damaged(file)
-            more, what = judge(runs, file, text)
-            asked.update(more)
-            wrong += [f"{kind}, seed {seed}: {what}: {bytes(text.data[file.body :])[:2000]!r}"] if what else []
-    finally:
-        shutil.rmtree(folder)
-    return kind, asked, wrong
-
-
-def tried(program: Path, counts: dict[str, int], seed: int = 1) -> tuple[dict[str, Counter], list[str]]:
-    """Tries so many damages of each kind, some of each file; gives what was asked for each kind, and what was wrong."""
-    jobs = [(str(program), kind, seed * 10**6 + k) for kind, count in counts.items() for k in range(-(-count // DAMAGES_OF_A_FILE))]
-    asked, wrong = {kind: Counter() for kind in counts}, []
-    with Pool() as pool:
-        for kind, more, failures in pool.imap_unordered(try_file, jobs, 4):
-            asked[kind].update(more)
-            wrong += failures
-    for kind, count in asked.items():
-        wrong += [f"{kind}: never reached: {name}" for name in (*EXCEPTIONS[kind], "costs", "noise", "noticed", "unnoticed") if not count[name]]
+    make_file, damage = KINDS[kind]
+    file = make_file(runs, pick)
+    for _ in range(DAMAGES_OF_A_FILE):
+        text = damage(file, pick) if file.body < len(file.compact) else Damaged(file)
+        more, what = judge(runs, file, text)
+        asked.update(more)
+        wrong += [f"{kind}, seed {seed}: {what}: {bytes(text.data[file.body :])[:2000]!r}"] if what else []
     return asked, wrong
 
 
-def main() -> int:
-    words = argparse.ArgumentParser(description=__doc__, formatter_class=argparse.RawDescriptionHelpFormatter)
-    words.add_argument("program", type=Path)
-    words.add_argument("--flips", type=int, default=100000)
-    words.add_argument("--damages", type=int, default=100000)
-    words.add_argument("--others", type=int, default=100000)
-    words.add_argument("--seed", type=int, default=1)
-    given = words.parse_args()
-    wanted = {"flips": given.flips, "damages": given.damages, "others": given.others}
-    asked, wrong = tried(given.program.resolve(), wanted, given.seed)
-    for kind, counts in asked.items():
-        print(f"{kind}: " + ", ".join(f"{count} {name}" for name, count in sorted(counts.items())))
-    for line in wrong[:20]:
-        print(line)
-    done = sum(-(-count // DAMAGES_OF_A_FILE) * DAMAGES_OF_A_FILE for count in wanted.values())
-    print(f"{done - len(wrong)} passed, {len(wrong)} failed")
-    return len(wrong) > 0
+def tried(kind: str, program: Path, count: int, seed: int = 1) -> tuple[Counter, list[str]]:
+    """Tries `count` damages of a kind, some of each file; gives what was asked, and what was wrong."""
+    jobs = [(kind, str(seed * 10**6 + k)) for k in range(-(-count // DAMAGES_OF_A_FILE))]
+    return asked_by(try_file, program, jobs, (*EXCEPTIONS[kind], *ASKED))
 
 
 if __name__ == "__main__":
-    sys.exit(main())
+    sys.exit(main(__doc__, **{kind: (partial(tried, kind), 100000) for kind in KINDS}))

@@ -397,14 +397,6 @@ def check_planted():
     return [line for bugs in sorted(folder.iterdir()) if bugs.is_dir() for line in mutants.stale(bugs)]
 
 
-def make():
-    """Proves and builds the library and the wheel, where there is the toolchain for it."""
-    if MADE != TOP or not shutil.which("rt") or not shutil.which("make"):
-        return [] if (LIBRARY / "librnxcmp.a").exists() else "there is no rt to build it"
-    run = subprocess.run(["make", "python"], cwd=TOP, capture_output=True, text=True)
-    return [] if run.returncode == 0 else [run.stdout[-1000:], run.stderr[-1000:]]
-
-
 def check_tool(b, python):
     """The command for whole files, and the same as a module: an output that is verified."""
     folder = b.work / "whole"
@@ -432,9 +424,6 @@ def checks_of_python(b, answers):
 
 
 def checks(program, count=INPUTS):
-    yield "make library, make python", make
-    if not (LIBRARY / "librnxcmp.a").exists():
-        return
     with tempfile.TemporaryDirectory() as name:
         b = quick.Built(Path(program), TOP, LIBRARY, PROVED, Path(name))
         answers = answers_of_cases(program)

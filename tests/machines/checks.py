@@ -1,6 +1,5 @@
 """The programs and libraries of a release's machines, beside the program that make built (see tests/run.py): the
-machines whose compiler and emulator are there. What isn't proved yet for one of them is proved first, which takes some
-six minutes of processor time. The others are named. `make machines-test` asks for all (run.py)."""
+machines whose compiler and emulator are here, as tests/build made them. `make machines-test` asks for all (run.py)."""
 
 import shutil
 import subprocess
@@ -13,7 +12,7 @@ HERE = Path(__file__).resolve().parent
 TOP = HERE.parents[1]
 sys.path[:0] = [str(HERE), str(TOP / "tests")]
 from libraries import check_library  # noqa: E402
-from machines import MACHINES, emulator, make, script, take_over  # noqa: E402
+from machines import MACHINES, emulator, script  # noqa: E402
 from retargeting import check_retargeting  # noqa: E402
 from same import check_clock, check_files, check_same  # noqa: E402
 
@@ -109,15 +108,9 @@ def of_machine(machine, program, files=()):
         yield "library", lambda: check_library(machine, words, program)
 
 
-def reason_for(machine):
-    lacking = machine.lacking()
-    return f"not found here: {', '.join(lacking)}" if lacking else ""
-
-
 def tried(machines, program, files=()):
-    """The checks of machines, once all are made."""
+    """The checks of machines whose programs are made."""
     yield "modules for Windows", check_retargeting
-    yield "made", lambda: make(machines)
     for machine in machines:
         if (machine.built / machine.program).exists():
             for title, check in of_machine(machine, program, files):
@@ -126,8 +119,6 @@ def tried(machines, program, files=()):
 
 def checks(program):
     no_rt = "" if shutil.which("rt") else "there is no rt"
-    reasons = {machine: reason_for(machine) or no_rt for machine in MACHINES}
-    there = [machine for machine, reason in reasons.items() if not reason]
+    reasons = {machine: machine.lacking() or no_rt for machine in MACHINES}
     yield from ((machine.name, lambda reason=reason: reason) for machine, reason in reasons.items() if reason)
-    take_over(there)
-    yield from tried(there, program)
+    yield from tried([machine for machine, reason in reasons.items() if not reason], program)

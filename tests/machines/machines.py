@@ -3,12 +3,16 @@
 import os
 import shutil
 import subprocess
+import sys
 import tempfile
 from contextlib import contextmanager
 from dataclasses import dataclass
 from pathlib import Path
 
 TOP = Path(__file__).resolve().parents[2]
+sys.path.insert(0, str(TOP / "tests"))
+import prove  # noqa: E402
+
 MADE = TOP / "out/machines"  # by packaging/machines.mk
 STACK = 128 * 1024  # bytes of stack that each run has, where the emulator can limit them
 SECONDS = 1800  # in which a machine's program and library are to be made
@@ -34,14 +38,14 @@ class Machine:
 
     @property
     def proved(self):
-        """What has to be proved for this machine, beside what make proves."""
-        folder = MADE / ("x86-64" if self.is_windows else self.made_by)
-        return [] if self.made_by == "x86-64-v2" else [folder / name for name in ("rnxcmp.o", "librnxcmp_c.a")]
+        """The crates that are proved for this machine, as tests/prove.py names them, each with what is made of it."""
+        by = "x86-64" if self.is_windows else self.made_by
+        return {} if by == "x86-64-v2" else {f"rnxcmp@{by}": MADE / by / "rnxcmp.o", f"rnxcmp_c@{by}": MADE / by / "librnxcmp_c.a"}
 
     def lacking(self):
-        """The commands that this machine lacks to make and to run its programs."""
-        tools = [self.compiler, *self.emulator[:1], *(("wine",) if self.is_windows else ())]
-        return [tool for tool in dict.fromkeys(tools) if not shutil.which(tool)]
+        """What is missing here to make and to run its programs, in a text that is empty if nothing is."""
+        compilers = subprocess.run([TOP / "packaging/compilers.sh", self.name], capture_output=True, text=True).stderr.splitlines()
+        return "; ".join([*compilers, *(f"there is no {tool}" for tool in self.emulator[:1] if not shutil.which(tool))])
 
     @property
     def is_windows(self):
@@ -57,24 +61,17 @@ MACHINES = (
 )
 
 
-def sum_of_sources():
-    """The sum of all that programs are proved of, as packaging/machines.mk leaves it beside them."""
-    return subprocess.run([TOP / "packaging/sources.sh"], capture_output=True, text=True, timeout=SECONDS).stdout
-
-
 def take_over(machines):
-    """Lets make, which goes by time, take what is proved for machines where it is of these sources, by its sum."""
-    found = sum_of_sources()
-    for machine in machines:
-        sums = [path.with_name(path.name.removeprefix("lib").split(".")[0] + ".sum") for path in machine.proved]
-        if found and all(path.exists() and path.read_text() == found for path in sums):
-            for path in machine.proved:
-                path.touch()
+    """Has make, which goes by time, take what is proved for machines if it is of these sources, by its sum."""
+    sources = prove.sum_of_sources()
+    for crate, path in ((crate, path) for machine in machines for crate, path in machine.proved.items()):
+        if path.exists() and prove.proved_of(crate) == sources:
+            path.touch()
 
 
 def make(machines):
     """Makes the programs and the libraries of machines, or takes those that are newer than their sources: what went wrong, as lines."""
-    command = ["make", "--no-print-directory", f"-j{os.cpu_count()}", *sorted({f"machine-{it.made_by}" for it in machines})]
+    command = ["make", "--no-print-directory", f"-j{len(os.sched_getaffinity(0))}", *sorted({f"machine-{it.made_by}" for it in machines})]
     run = subprocess.run(command, cwd=TOP, capture_output=True, text=True, timeout=SECONDS)
     return [] if run.returncode == 0 else [f"{' '.join(command)}: status {run.returncode}", *(run.stdout + run.stderr).splitlines()[-14:]]
 

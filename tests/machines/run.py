@@ -14,8 +14,8 @@ from pathlib import Path
 HERE = Path(__file__).resolve().parent
 sys.path[:0] = [str(HERE), str(HERE.parent)]
 from checking import tally  # noqa: E402
-from checks import reason_for, tried  # noqa: E402
-from machines import MACHINES  # noqa: E402
+from checks import tried  # noqa: E402
+from machines import MACHINES, make  # noqa: E402
 
 
 def main():
@@ -25,9 +25,10 @@ def main():
     parser.add_argument("--files", nargs="*", type=Path, default=[])
     arguments = parser.parse_args()
     chosen = [it for it in MACHINES if it.name in arguments.machine]
-    reasons = [(it.name, lambda it=it: [reason_for(it)]) for it in chosen if reason_for(it)]
-    there = [it for it in chosen if not reason_for(it)]
-    counts = [tally("machine", reasons), tally("machine", tried(there, arguments.program.resolve(), arguments.files))]
+    reasons = [(it.name, lambda it=it: [it.lacking()]) for it in chosen if it.lacking()]
+    there = [it for it in chosen if not it.lacking()]
+    made = [("made", lambda: make(there))]
+    counts = [tally("machine", found) for found in (reasons, made, tried(there, arguments.program.resolve(), arguments.files))]
     passed, failed = (sum(column) for column in zip(*counts))
     print(f"{passed} passed, {failed} failed")
     return 1 if failed else 0

@@ -1,5 +1,5 @@
-"""Memory that runs out at each growth of runs over short files, of those that refuse their words or show help, and of runs over random files; and
-memory that doesn't grow with the input (see tests/run.py). tests/memory/run.py refuses the growths of longer runs, in some minutes."""
+"""Memory that runs out at each growth of runs over short files, of those that refuse their words or show help, and of runs over random files; the
+lines at which it does; and memory that doesn't grow with the input (see tests/run.py). tests/memory/run.py refuses the growths of longer runs, in some minutes."""
 
 import os
 import shutil
@@ -13,6 +13,7 @@ sys.path.insert(0, str(Path(__file__).parent))
 sys.path.insert(0, str(Path(__file__).parents[1] / "process"))
 from cases import DATED, FIVE, H, K, text  # noqa: E402
 from at_random import over_files  # noqa: E402
+from places import named_over_files  # noqa: E402
 from run import OVER, SHORT, STEADY, Program, Run, runs, steady, tried, without_date  # noqa: E402
 
 HEADER = Run("a header alone", DATED, text(*H))
@@ -23,6 +24,7 @@ WHOLE = without_date(text(*K, *H))
 MOST = 1000  # growths that are refused in turn, far more than there are
 BUFFER = 65536  # bytes of a buffer that output goes through
 FILES, SEED = 20, 1  # random files over which each growth is refused
+PLACED = 4  # of them, those over which the line of code 22 is looked at
 
 
 def error_at(line):
@@ -94,6 +96,14 @@ def at_random(program):
     return wrong[:10] + ([] if points > 100 * FILES else [f"{points} growths alone"])
 
 
+def lines_named(program):
+    """What is wrong with the lines that code 22 names over random files, as lines: memory is asked for at few of them."""
+    if not (os.environ.get("CC") or shutil.which("rt")):
+        return "neither rt nor CC"
+    points, wrong = named_over_files(program, PLACED)
+    return wrong[:10] + ([] if points > 50 * PLACED else [f"{points} growths alone"])
+
+
 def types_lines(system, count):
     """The types lines of a system that has so many types, thirteen of them a line."""
     parts = [min(13, count - start) for start in range(0, count, 13)]
@@ -132,6 +142,7 @@ def checks(program):
     yield "the memory of a buffer, refused before a file is made", lambda: with_program(program, buffers_refused)
     yield "short files, words and help, each growth refused in turn", lambda: with_program(program, short_runs)
     yield f"{FILES} random files, each growth refused in turn", lambda: at_random(program)
+    yield f"{PLACED} random files, the lines that code 22 names", lambda: lines_named(program)
     for name in STEADY:
         for over in OVER:
             check = partial(with_program, program, lambda it, name=name, over=over: steady(it, name, over)[0])

@@ -11,7 +11,8 @@ import sys
 import tempfile
 from pathlib import Path
 
-sys.path.insert(0, str(Path(__file__).parent))
+sys.path[:0] = [str(Path(__file__).parent), str(Path(__file__).parents[1])]
+import prove  # noqa: E402
 from empty_root import check_archive_in_empty_root, check_in_empty_root  # noqa: E402
 from found import check_found, check_lintian, check_sums, check_wheel  # noqa: E402
 from names import check_names, check_quoted  # noqa: E402
@@ -155,7 +156,9 @@ def check_unpacked(prefix, doc):
     wrong += check_tool(prefix)
     parts = json.loads((prefix / "share/doc/rnxcmp/parts.spdx.json").read_text())
     found = {part["name"]: part["versionInfo"] for part in parts["packages"]}
-    return wrong + ([] if found.get("rnxcmp") == VERSION and found.get("glibc") else [f"parts {found}"])
+    wrong += [] if found.get("rnxcmp") == VERSION and found.get("glibc") and found.get("rattle") == prove.version() else [f"parts {found}"]
+    notices = next(path for name in ("NOTICES", "copyright") if (path := prefix / "share/doc/rnxcmp" / name).exists())
+    return wrong + ([] if re.search(rf"^rattle +{prove.version()}  ", notices.read_text(), re.M) else [f"{notices.name} doesn't name the kit"])
 
 
 def check_archive(made_in, folder):

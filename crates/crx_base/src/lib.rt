@@ -5,9 +5,11 @@
 pub mod fault;
 pub mod laws;
 pub mod limits;
+pub mod memory;
 pub mod options;
 pub mod padded;
 
 pub use fault::{At, Fault};
+pub use memory::Refused;
 pub use options::{BadDate, Options};
 pub use padded::{PADDING, Padded, PaddedCopy};

@@ -5,6 +5,7 @@ ghost use Rattle.crx_command.specs.declared.job.UsageFault.TheVariants as usage_
 ghost use Rattle.crx_command.specs.Usage.{subject_of_usage, words_of_usage};
 
 use crate::word::Word;
+use crx_base::Refused;
 use std::alloc::AllocError;
 use thiserror::Error;
 
@@ -93,6 +94,15 @@ impl UsageFault {
     }
 }
 
+impl From<Refused> for UsageFault {
+    ghost from_gives = { λ _ fault. fault ≡ usage_fault.Memory };
+
+    fn from(_refused: Refused) -> UsageFault {
+        UsageFault::Memory
+    }
+}
+
+/// For clap's refusals, which come as `AllocError`.
 impl From<AllocError> for UsageFault {
     ghost from_gives = { λ _ fault. fault ≡ usage_fault.Memory };
 

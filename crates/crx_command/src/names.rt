@@ -5,7 +5,8 @@ ghost use Rattle.crx_command.specs.meaning.Names.{ends_in_year, output_name};
 
 use crate::job::Tool;
 use crate::word::Word;
-use std::alloc::{AllocError, Global};
+use crx_base::Refused;
+use std::alloc::Global;
 
 /// An ending of a file that is read, and the one of the file that is written from it.
 struct Ending {
@@ -79,7 +80,7 @@ fn ends_in_year(stem: &str) -> bool
 /// `rnx2crx` makes `.crx` of `.rnx`, `.CRX` of `.RNX`, and after a point and a year in two digits
 /// `d` of `o` and `D` of `O`, as `abcd0010.24d` of `abcd0010.24o`; `crx2rnx` goes the other way.
 /// `None` comes for any other name, and for each name with `check`.
-pub fn output_name(alloc: Global, tool: Tool, name: &str) -> Result<Option<Word>, AllocError>
+pub fn output_name(alloc: Global, tool: Tool, name: &str) -> Result<Option<Word>, Refused>
     ensures value { IfOk result (λ target. target ≡ output_name tool name.now) }
 {
     let endings: &[Ending] = match tool {

@@ -1,9 +1,8 @@
 //! From the arguments to what is to be done.
 
-ghost use Rattle.std.specs.Prelude.{◌≡◌, ◌∷◌, IfOk, IfSome, [], drop, find, map, option_map, string_bytes, unwrap_or};
+ghost use Rattle.std.specs.Prelude.{◌≡◌, IfOk, IfSome, drop, find, map, option_map, string_bytes};
 ghost use Rattle.std.specs.Vec.Iter.{into_iter_items};
 ghost use Rattle.clap.specs.Words.{found_of, rows_of};
-ghost use Rattle.crx_command.specs.declared.job.Tool.TheVariants.{Check};
 ghost use Rattle.crx_command.specs.meaning.Planning.{given_in, is_file, is_set, job_of, decide, plan_of, tool_named};
 ghost use Rattle.crx_command.specs.Planning.{given_of, plan_in};
 
@@ -13,7 +12,7 @@ use crate::names::output_name;
 use crate::word::Word;
 use clap::ArgMatches;
 use clap::error::ErrorKind;
-use crx_base::Options;
+use crx_base::{Options, Refused};
 use std::alloc::{AllocError, Global};
 use std::env::Args;
 
@@ -29,23 +28,6 @@ struct Arguments<'a> {
     skip: bool,
     force: bool,
     date: Option<&'a str>,
-}
-
-impl Arguments<'_> {
-    /// Nothing.
-    fn none() -> Self
-        ensures { given_of result ≡ given_in [] }
-    {
-        Arguments {
-            dashes: 0,
-            files: 0,
-            file: None,
-            every: None,
-            skip: false,
-            force: false,
-            date: None,
-        }
-    }
 }
 
 /// The first name that isn't `-`.
@@ -88,7 +70,7 @@ fn arguments_of<'a>(found: &ArgMatches<'a>) -> Arguments<'a>
 }
 
 /// A copy of a text, where there is one.
-fn copied(alloc: Global, text: Option<&str>) -> Result<Option<Word>, AllocError>
+fn copied(alloc: Global, text: Option<&str>) -> Result<Option<Word>, Refused>
     ensures { IfOk result (λ word. word ≡ option_map (λ text. text.now) text.entry) }
 {
     match text {
@@ -104,7 +86,7 @@ fn job(
     given: &Arguments<'_>,
     source: Option<&str>,
     target: Option<Word>,
-) -> Result<Job, AllocError>
+) -> Result<Job, Refused>
     ensures { IfOk result
         (λ job. job ≡ job_of tool (given_of given.now) (option_map (λ name. name.now) source.entry) target) }
 {
@@ -147,17 +129,14 @@ fn decide_for(alloc: Global, tool: Tool, given: &Arguments<'_>) -> Result<Decisi
     }
 }
 
-/// What a subcommand does; `None` where no subcommand has the name. Where the name is the only word,
-/// `plan_of` is what the tool does with nothing given.
-fn tool_named(name: &str) -> Option<Tool>
-    ensures value { unwrap_or result Check ≡ tool_named name.now }
-    ensures alone { IfSome result (λ tool. plan_of (name.now ∷ []) ≡ decide tool (given_in [])) }
+/// Returns the tool that a subcommand names.
+fn tool_named(name: &str) -> Tool
+    ensures { result ≡ tool_named name.now }
 {
     match name {
-        "rnx2crx" => Some(Tool::Compact),
-        "crx2rnx" => Some(Tool::Expand),
-        "check" => Some(Tool::Check),
-        _ => None,
+        "rnx2crx" => Tool::Compact,
+        "crx2rnx" => Tool::Expand,
+        _ => Tool::Check,
     }
 }
 
@@ -183,13 +162,6 @@ pub fn words_given(alloc: Global, arguments: Args) -> Result<Vec<String>, AllocE
 pub fn plan(alloc: Global, words: Vec<String>) -> Result<Decision, UsageFault>
     ensures value { IfSome (plan_in result) (λ plan. plan ≡ plan_of (map string_bytes words.items)) }
 {
-    // In a pipe a subcommand often is the only word. The parser takes some 30,000 instructions, a fifth of a
-    // run over 1.4 KB.
-    if words.len() == 1 {
-        if let Some(tool) = tool_named(words[0].as_str()) {
-            return decide_for(alloc, tool, &Arguments::none());
-        }
-    }
     let matches = match command(alloc)?.try_get_matches_from(words.as_slice()) {
         Ok(matches) => matches,
         Err(error) => match error.kind() {
@@ -201,6 +173,5 @@ pub fn plan(alloc: Global, words: Vec<String>) -> Result<Decision, UsageFault>
     let Some((name, found)) = matches.subcommand() else {
         return Err(UsageFault::Parse(Word::new(alloc, "no subcommand\n")?));
     };
-    let tool = tool_named(name).unwrap_or(Tool::Check);
-    decide_for(alloc, tool, &arguments_of(found))
+    decide_for(alloc, tool_named(name), &arguments_of(found))
 }

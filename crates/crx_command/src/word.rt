@@ -3,6 +3,8 @@
 ghost use Rattle.std.specs.Prelude.{◌≡◌, ◌++◌, IfOk};
 ghost use Rattle.crx_command.specs.meaning.ErrorLines.{error_line};
 
+use crx_base::Refused;
+use crx_base::memory::append_text;
 use std::alloc::{AllocError, Global};
 use std::fmt;
 use std::marker::Model;
@@ -23,35 +25,35 @@ impl Model for Word {
 
 impl Word {
     /// A copy of a text.
-    pub fn new(alloc: Global, text: &str) -> Result<Word, AllocError>
+    pub fn new(alloc: Global, text: &str) -> Result<Word, Refused>
         ensures value { IfOk result (λ w. w ≡ text.now) }
     {
-        Ok(Word {
-            text: String::from_str(alloc, text)?,
-        })
+        Word::joined(alloc, text, "")
     }
 
     /// A text with another one after it.
-    pub fn joined(alloc: Global, start: &str, end: &str) -> Result<Word, AllocError>
+    pub fn joined(alloc: Global, start: &str, end: &str) -> Result<Word, Refused>
         ensures value { IfOk result (λ w. w ≡ start.now ++ end.now) }
     {
-        let mut text = String::from_str(alloc, start)?;
-        text.push_str(end)?;
+        let mut text = String::new(alloc);
+        append_text(&mut text, start)?;
+        append_text(&mut text, end)?;
         Ok(Word { text })
     }
 
     /// The line of an error, as `ERROR: file exists: a.crx`, with its LF: what is wrong, and a name.
-    pub fn error_line(alloc: Global, words: &str, name: &str) -> Result<Word, AllocError>
+    pub fn error_line(alloc: Global, words: &str, name: &str) -> Result<Word, Refused>
         ensures value { IfOk result (λ w. w ≡ error_line words.now name.now) }
     {
-        let mut text = String::from_str(alloc, "ERROR: ")?;
-        text.push_str(words)?;
-        text.push_str(name)?;
-        text.push_str("\n")?;
+        let mut text = String::new(alloc);
+        append_text(&mut text, "ERROR: ")?;
+        append_text(&mut text, words)?;
+        append_text(&mut text, name)?;
+        append_text(&mut text, "\n")?;
         Ok(Word { text })
     }
 
-    /// What a value shows of itself.
+    /// Returns the text that clap shows for an error or for its help; the refusal is clap's.
     pub fn shown<T: fmt::Display>(alloc: Global, value: &T) -> Result<Word, AllocError> {
         Ok(Word {
             text: format!(in alloc; "{value}")?,

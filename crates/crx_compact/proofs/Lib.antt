@@ -18,7 +18,6 @@ pub mod Identifiers
 pub mod Marks
 pub mod Naming
 mod NamedAgain
-mod Marked
 pub mod Results
 pub mod ShownEpochs
 pub mod ShownRows
@@ -31,7 +30,6 @@ mod Justified
 pub mod Lists
 pub mod AlikeFrom
 pub mod PrintedBlocks
-mod ReadingRooms
 mod SatelliteLines
 pub mod Resizing
 pub mod CellsFor

@@ -4,7 +4,7 @@ use Rattle.crx_compact.proofs.Words.{rules, ◌≡◌, ◌≤◌, ◌+◌, ◌*�
 use Rattle.crx_compact.proofs.Words.{sym, refl, replicate, subst, length-map, HEAD_WIDTH, NAME_WIDTH}
 use Rattle.crx_compact.proofs.Words.{at, columns, patched, at-without_end_blanks}
 use Rattle.crx_compact.proofs.Words.{columns-are, length-columns, Count, types_of_satellite}
-use Rattle.crx_compact.proofs.Words.{IsAwaitedSatellite, Satellite, names_in, satellites_named, HasRoom}
+use Rattle.crx_compact.proofs.Words.{IsAwaitedSatellite, Satellite, names_in, satellites_named}
 use Rattle.crx_compact.proofs.Words.{PlacedRows, padded_among, satellite_of, RowTail, All-head, All-tail}
 use Rattle.crx_compact.proofs.{Words.each_place-same, EpochLines.named-again, wayback.Overlays.at_past}
 use Rattle.crx_compact.proofs.{PlaceByPlace.{at-padded, at-take}, Characters.at-by_position}
@@ -44,6 +44,4 @@ read-again types text count old new come counted named awaited =
     let typed =
     All-map (λ (s : Satellite). types_of_satellite types s.name ≡ Some s.count) satellite_of old.rest
     (λ i d within. (come.again i d within).typed) in
-    let room = All-map (λ (s : Satellite). HasRoom s.name s.count new.rooms) satellite_of old.rest
-    (λ i d within. subst (HasRoom _ _) (sym come.rooms) (come.again i d within).room) in
-    search (rules, length-map, named-again, own-rows types old old.rest come.again, room)
+    search (rules, length-map, named-again, own-rows types old old.rest come.again)

@@ -5,10 +5,8 @@ use Rattle.crx_compact.proofs.Words.{IsAwaitedSatellite, Satellite, PlacedRows, 
 use Rattle.crx_header.specs.meaning.Satellites.{is_identifier}
 use Rattle.crx_header.proofs.Apart.{among-map}
 use Rattle.crx_compact.proofs.placing.SteppedRows.{IsLastStored}
-use Rattle.crx_compact.specs.{EpochLinesRead.AreSatellitesRefused}
 use Rattle.crx_compact.specs.{Placing.{HasCome, IsLeftAt, SatelliteTail, resized, row_tail_of}}
-use Rattle.crx_compact.proofs.{ComeRows.{AreAwaited, awaited-after, come-padded}, Results.no-err}
-use Rattle.crx_compact.proofs.Words.{Err, Fault, KeepsRooms, OutOfMemory, Result, false≢true, is_ok, ◌⊎◌}
+use Rattle.crx_compact.proofs.{ComeRows.{AreAwaited, awaited-after, come-padded}}
 
 -- whether a satellite has come, by the rows that have
 pub among-rows : (before rows : List RowTail) (found : List Satellite) (name : List ℕ) (b : Bool)
@@ -20,7 +18,6 @@ among-rows before rows found name b made answer = grind (arith, among-map)
 pub record HasNameCome (before : List RowTail) (found : List Satellite) (mid new : PlacedRows) : Type 0 where
   pub rows : new.rows ≡ map (padded_among before) found
   pub awaited : AreAwaited (λ (s : Satellite). s.name) found before new.rest
-  pub rooms : new.rooms ≡ mid.rooms
 
 pub name-comes : (before : List RowTail) (found : List Satellite) (name : List ℕ) (count place : ℕ)
     (old mid new : PlacedRows) (satellite left : SatelliteTail)
@@ -39,7 +36,6 @@ name-comes before found name count place old mid new satellite left made awaited
       awaited = subst (λ (p : PlacedRows). AreAwaited (λ (s : Satellite). s.name) (found ++ own ∷ [])
           before p.rest)
           (sym changed) (awaited-after (λ (s : Satellite). s.name) found own before old mid awaited has);
-      rooms = ap (λ (p : PlacedRows). p.rooms) changed;
     }
 
 -- an identifier of a system with types, as it is read from a text
@@ -47,15 +43,3 @@ pub awaited-one : (name text : List ℕ) (first count : ℕ) → name ≡ column
     → is_identifier (columns name 1 3) ≡ true → IsAllowedCount count
     → IsAwaitedSatellite (record { name = name; count = count })
 awaited-one name text first count is named allowed = grind arith
-
--- ---- refusals
-
--- where there is a fault, no room was asked for
-pub unasked : {X Y : Type 0} (made : Result X Fault) (fault : Fault) → made ≡ Err fault
-    → (is_ok made ≡ true) ⊎ Y → Y
-unasked made fault is asked = search (rules, false≢true, is_ok)
-
-pub refused-by : (fault : Fault) (made : Result (List Satellite) Fault) (old new : PlacedRows)
-    → (fault ≡ OutOfMemory → ⊥) → made ≡ Err fault → KeepsRooms new.rooms old.rooms
-    → AreSatellitesRefused made old new fault
-refused-by fault made old new other is back = search (rules, unasked, no-err)

@@ -24,11 +24,10 @@ pub use Rattle.crx_compact.specs.OpenEpochs.{first_step, ColumnsState, epoch_aft
 pub use Rattle.crx_compact.specs.OpenEpochs.{tail_held, HasPrintedLines, whole_or_awaiting, raw_step_with_row}
 pub use Rattle.crx_compact.specs.OpenLines.{columns_state, step_at}
 pub use Rattle.crx_compact.specs.Placing.{IsRowRead, OpenHistory, tail_of_history, IsAnnounced, satellite_of}
-pub use Rattle.crx_compact.specs.Placing.{PlacedRows, row_or_blank, HasRoom, HaveTypesRoom, HaveRoom, HasCome}
+pub use Rattle.crx_compact.specs.Placing.{PlacedRows, row_or_blank, HasRoom, HaveRoom, HasCome}
 pub use Rattle.crx_compact.specs.Placing.{row_of_parts, padded_among, KeepsRooms, padded}
 pub use Rattle.crx_compact.specs.PrintedBlocks.{lines_to}
 pub use Rattle.crx_compact.specs.ReadingLaws.{HasSingleLines, Forgets}
-pub use Rattle.crx_compact.specs.ReadingRooms.{HeldColumns}
 pub use Rattle.crx_compact.specs.RowsSoFar.{AreAnnounced, NamesSatellites}
 pub use Rattle.crx_compact.specs.ShownRows.{shown_epoch, shown_row}
 pub use Rattle.crx_compact.specs.Steps.{flags_held, row_line_after, row_line_in, row_tail_after, row_tail_in}

@@ -5,4 +5,3 @@ pub mod Running
 pub mod Stepping
 pub mod Bounds
 pub mod Arcs
-pub mod Parts

@@ -1,5 +1,5 @@
 -- The tail of an arc: what its later values and codes need of the earlier ones.
-use Rattle.std.specs.Prelude.{ℕ, suc, ◌-◌, min, ℤ, List, [], ◌∷◌, length, Option, Some, None, ◌≤◌, ◌+◌}
+use Rattle.std.specs.Prelude.{ℕ, suc, ◌-◌, min, ℤ, List, [], ◌∷◌, length, Option, Some, None, ◌≤◌, ◌+◌, ◌≡◌}
 use Rattle.crx_text.specs.meaning.EachPlace.{each_place}
 use Rattle.crx_compact.specs.meaning.Differences.{difference, value_at}
 use Rattle.crx_compact.specs.meaning.ArcValues.{Started}
@@ -30,3 +30,8 @@ started_tail (Some arc) = arc_tail arc.order (values_of arc.order arc.numbers)
 pub record IsBoundedArc (limit : ℕ) (arc : ArcTail) : Type 0 where
   pub order : arc.order ≤ limit
   pub few : length arc.differences ≤ arc.order + 1
+
+-- an arc of order 3 that has all of its differences, as most arcs have from their fourth value on
+abbrev pub HasThird : Option ArcTail → Type 0
+HasThird None = ⊥
+HasThird (Some arc) = (arc.order ≡ 3) × (length arc.differences ≡ 4)

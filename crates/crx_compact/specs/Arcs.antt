@@ -1,5 +1,5 @@
 -- An arc as code stores it: its order and its differences, and how large they may grow.
-use Rattle.std.specs.Prelude.{◌≡◌, ◌≤◌, ℕ, zero, suc, ◌-◌, ◌++◌, take, drop, slice_index_or, ◌+◌, ◌^◌, ℤ, pos, neg_ℤ, ◌<ℤ◌, List, [], ◌∷◌, Option, Some, None}
+use Rattle.std.specs.Prelude.{◌≤◌, ℕ, suc, ◌+◌, ◌^◌, ℤ, pos, neg_ℤ, ◌<ℤ◌, List, [], ◌∷◌, Option, Some, None}
 use Rattle.crx_base.specs.declared.limits.TheConstants.{ORDER_LIMIT, CLOCK_WIDTH}
 use Rattle.crx_text.specs.meaning.Numbers.{IsWithin}
 use Rattle.crx_compact.specs.ArcTails.{ArcTail}
@@ -22,30 +22,6 @@ AreBelow bound (d ∷ ds) = IsBelow bound d × AreBelow (bound + bound) ds
 -- what no value of so many columns reaches, nor one of fewer
 abbrev pub value_bound : ℕ
 value_bound = 10 ^ 14
-
--- what no difference of an order reaches
-abbrev pub order_bound : ℕ → ℕ
-order_bound zero = value_bound
-order_bound (suc k) = order_bound k + order_bound k
-
--- the first part of an arc: its order, how many differences it has, and those of order 0 to 3 that it has
-pub record NearArc : Type 0 where
-  pub order : ℕ
-  pub count : ℕ
-  pub differences : List ℤ
-
--- a first part of order 3 with all four differences, as most arcs have from their fourth value on
-abbrev pub HasThird : NearArc → Type 0
-HasThird near = (near.order ≡ 3) × (near.count ≡ 4)
-
--- the arc of a first part and a second one, of which only as many numbers count as the arc has differences
-abbrev pub whole_arc : NearArc → List ℤ → Option ArcTail
-whole_arc near far = kept_tail near.order (near.differences ++ take (near.count - 4) far)
-
--- the arcs of some first parts, and of the second parts at the same places: one that lacks has no numbers
-abbrev pub whole_arcs : List NearArc → List (List ℤ) → List (Option ArcTail)
-whole_arcs [] fars = []
-whole_arcs (near ∷ nears) fars = whole_arc near (slice_index_or fars 0 []) ∷ whole_arcs nears (drop 1 fars)
 
 -- the newest value, where there is one, fits its columns
 abbrev pub IsNewestWithin : ℕ → List ℤ → Type 0

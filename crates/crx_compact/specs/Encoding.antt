@@ -10,14 +10,13 @@ use Rattle.crx_rinex.specs.meaning.EpochLines.{ObservationHead}
 use Rattle.crx_rinex.specs.meaning.Observations.{Row}
 
 -- the tail of the epochs before, or none; whether an epoch is open, and then whether it was asked for in full, and its rows so far; the
--- lines that are pending; and for how many types of each known satellite there is room
+-- lines that are pending
 pub record EncoderState : Type 0 where
   pub before : Option Tail
   pub is_open : Bool
   pub in_full : Bool
   pub rows : List Row
   pub pending : List (List ℕ)
-  pub rooms : List (List ℕ × ℕ)
 
 -- every epoch is forgotten, and these lines are pending
 abbrev pub forgotten : EncoderState → List (List ℕ) → EncoderState
@@ -33,7 +32,6 @@ pub record EndsEpoch (head : ObservationHead) (old new : EncoderState) : Type 0 
   pub before : new.before ≡ Some (tail_after (tail_in old) (epoch_by_rows head old.rows))
   pub closed : new.is_open ≡ false
   pub rows : new.rows ≡ []
-  pub rooms : new.rooms ≡ old.rooms
 
 -- a tail, where one is kept
 abbrev pub tail_or_none : Bool → Tail → Option Tail

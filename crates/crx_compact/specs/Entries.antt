@@ -20,7 +20,7 @@ rooms_of entries = map room_of_entry entries
 
 -- the entry at an index
 abbrev pub entry_at : List Entry → ℕ → Entry
-entry_at entries index = slice_index_or entries index ([], record { flags = []; cells = []; room = 0; far_room = 0 })
+entry_at entries index = slice_index_or entries index ([], record { flags = []; cells = []; room = 0 })
 
 -- the entries in an order of their indices
 abbrev pub in_order : List ℕ → List Entry → List Entry

@@ -14,8 +14,7 @@ use Rattle.crx_rinex.specs.declared.rows_so_far.RowsSoFar.{RowsSoFar}
 abbrev pub satellite_with : SatelliteHistoryInside → SatelliteHistoryInside → SatelliteHistoryInside
 satellite_with one other = record one {
   indicators = other.indicators;
-  near = other.near;
-  far = other.far;
+  arcs = other.arcs;
   count = other.count;
 }
 

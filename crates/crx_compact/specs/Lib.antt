@@ -16,7 +16,6 @@ pub mod Placing
 pub mod Entries
 pub mod Blocks
 pub mod PrintedBlocks
-pub mod ReadingRooms
 pub mod Coded
 pub mod Laws
 pub mod AnyWriter

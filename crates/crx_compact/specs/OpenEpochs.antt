@@ -90,12 +90,6 @@ pub data RawStep : Type 0 where
   Whole : HeldEpoch → RawStep
   Faulty : Fault → RawStep
 
--- whether a line has a fault
-abbrev pub is_faulty : RawStep → Bool
-is_faulty (Going begun) = false
-is_faulty (Whole held) = false
-is_faulty (Faulty fault) = true
-
 -- whether a line is the last one of its epoch
 abbrev pub makes_epoch : RawStep → Bool
 makes_epoch (Going begun) = false

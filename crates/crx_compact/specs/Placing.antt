@@ -26,13 +26,12 @@ use Rattle.crx_header.specs.meaning.Satellites.{is_among, types_of_satellite}
 use Rattle.crx_text.specs.Texts.{patched}
 use Rattle.crx_text.specs.meaning.Columns.{columns, without_end_blanks}
 
--- what is stored of a satellite: its indicators without the blanks at their end, the tail of each cell's arc, how
--- many types it has room for, and how many second parts of arcs
+-- what is stored of a satellite: its indicators without the blanks at their end, the tail of each cell's arc, and
+-- how many types it has room for
 pub record SatelliteTail : Type 0 where
   pub flags : List ℕ
   pub cells : List (Option ArcTail)
   pub room : ℕ
-  pub far_room : ℕ
 
 -- the row of a satellite by its identifier
 abbrev pub row_tail_of : List ℕ → SatelliteTail → RowTail
@@ -53,15 +52,13 @@ IndicatorsMatchRoom room indicators memory = (room ≤ TYPES_LIMIT) × (indicato
     × (memory ≤ 2 * TYPES_LIMIT)
 
 -- room for so many types was asked for: what is stored stays. After a refusal too there is no less room than
--- before, and never more than that or than was asked for. There is no refusal where there was as much
+-- before, and never more than that or than was asked for
 pub record AnswersRoom {E : Type 0} (count : ℕ) (old new : SatelliteTail) (answer : Result (Unit {0}) E) : Type 0 where
   pub flags : new.flags ≡ old.flags
   pub cells : new.cells ≡ old.cells
   pub room : OnOk answer (count ≤ new.room)
   pub kept : old.room ≤ new.room
   pub only : (new.room ≤ old.room) ⊎ (new.room ≤ count)
-  pub far_only : (new.far_room ≤ old.far_room) ⊎ (new.far_room ≤ count)
-  pub known : count ≤ old.room → IsOk answer
 
 -- indicators of so many types, for which the satellite has room
 pub record FitsFlags (count : ℕ) (flags : List ℕ) (satellite : SatelliteTail) : Type 0 where
@@ -199,7 +196,7 @@ pub record AnswersReading (line : List ℕ) (old new : SatelliteTail) (answer : 
   pub ok : OnOk answer ((name : List ℕ) → row_read (row_tail_of name old) line ≡ Ok (row_tail_of name new))
   pub err : IfErr answer (λ fault. (name : List ℕ) → row_read (row_tail_of name old) line ≡ Err fault)
   pub sized : length new.cells ≡ length old.cells
-  pub room : (new.room ≡ old.room) × (new.far_room ≡ old.far_room)
+  pub room : new.room ≡ old.room
 
 -- ---- the history
 
@@ -221,16 +218,6 @@ tail_of_history history =
 -- each row's satellite is known, and has room for the row's types
 abbrev pub HaveRoom : List Row → List (List ℕ × ℕ) → Type 0
 HaveRoom rows rooms = All (λ (row : Row). HasRoom row.name (length row.values) rooms) rows
-
--- each satellite is known, and has room for its types
-abbrev pub HaveTypesRoom : List Satellite → List (List ℕ × ℕ) → Type 0
-HaveTypesRoom satellites rooms = All (λ (s : Satellite). HasRoom s.name s.count rooms) satellites
-
--- the same of so many satellites of an epoch text, which have no fault
-abbrev pub HaveNamesRoom : List Count → List ℕ → ℕ → List (List ℕ × ℕ) → Type 0
-HaveNamesRoom types text count rooms = (place cells : ℕ) → place < count
-    → types_of_satellite types (columns text (HEAD_WIDTH + 1 + NAME_WIDTH * place) NAME_WIDTH) ≡ Some cells
-    → HasRoom (columns text (HEAD_WIDTH + 1 + NAME_WIDTH * place) NAME_WIDTH) cells rooms
 
 -- a row by its identifier, values and indicators
 abbrev pub row_of_parts : List ℕ → List (Option ℤ) → List ℕ → Row

@@ -15,10 +15,12 @@ ghost use Rattle.crx_compact.specs.declared.history.TheConstants.{EPOCH_TEXT_LIM
 use crate::cells::CELL_ROOM;
 use crate::history::EPOCH_TEXT_LIMIT;
 use crate::satellite::SatelliteHistory;
+use crx_base::Refused;
 use crx_base::limits::{NAME_WIDTH, SATELLITES_LIMIT, TYPES_LIMIT};
+use crx_base::memory::reserve_exact;
 use crx_text::Text;
 use crx_text::block::put_line;
-use std::alloc::{AllocError, Global};
+use std::alloc::Global;
 use std::marker::Model;
 use std::mem;
 
@@ -74,11 +76,13 @@ impl Model for Block {
 
 impl Block {
     /// No lines. This is the one call that asks for memory.
-    pub fn new(alloc: Global) -> Result<Block, AllocError>
+    pub fn new(alloc: Global) -> Result<Block, Refused>
         ensures empty { IfOk result (λ block. block ≡ no_lines) }
     {
-        let mut bytes = Vec::with_capacity(alloc, FRONT + LINES_LIMIT * LINE_ROOM)?;
-        let mut lengths = Vec::with_capacity(alloc, FIRST_LINES + LINES_LIMIT)?;
+        let mut bytes = Vec::new(alloc);
+        reserve_exact(&mut bytes, FRONT + LINES_LIMIT * LINE_ROOM)?;
+        let mut lengths = Vec::new(alloc);
+        reserve_exact(&mut lengths, FIRST_LINES + LINES_LIMIT)?;
         lengthen(&mut bytes, FRONT, b'\n');
         lengthen(&mut lengths, FIRST_LINES + LINES_LIMIT, 0);
         Ok(Block {

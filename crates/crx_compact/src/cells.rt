@@ -4,7 +4,6 @@ ghost use Rattle.std.specs.Prelude.{All, ◌≡◌, ◌≤◌, ◌<◌, ◌+◌,
 ghost use Rattle.crx_text.specs.meaning.Numbers.{IsValue};
 ghost use Rattle.crx_base.specs.declared.limits.TheConstants.{LINE_LIMIT, OBSERVATION_WIDTH};
 ghost use Rattle.crx_base.specs.Padded.{line_in};
-ghost use Rattle.crx_compact.specs.Arcs.{whole_arc, whole_arcs};
 ghost use Rattle.crx_compact.specs.ArcSteps.{arc_of_code, value_of_code};
 ghost use Rattle.crx_text.specs.Codes.{IsShort};
 ghost use Rattle.crx_compact.specs.declared.cells.TheConstants.{CELL_ROOM};
@@ -15,7 +14,7 @@ ghost use Rattle.crx_compact.specs.meaning.Cells.{cells_of, cells_read};
 ghost use Rattle.crx_base.specs.declared.fault.Fault.TheVariants.{BadField};
 ghost use Rattle.crx_text.specs.declared.code.Code.TheVariants.{Missing, Step};
 
-use crate::arc::{Far, Near};
+use crate::arc::ObsArc;
 use crx_base::limits::{DIGITS_LIMIT, OBSERVATION_WIDTH};
 use crx_base::{Fault, Padded};
 use crx_text::{
@@ -27,60 +26,30 @@ use crx_text::{
 pub const CELL_ROOM: usize = DIGITS_LIMIT + 6;
 
 /// Writes the code of an arc's next value and a blank from an index on, gives the index after them, and the
-/// arc goes on. It is called for the few values whose code isn't a difference of order 3. It is given all
-/// second parts and an index, since a loop that had the second part of each value would count on its place.
+/// arc goes on. It is called for the few values whose code isn't a difference of order 3.
 #[cold]
 #[inline(never)]
-fn write_value(
-    near: &mut Near<OBSERVATION_WIDTH>,
-    far: &mut [Far],
-    index: usize,
-    value: i64,
-    bytes: &mut [u8],
-    at: usize,
-) -> usize
+fn write_value(arc: &mut ObsArc, value: i64, bytes: &mut [u8], at: usize) -> usize
     requires value { IsValue (Some value) }
-    requires within { index < length far.old }
     requires room { at + CELL_ROOM ≤ length bytes.old }
-    ensures written { IsCellWritten (Some value) (whole_arc near.old (slice_index_or far.old index []))
-        (whole_arc near.new (slice_index_or far.new index [])) bytes.old at bytes.new result }
-    ensures others { far.new ≡ slice_set far.old index (slice_index_or far.new index []) }
+    ensures { IsCellWritten (Some value) arc.old arc.new bytes.old at bytes.new result }
 {
-    let code = near.push(&mut far[index], Some(value));
+    let code = arc.push(Some(value));
     write_cell(bytes, at, code)
-}
-
-/// Adds second parts of arcs, up to those of so many types, for which there is memory.
-#[cold]
-#[inline(never)]
-fn keep_far(far: &mut Vec<Far>, count: usize)
-    requires memory { count ≤ vec_capacity far.old }
-    ensures kept { take (length far.old.items) far.new.items ≡ far.old.items }
-    ensures many { length far.new.items ≡ max count (length far.old.items) }
-    ensures memory { vec_capacity far.new ≡ vec_capacity far.old }
-{
-    while far.len() < count {
-        far.push_reserved(Far::new());
-    }
 }
 
 /// Has the arcs of the first so many types be there, for which there is memory: any others are over, and new
 /// ones have no values.
 #[cold]
 #[inline(never)]
-fn keep_arcs(near: &mut Vec<Near<OBSERVATION_WIDTH>>, far: &mut Vec<Far>, count: usize)
-    requires memory { (count ≤ vec_capacity near.old) × (count ≤ vec_capacity far.old) }
-    requires apart { length near.old.items ≤ length far.old.items }
-    ensures kept { whole_arcs near.new.items far.new.items
-        ≡ cells_for count (whole_arcs near.old.items far.old.items) }
-    ensures counted { (length near.new.items ≡ count) × (count ≤ length far.new.items) }
-    ensures memory { (vec_capacity near.new ≡ vec_capacity near.old)
-        × (vec_capacity far.new ≡ vec_capacity far.old) }
+fn keep_arcs(arcs: &mut Vec<ObsArc>, count: usize)
+    requires memory { count ≤ vec_capacity arcs.old }
+    ensures kept { arcs.new.items ≡ cells_for count arcs.old.items }
+    ensures memory { vec_capacity arcs.new ≡ vec_capacity arcs.old }
 {
-    keep_far(far, count);
-    near.truncate(count);
-    while near.len() < count {
-        near.push_reserved(Near::new());
+    arcs.truncate(count);
+    while arcs.len() < count {
+        arcs.push_reserved(ObsArc::new());
     }
 }
 
@@ -93,8 +62,7 @@ fn keep_arcs(near: &mut Vec<Near<OBSERVATION_WIDTH>>, far: &mut Vec<Far>, count:
 /// call and without asking which code it is.
 #[inline(always)]
 pub(crate) fn write_cells(
-    near: &mut Vec<Near<OBSERVATION_WIDTH>>,
-    far: &mut Vec<Far>,
+    arcs: &mut Vec<ObsArc>,
     values: &[Option<i64>],
     filled: usize,
     bytes: &mut [u8],
@@ -102,36 +70,31 @@ pub(crate) fn write_cells(
 ) -> usize
     requires values { All IsValue values.now }
     requires missing { AreMissingFrom filled values.now }
-    requires memory { (length values.now ≤ vec_capacity near.old)
-        × (length values.now ≤ vec_capacity far.old) }
-    requires apart { length near.old.items ≤ length far.old.items }
+    requires memory { length values.now ≤ vec_capacity arcs.old }
     requires few { length values.now ≤ LINE_LIMIT }
     requires room { at + CELL_ROOM * length values.now ≤ length bytes.old }
-    ensures written { AreCellsWritten values.now (whole_arcs near.old.items far.old.items)
-        (cells_for (length values.now) (whole_arcs near.new.items far.new.items)) bytes.old at bytes.new
-        result }
-    ensures arcs { (length near.new.items ≡ filled) × (filled ≤ length far.new.items) }
-    ensures memory { (vec_capacity near.new ≡ vec_capacity near.old)
-        × (vec_capacity far.new ≡ vec_capacity far.old) }
+    ensures written { AreCellsWritten values.now arcs.old.items
+        (cells_for (length values.now) arcs.new.items) bytes.old at bytes.new result }
+    ensures arcs { length arcs.new.items ≡ filled }
+    ensures memory { vec_capacity arcs.new ≡ vec_capacity arcs.old }
 {
-    if near.len() != filled {
-        keep_arcs(near, far, filled);
+    if arcs.len() != filled {
+        keep_arcs(arcs, filled);
     }
-    let near = near.as_mut_slice();
-    let far = far.as_mut_slice();
+    let arcs = arcs.as_mut_slice();
     let there = &values[..filled];
     let mut end = at;
     for index in 0..there.len() {
-        let near = &mut near[index];
+        let arc = &mut arcs[index];
         let Some(value) = there[index] else {
-            near.end();
+            arc.end();
             bytes[end] = b' ';
             end += 1;
             continue;
         };
-        end = match near.push_third(value) {
+        end = match arc.push_third(value) {
             Some(difference) => write_difference(bytes, end, difference),
-            None => write_value(near, far, index, value, bytes, end),
+            None => write_value(arc, value, bytes, end),
         };
     }
     let blanks = end + (values.len() - filled);
@@ -143,47 +106,31 @@ pub(crate) fn write_cells(
 /// the index after the cell and its blank, and is called for the few cells that [`read_cell_fast`] doesn't
 /// read.
 ///
-/// `BadField` comes where the cell is no code, `NoArc` and `OutOfRange` come as by [`Near::apply`].
+/// `BadField` comes where the cell is no code, `NoArc` and `OutOfRange` come as by [`ObsArc::apply`].
 #[inline(never)]
-fn read_cell(
-    near: &mut [Near<OBSERVATION_WIDTH>],
-    far: &mut [Far],
-    index: usize,
-    text: &[u8],
-) -> Result<usize, Fault>
-    requires within { index < length near.old }
-    requires apart { index < length far.old }
-    ensures { AnswersCell index text.now (whole_arcs near.old far.old) (whole_arcs near.new far.new) result }
+fn read_cell(arcs: &mut [ObsArc], index: usize, text: &[u8]) -> Result<usize, Fault>
+    requires within { index < length arcs.old }
+    ensures { AnswersCell index text.now arcs.old arcs.new result }
 {
     let Ok((code, length)) = code_before_blank(text) else {
         return Err(Fault::BadField);
     };
-    near[index].apply(&mut far[index], code)?;
+    arcs[index].apply(code)?;
     Ok(length)
 }
 
 /// The value that a difference gives, after which the arc goes on. `None` comes where the value has a fault;
 /// after it the arc is as it was. It is called for the few differences that aren't of order 3, or whose value
-/// doesn't fit. In the loop over the cells the place for the answer of [`Near::apply`] would be cleared for
-/// each cell. It is given all second parts and an index, as [`write_value`] is.
+/// doesn't fit. In the loop over the cells the place for the answer of [`ObsArc::apply`] would be cleared for
+/// each cell.
 #[inline(never)]
-fn apply_step(
-    near: &mut Near<OBSERVATION_WIDTH>,
-    far: &mut [Far],
-    index: usize,
-    number: i64,
-) -> Option<i64>
-    requires short { IsShort number }
-    requires within { index < length far.old }
-    ensures step { MatchOption result (whole_arc near.new (slice_index_or far.new index [])
-        ≡ whole_arc near.old (slice_index_or far.old index []))
-        (λ value. (value_of_code OBSERVATION_WIDTH (Step number)
-        (whole_arc near.old (slice_index_or far.old index [])) ≡ Ok (Some value))
-        × (whole_arc near.new (slice_index_or far.new index [])
-        ≡ arc_of_code (Step number) (whole_arc near.old (slice_index_or far.old index [])))) }
-    ensures others { far.new ≡ slice_set far.old index (slice_index_or far.new index []) }
+fn apply_step(arc: &mut ObsArc, number: i64) -> Option<i64>
+    requires { IsShort number }
+    ensures { MatchOption result (arc.new ≡ arc.old)
+        (λ value. (value_of_code OBSERVATION_WIDTH (Step number) arc.old ≡ Ok (Some value))
+        × (arc.new ≡ arc_of_code (Step number) arc.old)) }
 {
-    match near.apply(&mut far[index], Code::Step(number)) {
+    match arc.apply(Code::Step(number)) {
         Ok(Some(value)) => Some(value),
         _ => None,
     }
@@ -198,34 +145,26 @@ fn apply_step(
 /// The blank behind the line makes the last cell one like the others. This saves some 7 percent of the time
 /// of expanding lines of four types, and two mispredicted branches a line.
 #[inline(always)]
-fn read_cell_fast(
-    near: &mut [Near<OBSERVATION_WIDTH>],
-    far: &mut [Far],
-    index: usize,
-    line: Padded<'_>,
-    at: usize,
-) -> Option<usize>
-    requires within { index < length near.old }
-    requires apart { index < length far.old }
+fn read_cell_fast(arcs: &mut [ObsArc], index: usize, line: Padded<'_>, at: usize) -> Option<usize>
+    requires within { index < length arcs.old }
     requires before { at ≤ length (line_in line) }
-    ensures { MayReadCell index (drop at (line_in line.entry)) (whole_arcs near.old far.old)
-        (whole_arcs near.new far.new) result }
+    ensures { MayReadCell index (drop at (line_in line.entry)) arcs.old arcs.new result }
 {
     let characters = cell_length(line, at);
     let taken = characters + usize::from(at + characters < line.len());
-    let near = &mut near[index];
+    let arc = &mut arcs[index];
     // Most cells aren't empty, so that is asked of the others alone: two instructions less for each.
     let Some(number) = step_of_length(line, at, characters) else {
         if characters == 0 {
-            near.end();
+            arc.end();
             return Some(taken);
         }
         return None;
     };
-    if near.apply_third(number).is_some() {
+    if arc.apply_third(number).is_some() {
         return Some(taken);
     }
-    apply_step(near, far, index, number)?;
+    apply_step(arc, number)?;
     Some(taken)
 }
 
@@ -234,42 +173,36 @@ fn read_cell_fast(
 /// after the line than it has bytes, since each cell takes one, but for empty ones at its end.
 ///
 /// The first cell with a fault decides: `BadField` where its text is no code, then `NoArc` and `OutOfRange`
-/// as by [`Near::apply`]. The arcs before it have gone on then.
+/// as by [`ObsArc::apply`]. The arcs before it have gone on then.
 ///
 /// The calls for the few other cells are in the loop: a loop without calls, meant to keep all in registers,
 /// took more instructions (.2 a byte of RINEX, bench/README.md).
 #[inline(always)]
 pub(crate) fn read_cells(
-    near: &mut Vec<Near<OBSERVATION_WIDTH>>,
-    far: &mut Vec<Far>,
+    arcs: &mut Vec<ObsArc>,
     count: usize,
     line: Padded<'_>,
 ) -> Result<usize, Fault>
-    requires memory { (count ≤ vec_capacity near.old) × (count ≤ vec_capacity far.old) }
-    requires apart { length near.old.items ≤ length far.old.items }
-    ensures ok { IfOk result (λ at. CellsAreRead (cells_for count
-        (whole_arcs near.old.items far.old.items)) count
-        (line_in line.entry) (cells_for count (whole_arcs near.new.items far.new.items)) at) }
-    ensures err { IfErr result (λ fault.
-        cells_read (value_at_place (cells_for count (whole_arcs near.old.items far.old.items)))
+    requires memory { count ≤ vec_capacity arcs.old }
+    ensures ok { IfOk result (λ at. CellsAreRead (cells_for count arcs.old.items) count
+        (line_in line.entry) (cells_for count arcs.new.items) at) }
+    ensures err { IfErr result (λ fault. cells_read (value_at_place (cells_for count arcs.old.items))
         (cells_of count (line_in line.entry)) ≡ Err fault) }
-    ensures arcs { (length near.new.items ≤ count) × (length near.new.items ≤ length far.new.items) }
-    ensures reached { length near.new.items ≤ length (line_in line.entry) }
-    ensures memory { (vec_capacity near.new ≡ vec_capacity near.old)
-        × (vec_capacity far.new ≡ vec_capacity far.old) }
+    ensures arcs { length arcs.new.items ≤ count }
+    ensures reached { length arcs.new.items ≤ length (line_in line.entry) }
+    ensures memory { vec_capacity arcs.new ≡ vec_capacity arcs.old }
 {
     let reached = count.min(line.len());
-    if near.len() != reached {
-        keep_arcs(near, far, reached);
+    if arcs.len() != reached {
+        keep_arcs(arcs, reached);
     }
-    let near = near.as_mut_slice();
-    let far = far.as_mut_slice();
+    let arcs = arcs.as_mut_slice();
     let mut at = 0;
-    for index in 0..near.len() {
-        match read_cell_fast(near, far, index, line, at) {
+    for index in 0..arcs.len() {
+        match read_cell_fast(arcs, index, line, at) {
             Some(length) => at += length,
             None => {
-                let length = read_cell(near, far, index, &line.line()[at..])?;
+                let length = read_cell(arcs, index, &line.line()[at..])?;
                 at += length;
             }
         }

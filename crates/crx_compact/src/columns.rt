@@ -14,8 +14,6 @@ ghost use Rattle.crx_compact.specs.ReadBlocks.{AnswersLine, IsReading};
 ghost use Rattle.crx_base.specs.declared.limits.TheConstants.{LINE_LIMIT};
 ghost use Rattle.crx_header.specs.meaning.EpochColumns.{begins_epoch, is_event_line};
 ghost use Rattle.crx_compact.specs.OpenLines.{IsLineTaken, IsSoundState, step_at};
-ghost use Rattle.crx_compact.specs.Placing.{KeepsRooms};
-ghost use Rattle.crx_compact.specs.ReadingRooms.{AsksRoomToBegin};
 ghost use Rattle.crx_compact.specs.Blocks.{PendingLines};
 ghost use Rattle.crx_compact.specs.PrintedBlocks.{ArePrinted};
 ghost use Rattle.crx_compact.specs.OpenEpochs.{awaits_row, is_idle, makes_epoch, tail_held, first_step, step_in, Faulty, HasMade, HasPrintedLines};
@@ -65,15 +63,12 @@ pub struct Columns {
 impl Model for Columns {
     ghost use Rattle.crx_compact.specs.OpenLines.{columns_state, IsSoundState};
     ghost use Rattle.crx_compact.specs.Placing.{IsAnnounced};
-    ghost use Rattle.crx_compact.specs.ReadingRooms.{HeldColumns};
+    ghost use Rattle.crx_compact.specs.OpenEpochs.{ColumnsState};
     ghost use Rattle.std.specs.Prelude.{◌≡◌, true};
 
-    ghost Value = { HeldColumns };
+    ghost Value = { ColumnsState };
 
-    ghost view = { λ columns. record {
-      state = columns_state columns.is_kept columns.expected columns.count columns.history;
-      rooms = columns.history.satellites.rooms;
-    } };
+    ghost view = { λ columns. columns_state columns.is_kept columns.expected columns.count columns.history };
 
     // Where an epoch is open, a line is awaited.
     ghost invariant = { λ columns. IsSoundState columns.expected columns.count columns.history
@@ -84,7 +79,7 @@ impl Columns {
     /// Columns without a history. Part of its callers, as a call copies its texts.
     #[inline(always)]
     pub fn new(alloc: Global) -> Columns
-        ensures empty { result ≡ record { state = Idle None; rooms = [] } }
+        ensures empty { result ≡ Idle None }
     {
         Columns {
             history: History::new(alloc),
@@ -100,16 +95,14 @@ impl Columns {
     /// Forgets every epoch, the one whose lines have come in part too.
     pub fn reset(&mut self)
         // The memory is used again.
-        ensures emptied { self.new ≡ record self.old { state = Idle None } }
+        ensures emptied { self.new ≡ Idle None }
     {
-        self.is_kept = false;
-        self.is_named = false;
-        self.expected = Expected::EpochLine;
+        forget(&mut self.is_kept, &mut self.is_named, &mut self.expected);
     }
 
     /// Whether no epoch's lines have come in part.
     pub fn is_idle(&self) -> bool
-        ensures value { result ≡ is_idle self.now.state }
+        ensures value { result ≡ is_idle self.now }
     {
         matches!(self.expected, Expected::EpochLine)
     }
@@ -120,29 +113,29 @@ impl Columns {
     /// `OutOfMemory` is its one refusal: it hands the epoch back, and the columns are as they were.
     pub fn encode(&mut self, epoch: Epoch, full: bool) -> Result<Coded, (Epoch, Fault)>
         requires whole { is_full_epoch epoch ≡ true }
-        requires idle { is_idle self.old.state ≡ true }
+        requires idle { is_idle self.old ≡ true }
         ensures coded { IfOk result (λ coded. coded
             ≡ record {
               epoch = epoch;
-              lines = lines_after_tail (tail_written_after full (tail_held self.old.state)) epoch;
+              lines = lines_after_tail (tail_written_after full (tail_held self.old)) epoch;
             }) }
-        ensures kept { OnOk result (self.new.state
-            ≡ Idle (Some (tail_after (tail_written_after full (tail_held self.old.state)) epoch))) }
+        ensures kept { OnOk result (self.new
+            ≡ Idle (Some (tail_after (tail_written_after full (tail_held self.old)) epoch))) }
         ensures refused { IfErr result (λ refused. (refused.0 ≡ epoch) × (refused.1 ≡ Fault.OutOfMemory)
-            × (self.new.state ≡ self.old.state)) }
-        ensures rooms { KeepsRooms self.old.rooms self.new.rooms }
+            × (self.new ≡ self.old)) }
         // By these two a file's compact text comes epoch by epoch: `epochs` are those so far, newest first.
-        ensures left { (epochs : List Marked) → tail_held self.old.state ≡ tail_or_nothing epochs
-            → OnOk result (self.new.state ≡ Idle
+        ensures left { (epochs : List Marked) → tail_held self.old ≡ tail_or_nothing epochs
+            → OnOk result (self.new ≡ Idle
             (tail_or_nothing (record { in_full = full; epoch = epoch } ∷ epochs))) }
-        ensures lines { (epochs : List Marked) → tail_held self.old.state ≡ tail_or_nothing epochs
+        ensures lines { (epochs : List Marked) → tail_held self.old ≡ tail_or_nothing epochs
             → IfOk result
             (λ coded. coded.lines ≡ compact_epoch (record { in_full = full; epoch = epoch } ∷ epochs)) }
     {
         prove!(epoch.is_full());
         self.is_named = false;
-        let Ok(mut lines) = Block::new(self.alloc) else {
-            return Err((epoch, Fault::OutOfMemory));
+        let mut lines = match Block::new(self.alloc) {
+            Ok(lines) => lines,
+            Err(refused) => return Err((epoch, Fault::from(refused))),
         };
         let in_full = full || !self.is_kept;
         match self
@@ -153,7 +146,7 @@ impl Columns {
                 self.is_kept = true;
                 Ok(Coded { epoch, lines })
             }
-            Err(_) => Err((epoch, Fault::OutOfMemory)),
+            Err(refused) => Err((epoch, Fault::from(refused))),
         }
     }
 
@@ -164,24 +157,22 @@ impl Columns {
     /// `BadSatellite` and `RepeatedSatellite`; `OutOfMemory` where something can't grow and the line has no
     /// fault. After a refusal everything is forgotten.
     pub fn begin(&mut self, types: &Types, line: &[u8]) -> Result<(), Fault>
-        requires idle { is_idle self.old.state ≡ true }
+        requires idle { is_idle self.old ≡ true }
         requires short { length line.now ≤ LINE_LIMIT }
         requires no_event { is_event_line line.now ≡ false }
         ensures made { OnOk result (HasMade
-            (first_step types.now (tail_held self.old.state) (Content line.now)) self.new.state None) }
-        ensures refused { IfErr result (λ fault. (first_step types.now (tail_held self.old.state) (Content line.now)
+            (first_step types.now (tail_held self.old) (Content line.now)) self.new None) }
+        ensures refused { IfErr result (λ fault. (first_step types.now (tail_held self.old) (Content line.now)
             ≡ Faulty fault) ⊎ (fault ≡ Fault.OutOfMemory)) }
-        ensures emptied { OnErr result (self.new.state ≡ Idle None) }
-        ensures rooms { AsksRoomToBegin (first_step types.now (tail_held self.old.state) (Content line.now))
-            self.old.rooms self.new.rooms result }
+        ensures emptied { OnErr result (self.new ≡ Idle None) }
         // `older` are the epochs that were accepted since everything was last forgotten, newest first.
-        ensures block { (older : List RawEpoch) → tail_held self.old.state ≡ tail_left older
-            → OnOk result (IsReading types.now older (Content line.now ∷ []) self.new.state) }
-        ensures block_fault { (older : List RawEpoch) → tail_held self.old.state ≡ tail_left older
+        ensures block { (older : List RawEpoch) → tail_held self.old ≡ tail_left older
+            → OnOk result (IsReading types.now older (Content line.now ∷ []) self.new) }
+        ensures block_fault { (older : List RawEpoch) → tail_held self.old ≡ tail_left older
             → IfErr result (λ fault. (epoch_at types.now older (Content line.now ∷ []) ≡ Fails 0 fault)
             ⊎ (fault ≡ Fault.OutOfMemory)) }
         // Whatever a block holds from the epoch before is dropped with this epoch's first printed line.
-        ensures unprinted { (block : PendingLines) → ArePrinted self.new.state block }
+        ensures unprinted { (block : PendingLines) → ArePrinted self.new block }
     {
         let is_full = begins_epoch(line);
         let is_named = self.is_named & !is_full;
@@ -202,7 +193,6 @@ impl Columns {
             }
             Err(fault) => {
                 self.is_kept = false;
-                self.expected = Expected::EpochLine;
                 Err(fault)
             }
         }
@@ -216,21 +206,20 @@ impl Columns {
     /// where the line is the last one and has no fault, and the epoch can't be made. After a refusal
     /// everything is forgotten.
     pub fn feed(&mut self, line: &[u8]) -> Result<Option<Epoch>, Fault>
-        requires open { is_idle self.old.state ≡ false }
+        requires open { is_idle self.old ≡ false }
         requires short { length line.now ≤ LINE_LIMIT }
-        ensures made { IfOk result (λ given. HasMade (step_in self.old.state (Content line.now)) self.new.state given) }
+        ensures made { IfOk result (λ given. HasMade (step_in self.old (Content line.now)) self.new given) }
         ensures refused { IfErr result
-            (λ fault. (step_in self.old.state (Content line.now) ≡ Faulty fault) ⊎ (fault ≡ Fault.OutOfMemory)) }
+            (λ fault. (step_in self.old (Content line.now) ≡ Faulty fault) ⊎ (fault ≡ Fault.OutOfMemory)) }
         ensures memory { IfErr result (λ fault. fault ≡ Fault.OutOfMemory
-            → (begins_epoch line.now ≡ false) × (awaits_row self.old.state ≡ true)
-            × (makes_epoch (step_in self.old.state (Content line.now)) ≡ true)) }
-        ensures emptied { OnErr result (self.new.state ≡ Idle None) }
+            → (begins_epoch line.now ≡ false) × (awaits_row self.old ≡ true)
+            × (makes_epoch (step_in self.old (Content line.now)) ≡ true)) }
+        ensures emptied { OnErr result (self.new ≡ Idle None) }
         // `older` are the epochs that were accepted since everything was last forgotten, newest first, and
         // `lines` those of the open one so far.
         ensures block { (types : List Count) (older : List RawEpoch) (lines : List ReadLine)
-            → IsReading types older lines self.old.state
-            → AnswersLine types older lines (Content line.now) self.new.state result }
-        ensures kept { KeepsRooms self.old.rooms self.new.rooms }
+            → IsReading types older lines self.old
+            → AnswersLine types older lines (Content line.now) self.new result }
     {
         let mut copy = PaddedCopy::new();
         let padded = copy.of(line);
@@ -248,17 +237,13 @@ impl Columns {
                     self.is_kept = true;
                     Ok(Some(epoch))
                 }
-                Err(_) => {
-                    self.is_kept = false;
-                    self.is_named = false;
-                    self.expected = Expected::EpochLine;
-                    Err(Fault::OutOfMemory)
+                Err(fault) => {
+                    forget(&mut self.is_kept, &mut self.is_named, &mut self.expected);
+                    Err(fault)
                 }
             },
             Err(fault) => {
-                self.is_kept = false;
-                self.is_named = false;
-                self.expected = Expected::EpochLine;
+                forget(&mut self.is_kept, &mut self.is_named, &mut self.expected);
                 Err(fault)
             }
         }
@@ -271,15 +256,14 @@ impl Columns {
     #[inline(always)]
     pub fn feed_into(&mut self, line: Padded<'_>, lines: &mut Block) -> Result<bool, Fault>
         requires short { length (line_in line) ≤ LINE_LIMIT }
-        requires printed { ArePrinted self.old.state lines.old }
+        requires printed { ArePrinted self.old lines.old }
         ensures made { IfOk result (λ is_whole.
-            HasPrintedLines (step_in self.old.state (Content (line_in line.entry))) self.new.state is_whole
+            HasPrintedLines (step_in self.old (Content (line_in line.entry))) self.new is_whole
             lines.new.lines) }
         ensures refused { IfErr result (λ fault.
-            step_in self.old.state (Content (line_in line.entry)) ≡ Faulty fault) }
-        ensures emptied { OnErr result ((self.new.state ≡ Idle None) × (lines.new.lines ≡ [])) }
-        ensures printed { ArePrinted self.new.state lines.new }
-        ensures rooms { KeepsRooms self.old.rooms self.new.rooms }
+            step_in self.old (Content (line_in line.entry)) ≡ Faulty fault) }
+        ensures emptied { OnErr result ((self.new ≡ Idle None) × (lines.new.lines ≡ [])) }
+        ensures printed { ArePrinted self.new lines.new }
     {
         match take_line(
             &mut self.history,
@@ -299,13 +283,23 @@ impl Columns {
             }
             Err(fault) => {
                 lines.clear();
-                self.is_kept = false;
-                self.is_named = false;
-                self.expected = Expected::EpochLine;
+                forget(&mut self.is_kept, &mut self.is_named, &mut self.expected);
                 Err(fault)
             }
         }
     }
+}
+
+/// Forgets every epoch: none is kept, the satellites aren't known by their text, and an epoch line is
+/// expected. Its parameters are fields of [`Columns`], whose history may mean nothing after a fault.
+fn forget(is_kept: &mut bool, is_named: &mut bool, expected: &mut Expected)
+    ensures kept { is_kept.new ≡ false }
+    ensures named { is_named.new ≡ false }
+    ensures expected { expected.new ≡ Expected.EpochLine }
+{
+    *is_kept = false;
+    *is_named = false;
+    *expected = Expected::EpochLine;
 }
 
 /// Takes the next line of an open epoch: the clock line, then a line for each satellite. Gives whether all
@@ -324,7 +318,6 @@ fn take_line(
         count.new history.new) }
     ensures err { IfErr result (λ fault.
         step_at expected.old count.old history.old (Content (line_in line.entry)) ≡ Faulty fault) }
-    ensures rooms { KeepsRooms history.old.satellites.rooms history.new.satellites.rooms }
 {
     match *expected {
         Expected::EpochLine => Err(Fault::NotAnEpoch),

@@ -6,19 +6,20 @@ ghost use Rattle.crx_base.specs.declared.limits.TheConstants.{DATE_LIMIT};
 ghost use Rattle.crx_header.specs.meaning.CompactHeader.{lines_before_header};
 ghost use Rattle.crx_rinex.specs.meaning.Epochs.{has_satellite};
 ghost use Rattle.crx_compact.specs.Encoding.{EncoderState, EndsEpoch, forgotten};
-ghost use Rattle.crx_compact.specs.Placing.{PreparesRow};
 ghost use Rattle.crx_compact.specs.declared.block.TheConstants.{LINES_LIMIT};
 ghost use Rattle.crx_compact.specs.Blocks.{lines_text};
 
 use crate::block::Block;
 use crate::ghost_tail::GhostTail;
 use crate::history::History;
+use crx_base::Refused;
+use crx_base::memory::boxed;
 use crx_base::options::in_columns;
 use crx_header::crinex::{CRINEX_PROGRAM, CRINEX_PROGRAM_LABEL, CRINEX_VERSION_LINE};
 use crx_rinex::{EpochLine, RowBuffer, RowsSoFar};
 use crx_text::Text;
 use crx_text::appending::append;
-use std::alloc::{AllocError, Global};
+use std::alloc::Global;
 use std::marker::Model;
 
 /// Makes the compact lines of epochs whose rows come one by one, and has them ready, as it has the two lines
@@ -53,7 +54,6 @@ impl Model for Encoder {
       in_full = encoder.in_full;
       rows = if encoder.is_open then encoder.rows.rows else [];
       pending = if encoder.is_open then [] else encoder.made.lines;
-      rooms = encoder.history.value.satellites.rooms;
     } };
 
     ghost invariant = { λ encoder. IsEncoding encoder.is_open encoder.is_kept encoder.before.tail encoder.in_full
@@ -66,20 +66,16 @@ impl Encoder {
     ghost use Rattle.std.specs.Option.{option_copied};
     ghost use Rattle.crx_compact.specs.contracts.encoder.Encoder.{the_row};
 
-    /// An encoder before the first line. It takes the memory for all lines; `AllocError` comes where there is
-    /// none.
-    pub fn new(alloc: Global) -> Result<Encoder, AllocError>
+    /// Returns an encoder before the first line, with the memory for all lines.
+    pub fn new(alloc: Global) -> Result<Encoder, Refused>
         ensures before { IfOk result (λ e. e.before ≡ None) }
         ensures closed { IfOk result (λ e. e.is_open ≡ false) }
         ensures rows { IfOk result (λ e. e.rows ≡ []) }
         ensures pending { IfOk result (λ e. e.pending ≡ []) }
     {
         let made = Block::new(alloc)?;
-        let scratch = Box::new(alloc, Text::new())?;
-        // What `?` keeps of a refusal would be filled with zeros.
-        let Ok(history) = Box::new(alloc, History::new(alloc)) else {
-            return Err(AllocError);
-        };
+        let scratch = boxed(alloc, Text::new())?;
+        let history = boxed(alloc, History::new(alloc))?;
         let before = GhostTail::of(&history);
         Ok(Encoder {
             history,
@@ -95,7 +91,6 @@ impl Encoder {
 
     /// Forgets every epoch, the open one too, and drops all lines.
     pub fn reset(&mut self)
-        // Whatever was asked for is used again.
         ensures emptied { self.new ≡ forgotten self.old [] }
     {
         self.is_open = false;
@@ -138,18 +133,17 @@ impl Encoder {
     }
 
     /// Makes the compact line of the next row of the open epoch. `false` comes where the epoch has a row of
-    /// the satellite already, and then nothing changes. After `AllocError` everything is forgotten.
+    /// the satellite already, and then nothing changes. After `Refused` everything is forgotten.
     #[inline(always)]
-    pub fn encode_row(&mut self, row: &RowBuffer) -> Result<bool, AllocError>
+    pub fn encode_row(&mut self, row: &RowBuffer) -> Result<bool, Refused>
         requires open { self.old.is_open ≡ true }
         requires few { length self.old.rows < LINES_LIMIT }
         ensures answer { IfOk result (λ is_new. is_new ≡ not (has_satellite row.now.name self.old.rows)) }
         ensures written { IfOk result (λ is_new. is_new ≡ true
-            → self.new ≡ record self.old { rows = self.old.rows ++ row.now ∷ []; rooms = self.new.rooms }) }
+            → self.new ≡ record self.old { rows = self.old.rows ++ row.now ∷ [] }) }
         ensures repeated { IfOk result (λ is_new. is_new ≡ false → self.new ≡ self.old) }
         ensures forgotten { OnErr result ((has_satellite row.now.name self.old.rows ≡ false)
-            × (self.new ≡ record (forgotten self.old []) { rooms = self.new.rooms })) }
-        ensures known { PreparesRow row.now.name (length row.now.values) self.old.rooms self.new.rooms result }
+            × (self.new ≡ forgotten self.old [])) }
     {
         match self.history.write_row(
             row.name(),

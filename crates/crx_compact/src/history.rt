@@ -29,17 +29,16 @@ ghost use Rattle.crx_compact.specs.Tails.{Tail};
 
 use crate::arc::ClockArc;
 use crate::block::Block;
-use crate::refusals::prepare_names;
 use crate::satellite::put_first;
 use crate::satellites::Satellites;
 use crx_base::limits::{HEAD_WIDTH, LINE_LIMIT, NAME_WIDTH, SATELLITES_LIMIT, TYPES_LIMIT};
-use crx_base::{Fault, Padded};
+use crx_base::{Fault, Padded, Refused};
 use crx_header::{Types, after_columns, all_blank, epoch_columns, identifier, padded};
 use crx_rinex::{Epoch, EpochLine, SatRow, begins_epoch, print_head, types_of_satellite};
 use crx_text::columns::end_trimmed;
 use crx_text::difference::{append_difference, patch_bytes};
 use crx_text::{Text, code_print, code_read, trim_end};
-use std::alloc::{AllocError, Global};
+use std::alloc::Global;
 use std::marker::Model;
 
 /// How long the text of an epoch is at most: columns 1 to 41 of its line, and as many identifiers as three
@@ -104,14 +103,14 @@ impl History {
 
     /// Puts the compact lines of an epoch into a block without lines: in full, where that is asked for, else
     /// as differences from the epoch before. The history is the one after the epoch. All memory is asked for
-    /// first, so that after `AllocError` the history stays.
+    /// first, so that after `Refused` the history stays.
     pub(crate) fn encode(
         &mut self,
         epoch: &Epoch,
         in_full: bool,
         scratch: &mut Text,
         lines: &mut Block,
-    ) -> Result<(), AllocError>
+    ) -> Result<(), Refused>
         requires whole { is_full_epoch epoch.now ≡ true }
         requires none { lines.old ≡ no_lines }
         ensures written { OnOk result (IsEpochWritten
@@ -123,7 +122,7 @@ impl History {
         let satellites = &mut self.satellites;
         let mut prepared = 0;
         while let Some(wanting) = epoch.row(prepared) {
-            satellites.prepare(wanting.name(), wanting.values().len(), 1)?;
+            satellites.prepare(wanting.name(), wanting.values().len())?;
             prepared += 1;
         }
         self.begin_rows(in_full);
@@ -159,7 +158,7 @@ impl History {
 
     /// Writes the compact line of the next row of an epoch after others; `filled` of its values may be there,
     /// the first ones. `false` comes where the epoch has a row of the satellite already, and then nothing
-    /// changes; what `AllocError` leaves means nothing.
+    /// changes; what `Refused` leaves means nothing.
     #[inline(always)]
     pub(crate) fn write_row(
         &mut self,
@@ -169,7 +168,7 @@ impl History {
         flags: &[u8],
         scratch: &mut Text,
         lines: &mut Block,
-    ) -> Result<bool, AllocError>
+    ) -> Result<bool, Refused>
         requires sound { IsSoundRow (row_of_parts name.now values.now flags.now) }
         requires missing { AreMissingFrom filled values.now }
         requires left { 0 < lines.old.left }
@@ -182,7 +181,7 @@ impl History {
         let is_new = match self.satellites.place(name, count) {
             Some(is_new) => is_new,
             None => {
-                self.satellites.prepare(*name, count, 1)?;
+                self.satellites.prepare(*name, count)?;
                 self.satellites.bring(name, count).unwrap()
             }
         };
@@ -310,20 +309,19 @@ impl History {
             .read(line, scratch)
     }
 
-    /// The epoch that the history shows. `AllocError` comes only where there are satellites.
-    pub(crate) fn epoch(&self) -> Result<Epoch, AllocError>
+    /// Returns the epoch that the history shows. It is refused only if there are satellites.
+    pub(crate) fn epoch(&self) -> Result<Epoch, Fault>
         requires announced { IsAnnounced self.now }
         ensures ok { IfOk result (λ epoch. epoch
             ≡ shown_epoch (tail_of_history self.now) (length self.now.satellites.rows)) }
-        ensures memory { OnErr result (0 < length self.now.satellites.rows) }
+        ensures memory { IfErr result (λ fault. (fault ≡ Fault.OutOfMemory) × (0 < length self.now.satellites.rows)) }
     {
         let mut epoch = Epoch::new(self.alloc, self.head());
         for index in 0..self.satellites.placed() {
             let (name, satellite) = self.satellites.entry(index);
             match epoch.push(satellite.row(self.alloc, *name)?) {
                 Ok(()) => {}
-                Err((_, Fault::OutOfMemory)) => return Err(AllocError),
-                Err(_) => unreachable!(),
+                Err((_, fault)) => return Err(fault),
             }
         }
         Ok(epoch)
@@ -422,12 +420,10 @@ fn read_names(
         let Some(cells) = types_of_satellite(types, &name) else {
             return Err(Fault::BadSatellite);
         };
-        // Mostly the satellite has room. Else room is asked for all of the text, and only where no satellite
-        // has a fault.
         let is_new = match satellites.place(&name, cells) {
             Some(is_new) => is_new,
             None => {
-                prepare_names(types, text, count, satellites)?;
+                satellites.prepare(name, cells)?;
                 satellites.bring(&name, cells).unwrap()
             }
         };

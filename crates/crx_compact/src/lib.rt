@@ -12,7 +12,6 @@ pub mod encoder;
 mod ghost_tail;
 mod history;
 pub mod laws;
-mod refusals;
 pub mod same;
 mod satellite;
 mod satellites;

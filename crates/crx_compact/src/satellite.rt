@@ -1,7 +1,7 @@
 //! What is stored of a satellite: its indicators and the arcs of its cells, changed in place by each of its
 //! lines. Hatanaka's Compact RINEX 3.0, satellite lines.
 
-ghost use Rattle.std.specs.Prelude.{ℕ, ℤ, List, ◌≡◌, ◌≤◌, ◌<◌, ◌+◌, ◌-◌, ◌*◌, ◌++◌, [], Ok, Err, None, true, false, drop, length, map, replicate, take, IfOk, IsTrue, ◌↔◌, if◌then◌else◌, vec_capacity};
+ghost use Rattle.std.specs.Prelude.{ℕ, ℤ, List, ◌≡◌, ◌≤◌, ◌<◌, ◌+◌, ◌-◌, ◌*◌, ◌++◌, [], Ok, Err, None, true, false, drop, length, map, replicate, take, IfErr, IfOk, IsTrue, ◌↔◌, if◌then◌else◌, vec_capacity};
 ghost use Rattle.crx_text.specs.meaning.Columns.{columns, without_end_blanks};
 ghost use Rattle.crx_base.specs.declared.limits.TheConstants.{CELL_WIDTH, LINE_LIMIT, NAME_WIDTH, TYPES_LIMIT};
 ghost use Rattle.crx_header.specs.meaning.EpochColumns.{begins_epoch};
@@ -12,23 +12,23 @@ ghost use Rattle.crx_text.specs.meaning.PrintedCells.{printed_cells};
 ghost use Rattle.crx_base.specs.Padded.{line_in};
 ghost use Rattle.crx_compact.specs.declared.cells.TheConstants.{CELL_ROOM};
 ghost use Rattle.crx_compact.specs.HeldRows.{AreHeldFlags};
-ghost use Rattle.crx_compact.specs.Arcs.{whole_arcs};
 ghost use Rattle.crx_compact.specs.Blocks.{IsLinePut};
 ghost use Rattle.crx_compact.specs.Placing.{AnswersMarks, AnswersReading, AnswersRoom, FitsFlags, FitsRow, IsMarked, cells_for, resized, row_tail_of, satellite_after, line_after};
 ghost use Rattle.crx_compact.specs.ArcSteps.{shown_value};
 ghost use Rattle.crx_compact.specs.ShownRows.{AreFirstPrinted, shown_row};
 
-use crate::arc::{Far, Near};
+use crate::arc::ObsArc;
 use crate::cells::{read_cells, write_cells};
 use crate::same::is_same_text;
-use crx_base::limits::{CELL_WIDTH, NAME_WIDTH, OBSERVATION_WIDTH};
-use crx_base::{Fault, Padded};
+use crx_base::limits::{CELL_WIDTH, NAME_WIDTH};
+use crx_base::memory::reserve_exact;
+use crx_base::{Fault, Padded, Refused};
 use crx_header::{after_columns, all_blank, put_identifier};
 use crx_rinex::{SatRow, put_flags};
 use crx_text::block::put_text;
 use crx_text::difference::{append_difference, patch_bytes};
 use crx_text::{Text, copy_text, obs_print_cell, put_blanks, trim_end};
-use std::alloc::{AllocError, Global};
+use std::alloc::Global;
 use std::marker::Model;
 
 /// What is stored of a satellite: two indicators for each of its types, and the arcs of the first ones.
@@ -36,11 +36,9 @@ use std::marker::Model;
 pub struct SatelliteHistory {
     /// Two for each type that there is room for. Those behind its types mean nothing.
     indicators: Vec<u8>,
-    /// The first parts of the first types' arcs. All arcs behind them are over, so that a line costs what it
-    /// has, and not what its types cost. There is memory for as many as there is room for types.
-    near: Vec<Near<OBSERVATION_WIDTH>>,
-    /// The second parts of these arcs, and of others that there were, with memory for as many or more.
-    far: Vec<Far>,
+    /// The arcs of the first types. All arcs behind them are over, so that a line costs what it has, and not
+    /// what its types cost. There is memory for as many as there is room for types.
+    arcs: Vec<ObsArc>,
     /// How many types it has.
     count: usize,
 }
@@ -49,7 +47,6 @@ impl Model for SatelliteHistory {
     ghost use Rattle.std.specs.Prelude.{◌≤◌, ◌*◌, length, take, vec_capacity};
     ghost use Rattle.crx_base.specs.declared.limits.TheConstants.{TYPES_LIMIT};
     ghost use Rattle.crx_text.specs.meaning.Columns.{without_end_blanks};
-    ghost use Rattle.crx_compact.specs.Arcs.{whole_arcs};
     ghost use Rattle.crx_compact.specs.HeldRows.{AreHeldFlags};
     ghost use Rattle.crx_compact.specs.Placing.{IndicatorsMatchRoom, SatelliteTail, cells_for};
 
@@ -57,29 +54,25 @@ impl Model for SatelliteHistory {
 
     ghost view = { λ satellite. record {
       flags = without_end_blanks (take (2 * satellite.count) satellite.indicators.items);
-      cells = cells_for satellite.count (whole_arcs satellite.near.items satellite.far.items);
-      room = vec_capacity satellite.near;
-      far_room = vec_capacity satellite.far;
+      cells = cells_for satellite.count satellite.arcs.items;
+      room = vec_capacity satellite.arcs;
     } };
 
     ghost invariant = { λ satellite. AreHeldFlags (take (2 * satellite.count) satellite.indicators.items)
-        × (length satellite.near.items ≤ satellite.count) × (satellite.count ≤ vec_capacity satellite.near)
-        × IndicatorsMatchRoom (vec_capacity satellite.near) (length satellite.indicators.items)
+        × (length satellite.arcs.items ≤ satellite.count) × (satellite.count ≤ vec_capacity satellite.arcs)
+        × IndicatorsMatchRoom (vec_capacity satellite.arcs) (length satellite.indicators.items)
         (vec_capacity satellite.indicators)
-        × (length satellite.near.items ≤ length satellite.far.items)
-        × (vec_capacity satellite.near ≤ vec_capacity satellite.far)
-        × (vec_capacity satellite.far ≤ TYPES_LIMIT) };
+        × (vec_capacity satellite.arcs ≤ TYPES_LIMIT) };
 }
 
 impl SatelliteHistory {
     /// Nothing.
     pub(crate) fn new(alloc: Global) -> SatelliteHistory
-        ensures empty { result ≡ record { flags = []; cells = []; room = 0; far_room = 0 } }
+        ensures empty { result ≡ record { flags = []; cells = []; room = 0 } }
     {
         SatelliteHistory {
             indicators: Vec::new(alloc),
-            near: Vec::new(alloc),
-            far: Vec::new(alloc),
+            arcs: Vec::new(alloc),
             count: 0,
         }
     }
@@ -101,23 +94,22 @@ impl SatelliteHistory {
     pub(crate) fn has_room(&self, count: usize) -> bool
         ensures value { IsTrue result ↔ (count ≤ self.now.room) }
     {
-        count <= self.near.capacity()
+        count <= self.arcs.capacity()
     }
 
     /// Asks for room for so many types, where there is less, and makes no more. All memory is asked for
-    /// first, so that after `AllocError` what is stored stays.
-    pub(crate) fn make_room(&mut self, count: usize) -> Result<(), AllocError>
+    /// first, so that after `Refused` what is stored stays.
+    pub(crate) fn make_room(&mut self, count: usize) -> Result<(), Refused>
         requires allowed { count ≤ TYPES_LIMIT }
         ensures { AnswersRoom count self.old self.new result }
     {
-        let room = self.near.capacity();
+        let room = self.arcs.capacity();
         if count <= room {
             return Ok(());
         }
-        self.indicators.reserve_exact(2 * (count - room))?;
-        self.far
-            .reserve_exact(count.saturating_sub(self.far.len()))?;
-        self.near.reserve_exact(count - self.near.len())?;
+        reserve_exact(&mut self.indicators, 2 * (count - room))?;
+        let more = count - self.arcs.len();
+        reserve_exact(&mut self.arcs, more)?;
         let indicators = &mut self.indicators;
         while indicators.len() < 2 * count {
             indicators.push_reserved(b' ');
@@ -135,7 +127,7 @@ impl SatelliteHistory {
         let from = self.count;
         self.count = count;
         if count <= from {
-            self.near.truncate(count);
+            self.arcs.truncate(count);
             return;
         }
         put_blanks(&mut self.indicators[2 * from..2 * count]);
@@ -188,7 +180,7 @@ impl SatelliteHistory {
             (CELL_ROOM * length values.now + 2 * TYPES_LIMIT) at bytes.old bytes.new result }
     {
         let has_marks = self.mark(values.len(), flags, scratch);
-        let mut end = write_cells(&mut self.near, &mut self.far, values, filled, bytes, at);
+        let mut end = write_cells(&mut self.arcs, values, filled, bytes, at);
         if has_marks {
             end = put_text(bytes, end, scratch.bytes());
         }
@@ -208,7 +200,7 @@ impl SatelliteHistory {
         requires allowed { IsAllowedCount (length self.old.cells) }
         ensures { AnswersReading (line_in line.entry) self.old self.new result }
     {
-        let at = read_cells(&mut self.near, &mut self.far, self.count, line)?;
+        let at = read_cells(&mut self.arcs, self.count, line)?;
         let marks = &line.line()[at..];
         if marks.is_empty() {
             return Ok(());
@@ -217,17 +209,16 @@ impl SatelliteHistory {
     }
 
     /// The row that it shows, of the satellite with an identifier.
-    pub(crate) fn row(&self, alloc: Global, name: [u8; NAME_WIDTH]) -> Result<SatRow, AllocError>
+    pub(crate) fn row(&self, alloc: Global, name: [u8; NAME_WIDTH]) -> Result<SatRow, Fault>
         requires named { is_identifier name ≡ true }
         requires allowed { IsAllowedCount (length self.now.cells) }
         ensures ok { IfOk result (λ row. row ≡ shown_row (row_tail_of name self.now)) }
+        ensures err { IfErr result (λ fault. fault ≡ Fault.OutOfMemory) }
     {
         let count = self.count;
-        let Ok(mut row) = SatRow::blank(alloc, name, count) else {
-            return Err(AllocError);
-        };
+        let mut row = SatRow::blank(alloc, name, count)?;
         for index in 0..count {
-            let value = match self.near.get(index) {
+            let value = match self.arcs.get(index) {
                 Some(arc) => arc.value(),
                 None => None,
             };
@@ -248,7 +239,7 @@ impl SatelliteHistory {
         put_identifier(bytes, at, name);
         let count = self.count;
         let flags = &self.indicators[..2 * count];
-        let arcs = self.near.as_slice();
+        let arcs = self.arcs.as_slice();
         print_cells(arcs, flags, bytes, at + NAME_WIDTH);
         if arcs.len() < count {
             print_missing(arcs.len(), count, flags, bytes, at + NAME_WIDTH);
@@ -259,15 +250,14 @@ impl SatelliteHistory {
     }
 }
 
-/// Prints the cells of some arcs, from an index on, two in a turn: so a line has half as many turns, and the
-/// end of few of them is foretold (a mispredicted branch a line less with four types, and 1 to 2 percent of
-/// the instructions). Both indicators of a cell are there: they become one load and one store.
+/// Prints the cells of some arcs, from an index on, two in a turn: so a line has half as many turns. Both
+/// indicators of a cell are there: they become one load and one store.
 #[inline(always)]
-fn print_cells(arcs: &[Near<OBSERVATION_WIDTH>], flags: &[u8], bytes: &mut [u8], at: usize)
+fn print_cells(arcs: &[ObsArc], flags: &[u8], bytes: &mut [u8], at: usize)
     requires paired { 2 * length arcs.now ≤ length flags.now }
     requires room { at + CELL_WIDTH * length arcs.now ≤ length bytes.old }
-    ensures put { (far : List (List ℤ)) (count : ℕ) → length flags.now ≡ 2 * count → length arcs.now ≤ count
-        → AreFirstPrinted (length arcs.now) count (map shown_value (cells_for count (whole_arcs arcs.now far)))
+    ensures put { (count : ℕ) → length flags.now ≡ 2 * count → length arcs.now ≤ count
+        → AreFirstPrinted (length arcs.now) count (map shown_value (cells_for count arcs.now))
         flags.now at bytes.old bytes.new }
     ensures long { length bytes.new ≡ length bytes.old }
 {

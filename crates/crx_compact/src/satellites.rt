@@ -19,10 +19,12 @@ ghost use Rattle.crx_compact.specs.contracts.satellites.Satellites.{the_row};
 ghost use Rattle.indexmap.specs.IndexMap.{IsUnique, spare};
 
 use crate::satellite::SatelliteHistory;
+use crx_base::Refused;
 use crx_base::limits::{HEAD_WIDTH, NAME_WIDTH};
+use crx_base::memory::{reserve, reserve_entries};
 use crx_header::{Types, is_same_identifier, put_identifier};
 use indexmap::IndexMap;
-use std::alloc::{AllocError, Global};
+use std::alloc::Global;
 use std::marker::Model;
 
 /// How many places there are for marks of identifiers.
@@ -211,18 +213,11 @@ impl Satellites {
         true
     }
 
-    /// Asks for room for a satellite of so many types. No row changes, and after `Ok` it is known. It may be
-    /// the first of `more` that are asked for one after another: the map grows once for all of these.
+    /// Reserves memory for a satellite of `count` types. No row changes, and after `Ok` the satellite is known.
     #[inline(never)]
-    pub(crate) fn prepare(
-        &mut self,
-        name: [u8; NAME_WIDTH],
-        count: usize,
-        more: usize,
-    ) -> Result<(), AllocError>
+    pub(crate) fn prepare(&mut self, name: [u8; NAME_WIDTH], count: usize) -> Result<(), Refused>
         requires allowed { count ≤ TYPES_LIMIT }
-        ensures asked { AsksRoom (HasRoom name count) self.old self.new result }
-        ensures known { HasRoom name count self.old.rooms → IsOk result }
+        ensures { AsksRoom (HasRoom name count) self.old self.new result }
     {
         let mark = place_of_mark(name);
         let near = usize::from(self.hints[mark]);
@@ -232,7 +227,6 @@ impl Satellites {
             &mut self.places,
             near,
             name,
-            more,
             self.alloc,
         )?;
         self.hints[mark] = u16::try_from(found).unwrap_or(0);
@@ -328,49 +322,26 @@ fn find_or_add(
     places: &mut Vec<usize>,
     near: usize,
     name: [u8; NAME_WIDTH],
-    more: usize,
     alloc: Global,
-) -> Result<usize, AllocError>
+) -> Result<usize, Refused>
     requires order { IsOrder order.old.items places.old.items (length map.old.entries) }
     ensures order { IsOrder order.new.items places.new.items (length map.new.entries) }
     ensures found { IfOk result (λ found. IsFound name found map.old.entries map.new.entries) }
     ensures front { take (length order.old.items) order.new.items ≡ order.old.items }
     ensures unknown { OnErr result ((is_among key_of name map.old.entries ≡ false)
-        × (map.new.entries ≡ map.old.entries) × (order.new.items ≡ order.old.items)
-        × ((spare map.old ≡ 0) ⊎ ((vec_capacity order.old < vec_len order.old + 1)
-        ⊎ (vec_capacity places.old < vec_len places.old + 1)))) }
+        × (map.new.entries ≡ map.old.entries) × (order.new.items ≡ order.old.items)) }
 {
     let count = map.len();
     if let Some(found) = find(map, near, name) {
         return Ok(found);
     }
-    order.reserve(1)?;
-    places.reserve(1)?;
-    keep_spare(map, more)?;
-    match map.insert(name, SatelliteHistory::new(alloc)) {
-        Ok(_) => {
-            order.push_reserved(count);
-            places.push_reserved(count);
-            Ok(count)
-        }
-        Err(_) => Err(AllocError),
-    }
-}
-
-/// Has a map have a place to spare: where it has none, it grows by so many. Grown for one after another, it
-/// would be copied at each growth, which takes some 200 instructions for each of 693 satellites.
-fn keep_spare(
-    map: &mut IndexMap<[u8; NAME_WIDTH], SatelliteHistory>,
-    more: usize,
-) -> Result<(), AllocError>
-    ensures entries { map.new.entries ≡ map.old.entries }
-    ensures room { spare map.old ≤ spare map.new }
-    ensures full { OnErr result (spare map.old ≡ 0) }
-{
-    if map.len() < map.capacity() {
-        return Ok(());
-    }
-    map.reserve(more)
+    reserve(order, 1)?;
+    reserve(places, 1)?;
+    reserve_entries(map, 1)?;
+    map.insert(name, SatelliteHistory::new(alloc)).unwrap();
+    order.push_reserved(count);
+    places.push_reserved(count);
+    Ok(count)
 }
 
 /// The place of the one that is expected, once another came anew: where it was the first of those that

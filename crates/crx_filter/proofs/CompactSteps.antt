@@ -1,13 +1,10 @@
 -- What a reader of compact text holds after a line.
 use Rattle.crx_filter.proofs.Words.{common_steps, arith, ◌≡◌, Bool, true, List, ℕ, Option, None, Result}
-use Rattle.crx_filter.proofs.Words.{Ok, Err, Content, Fault, OutOfMemory}
+use Rattle.crx_filter.proofs.Words.{Ok, Content, Fault}
 use Rattle.crx_filter.proofs.Words.{Count, Satellite, Tail, and_then, RawStep}
-use Rattle.crx_filter.proofs.Words.{OpenRawEpoch}
 use Rattle.crx_filter.{proofs.Words.first_step, specs.CompactStages.{wants_line, wants_lines}}
 use Rattle.crx_compact.specs.OpenEpochs.{ColumnsState, Going, Whole, Faulty, HasMade, opened_raw, awaited_row}
 use Rattle.crx_compact.specs.OpenEpochs.{before_clock, opening, tail_for_line, tail_opened}
-use Rattle.crx_compact.specs.ReadingRooms.{AsksRoomToBegin, HaveCellsRoom}
-use Rattle.std.specs.Prelude.{IfOk}
 
 -- whether an epoch that goes on wants lines
 abbrev wants_more : RawStep → Bool
@@ -28,9 +25,3 @@ opened-wants types line tail = grind (arith, common_steps, satellites-wanted)
 pub begun-wants : (types : List Count) (tail : Option Tail) (line : List ℕ) (after : ColumnsState)
     → HasMade (first_step types tail (Content line)) after None → wants_lines after ≡ true
 begun-wants types tail line after (begun, going, is) = cc (opened-wants types line (tail_for_line tail line))
-
--- memory runs out at an epoch's line only where there isn't room for its satellites
-pub begin-lacks : (opened : Result OpenRawEpoch Fault) (before after : List (List ℕ × ℕ)) (fault : Fault)
-    → AsksRoomToBegin (opening opened) before after (Err fault) → fault ≡ OutOfMemory
-    → IfOk opened (λ begun. HaveCellsRoom begun.rows before) → ⊥
-begin-lacks opened before after fault asks out room = grind (arith, common_steps)

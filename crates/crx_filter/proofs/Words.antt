@@ -55,7 +55,7 @@ pub use Rattle.crx_filter.specs.LineByLine.{phase_after, types_after, may_skip, 
 pub use Rattle.crx_filter.specs.LineByLine.{kept_in, with_phase, after_warning, failed_step, step_of_made}
 pub use Rattle.crx_filter.specs.LineByLine.{phase_in_body, phase_after_items, made_of_unit, made_in, phase_of}
 pub use Rattle.crx_filter.specs.LineByLine.{Answer, InFirstLines, Closed, Ended as RunEnded, Step as LineStep}
-pub use Rattle.crx_filter.specs.{Memory.{takes_memory, may_take_memory}, RinexReaders.{epoch_open, made_at}}
+pub use Rattle.crx_filter.specs.{Memory.may_reserve, RinexReaders.{epoch_open, made_at}}
 pub use Rattle.crx_filter.specs.RinexReaders.{reader_phase, CompletedEpoch, IsSameReader, MovesReader}
 pub use Rattle.crx_filter.specs.RinexReaders.{TakesRow}
 pub use Rattle.crx_filter.specs.{RinexReaders.{TakesRinexLine, Completed}, RinexStages.is_open_stage}
@@ -69,7 +69,7 @@ pub use Rattle.crx_filter.specs.meaning.{Compacted.{compacted, is_interrupted}, 
 pub use Rattle.crx_filter.specs.Damage.{BeginsAnew}
 pub use Rattle.crx_filter.specs.Damage.{lines_of_epochs, lines_after}
 pub use Rattle.crx_filter.specs.meaning.Directions.{rinex_reading, compact_reading, compaction_filter}
-pub use Rattle.crx_filter.specs.meaning.Directions.{expansion_filter, compact_memory}
+pub use Rattle.crx_filter.specs.meaning.Directions.{expansion_filter}
 pub use Rattle.crx_filter.specs.meaning.{Directions.check_filter, Expanded.{expanded_unit, whole_compact}}
 pub use Rattle.crx_filter.specs.meaning.Expanded.{raws_kept, empties_state, event_line, as_observation}
 pub use Rattle.crx_filter.specs.meaning.Expanded.{compact_place, crinex_version, crinex_program, first_lines}
@@ -77,8 +77,7 @@ pub use Rattle.crx_filter.specs.meaning.Expanded.{expanded, compact_epoch_place}
 pub use Rattle.crx_filter.specs.meaning.Items.{Item, types_in_force, Accepted, Warned, is_at_start}
 pub use Rattle.crx_filter.specs.meaning.Items.{header_has_ended, records_announced, records_left}
 pub use Rattle.crx_filter.specs.meaning.Items.{counts_types, records_count_types, declaring_lines}
-pub use Rattle.crx_filter.specs.meaning.{Memory.{compaction_takes, memory_allowed}}
-pub use Rattle.crx_filter.specs.meaning.{Memory.place_takes, Reading.{Reading, reading_from, fault_of_stop}}
+pub use Rattle.crx_filter.specs.meaning.{Reading.{Reading, reading_from, fault_of_stop}}
 pub use Rattle.crx_filter.specs.meaning.Reading.{WholeReading, AtFault, AtLines, Looking, is_skipped}
 pub use Rattle.crx_filter.specs.meaning.Reading.{can_go_on, looked_for, reading_within, Stop, fault_at_end}
 pub use Rattle.crx_filter.specs.meaning.Reading.{ended_with, ended_reading, whole_reading, after_fault}

@@ -1,7 +1,7 @@
--- Every line of an input is accounted for, no noise is in the lines of an epoch, and blocks are short.
-pub mod Reached
-pub mod Clean
-pub mod OfFile
-pub mod OfText
+-- Each line of an input is accounted for, skipping faults leaves lines out, and blocks are short.
+pub mod Fates
+pub mod Copies
+pub mod Told
+pub mod Leaving
 pub mod Shortness
 pub mod ByResults

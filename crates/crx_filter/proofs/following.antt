@@ -2,7 +2,6 @@
 pub mod Following
 pub mod Lines
 pub mod MoreLines
-pub mod Collecting
 pub mod Rinex
 pub mod Compaction
 pub mod Expansion
@@ -13,7 +12,5 @@ pub mod CheckedOn
 pub mod Lawful
 pub mod CheckLawful
 pub mod CheckGoes
-pub mod Memory
-pub mod MemoryOfCompactText
-pub mod MemoryOfRinex
+pub mod CutOff
 pub mod DirectionSteps

@@ -4,10 +4,8 @@ pub mod CompactionSteps
 pub mod RowSteps
 pub mod Together
 pub mod EngineFaults
-pub mod Enough
-pub mod Given
-pub mod HeldRows
 pub mod ExpansionKnows
+pub mod Given
 pub mod StepCounts
 pub mod CheckerSteps
 pub mod CheckerEnds

@@ -53,8 +53,8 @@ abbrev pub checking : Direction Epoch OpenEpoch Totals
 checking = record {
   begins = rinex_begins;
   continues = rinex_continues;
-  memory_first = λ types kept line. false;
-  memory_next = λ so_far line. false;
+  reserves_first = false;
+  reserves_next = false;
   kept_after = totals_after;
   kept_open = λ kept. kept;
   emptied = λ kept. kept;

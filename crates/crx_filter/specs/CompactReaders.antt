@@ -6,23 +6,22 @@ use Rattle.crx_compact.specs.Tails.{Tail}
 use Rattle.crx_filter.specs.CompactStages.{open_in}
 use Rattle.crx_filter.specs.DirectionParts.{DirectionParts, Reads}
 use Rattle.crx_filter.specs.ExpansionByLine.{expansion}
-use Rattle.crx_filter.specs.Rooms.{HasRoomInExpansion}
 use Rattle.crx_filter.specs.declared.compact_reader.CompactReader.{CompactReader}
 
 -- what a reader has between two lines is what an expansion has
 abbrev pub compact_reader_parts : CompactReader → DirectionParts OpenRawEpoch (Option Tail)
 compact_reader_parts r = record {
   stage = r.stage;
-  begun = open_in r.columns.value.state;
+  begun = open_in r.columns.value;
   types = r.types;
-  kept = tail_held r.columns.value.state;
+  kept = tail_held r.columns.value;
 }
 
 -- what it answers to a line, by any choices, and these lines are ready then
 abbrev pub ReadsCompactLine :
     CompactReader → List ℕ → Result Bool Fault → List (List ℕ) → CompactReader → Type 0
 ReadsCompactLine before line result ready after = Reads expansion (λ choices. ⊤)
-    (compact_reader_parts before) line (HasRoomInExpansion before line) result ready (compact_reader_parts after)
+    (compact_reader_parts before) line result ready (compact_reader_parts after)
 
 -- the line itself, where it is copied
 abbrev pub line_copied : List ℕ → Result Bool Fault → List (List ℕ)

@@ -1,14 +1,12 @@
 -- Compaction line by line: the state between two lines, by the tail of the epochs alone.
-use Rattle.std.specs.Prelude.{ℕ, Bool, false, ◌+◌, List, [], ◌∷◌, ◌++◌, length, Option, Some, None, Result, Ok}
+use Rattle.std.specs.Prelude.{ℕ, Bool, true, false, ◌+◌, List, [], ◌∷◌, ◌++◌, length, Option, Some, None, Result, Ok}
 use Rattle.std.specs.Prelude.{Err, if◌then◌else◌}
-use Rattle.std.specs.Result.{is_ok}
 use Rattle.crx_base.specs.meaning.AsRead.{ReadLine}
 use Rattle.crx_base.specs.declared.fault.Fault.{Fault}
 use Rattle.crx_rinex.specs.meaning.Observations.{Epoch}
 use Rattle.crx_rinex.specs.meaning.Units.{Unit, HeaderLine, EventLine, EventRecord, Observation}
 use Rattle.crx_header.specs.meaning.ObservationTypes.{Count}
 use Rattle.crx_rinex.specs.meaning.EpochPlaces.{OpenEpoch, Beginning, EventBegins, EpochBegins, beginning_of, opened}
-use Rattle.crx_rinex.specs.meaning.EpochPlaces.{next_row}
 use Rattle.crx_rinex.specs.EpochPlaces.{EpochStep, Going, Whole, Faulty, whole_or_going, epoch_step, open_with}
 use Rattle.crx_compact.specs.Tails.{Tail, tail_or_nothing}
 use Rattle.crx_compact.specs.Steps.{lines_after_tail, tail_after, tail_written_after}
@@ -46,12 +44,6 @@ rinex_begins types kept line = made_of_line (λ content. made_of_beginning types
 abbrev pub rinex_continues : OpenEpoch → ReadLine → Made Epoch OpenEpoch
 rinex_continues so_far line = made_of_epoch_step (epoch_step so_far line)
 
--- ---- what takes memory
-
--- a satellite's line takes memory where it is a good row of a new satellite
-abbrev pub is_next_row : OpenEpoch → List ℕ → Bool
-is_next_row so_far line = is_ok (next_row so_far line)
-
 -- ---- the state, and what is written
 
 -- the tail that the next epoch is written after: none where its index is one of every so many, or where there is none
@@ -83,8 +75,8 @@ abbrev pub compaction : Direction Epoch OpenEpoch Written
 compaction = record {
   begins = rinex_begins;
   continues = rinex_continues;
-  memory_first = λ types kept line. false;
-  memory_next = is_next_row;
+  reserves_first = false;
+  reserves_next = true;
   kept_after = written_kept;
   kept_open = λ kept. kept;
   emptied = λ kept. record { index = kept.index; tail = None };

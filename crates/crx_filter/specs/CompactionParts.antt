@@ -1,20 +1,13 @@
 -- What a compaction has between two lines, and how its parts belong together.
-use Rattle.std.specs.Prelude.{◌≡◌, ℕ, Bool, true, false, not, List, [], length, map, Some}
+use Rattle.std.specs.Prelude.{◌≡◌, ℕ, Bool, true, false, not, List, [], length, Some}
 use Rattle.crx_base.specs.declared.fault.Fault.{Fault}
-use Rattle.crx_base.specs.meaning.AsRead.{as_read}
-use Rattle.crx_base.specs.meaning.Choices.{Choices}
-use Rattle.crx_base.specs.meaning.Lines.{InputLine}
 use Rattle.crx_compact.specs.Encoding.{EncoderState}
-use Rattle.crx_compact.specs.Placing.{HaveRoom, KeepsRooms}
 use Rattle.crx_rinex.specs.meaning.EpochLines.{ObservationHead}
 use Rattle.crx_rinex.specs.meaning.EpochPlaces.{OpenEpoch}
 use Rattle.crx_filter.specs.CompactionByLine.{Written}
 use Rattle.crx_filter.specs.DirectionParts.{DirectionParts}
-use Rattle.crx_filter.specs.meaning.Directions.{rinex_reading}
-use Rattle.crx_filter.specs.meaning.Memory.{compaction_outgrows}
 use Rattle.crx_filter.specs.RinexReaders.{RefusesRinexLine, TakesRow, epoch_open, made_at}
 use Rattle.crx_filter.specs.RinexStages.{is_open_stage, rows_open}
-use Rattle.crx_filter.specs.Rooms.{HasRoomForRow}
 use Rattle.crx_filter.specs.declared.rinex_reader.RinexReader.{RinexReader}
 use Rattle.crx_filter.specs.declared.stage.Stage.{Stage}
 use Rattle.crx_filter.specs.declared.stage.Stage.TheVariants.{Open}
@@ -25,16 +18,10 @@ pub record CompactionState : Type 0 where
   pub reader : RinexReader
   pub encoder : EncoderState
 
--- the encoder has the rows of the epoch that the reader has open, and room for them
+-- the encoder has the rows of the epoch that the reader has open
 pub record BelongTogether (reader : RinexReader) (encoder : EncoderState) : Type 0 where
   pub opened : encoder.is_open ≡ is_open_stage reader.stage
   pub rows : encoder.rows ≡ rows_open reader.stage reader.rows.rows
-  pub held : encoder.is_open ≡ true → HaveRoom encoder.rows encoder.rooms
-
--- whether a line needs more than the epochs that were accepted in the lines before it did
-abbrev pub compaction_line_outgrows : Choices → List InputLine → InputLine → Bool
-compaction_line_outgrows choices lines line =
-    compaction_outgrows (rinex_reading choices.skip (map as_read lines)) (as_read line)
 
 -- an open epoch is in full where it is due
 abbrev pub is_full_where_due : Stage → Bool → Bool → Bool
@@ -61,18 +48,14 @@ pub record HasWholeEpoch (reader : RinexReader) (encoder : EncoderState) : Type 
 pub record HasWrittenRow (before : RinexReader) (encoder : EncoderState) (line : List ℕ) (is_last : Bool)
     (after : RinexReader) (new : EncoderState) : Type 0 where
   pub takes : (kept : Written) → TakesRow (made_at before line kept) is_last before after
-  pub written : new ≡ record encoder { rows = after.rows.rows; rooms = new.rooms }
-  pub held : HaveRoom new.rows new.rooms
-  pub kept : KeepsRooms encoder.rooms new.rooms
+  pub written : new ≡ record encoder { rows = after.rows.rows }
 
 -- a row was refused: nothing is written
 pub record HasRefusedRow (before : RinexReader) (encoder : EncoderState) (line : List ℕ) (fault : Fault)
     (after : RinexReader) (new : EncoderState) : Type 0 where
-  pub refuses : (kept : Written)
-      → RefusesRinexLine (made_at before line kept) before line (HasRoomForRow before.types line encoder.rooms → ⊥) fault
+  pub refuses : (kept : Written) → RefusesRinexLine (made_at before line kept) before line fault
   pub types : after.types ≡ before.types
   pub nothing : new.pending ≡ []
-  pub kept : KeepsRooms encoder.rooms new.rooms
   pub together : BelongTogether after new
   pub full : (due : Bool) → is_full_where_due before.stage encoder.in_full due ≡ true
       → is_full_where_due after.stage new.in_full due ≡ true

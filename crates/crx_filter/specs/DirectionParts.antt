@@ -2,7 +2,7 @@
 use Rattle.std.specs.Prelude.{◌≡◌, ◌⊎◌, ◌<◌, ◌≤◌, ℕ, ◌+◌, Bool, true, false, not, List, [], length, map, Option, Some}
 use Rattle.std.specs.Prelude.{Result, Ok, Err, IfOk, IfErr, OnErr}
 use Rattle.crx_base.specs.declared.limits.TheConstants.{INPUT_LIMIT}
-use Rattle.crx_base.specs.meaning.Lines.{InputLine, is_long}
+use Rattle.crx_base.specs.meaning.Lines.{InputLine}
 use Rattle.crx_base.specs.meaning.AsRead.{ReadLine, Content, Overlong, as_read}
 use Rattle.crx_base.specs.meaning.Choices.{Choices}
 use Rattle.crx_base.specs.declared.fault.Fault.{Fault}
@@ -11,7 +11,7 @@ use Rattle.crx_header.specs.meaning.ObservationTypes.{Count}
 use Rattle.crx_base.specs.declared.fault.At.{At}
 use Rattle.crx_filter.specs.LineByLine.{RunState, Direction, Made, Rejects, Answer, Quiet, Ready, Notice, made_in}
 use Rattle.crx_filter.specs.LineByLine.{failed_step, state_next}
-use Rattle.crx_filter.specs.Memory.{may_take_memory}
+use Rattle.crx_filter.specs.Memory.{may_reserve}
 use Rattle.crx_filter.specs.EngineLines.{HasTaken}
 use Rattle.crx_filter.specs.EngineSteps.{step_made}
 use Rattle.crx_filter.specs.meaning.Reading.{can_go_on}
@@ -70,21 +70,21 @@ abbrev pub made_at_parts : {U O K : Type 0} → Direction U O K → DirectionPar
 made_at_parts direction parts line =
     made_in direction (phase_of_stage parts.begun parts.stage) parts.types parts.kept (Content line)
 
--- a fault is that of the line, or memory ran out at a line that may take some, and for which there wasn't this room
-abbrev pub RefusesLine : {U O K : Type 0} → Direction U O K → DirectionParts O K → List ℕ → Type 0 → Fault → Type 0
-RefusesLine direction parts line room fault = (made_at_parts direction parts line ≡ Rejects fault)
-    ⊎ ((fault ≡ OutOfMemory) × (may_take_memory parts.types (direction.memory_first parts.types parts.kept)
-    direction.memory_next (phase_of_stage parts.begun parts.stage) (Content line) ≡ true) × (room → ⊥))
+-- a fault is that of the line, or memory ran out at a line that may take some
+abbrev pub RefusesLine : {U O K : Type 0} → Direction U O K → DirectionParts O K → List ℕ → Fault → Type 0
+RefusesLine direction parts line fault = (made_at_parts direction parts line ≡ Rejects fault)
+    ⊎ ((fault ≡ OutOfMemory) × (may_reserve direction.reserves_first direction.reserves_next (phase_of_stage parts.begun parts.stage) (Content line)
+    ≡ true))
 
 -- what a direction answers to a line, by the choices that it serves: whether lines are ready, as the line's step says,
 -- or a fault, after which none is, the types are the same, and so is what a fault leaves of the epochs before
 pub record Reads {U O K : Type 0} (direction : Direction U O K) (serves : Choices → Type 0)
-    (before : DirectionParts O K) (line : List ℕ) (room : Type 0) (result : Result Bool Fault)
+    (before : DirectionParts O K) (line : List ℕ) (result : Result Bool Fault)
     (ready : List (List ℕ)) (after : DirectionParts O K) : Type 0 where
   pub takes : (choices : Choices) (number : ℕ) → serves choices → IfOk result (λ is_ready.
       record { answer = answer_for is_ready; handed_out = ready; next = state_by choices (number + 1) after }
       ≡ state_next direction (state_by choices number before) (Content line))
-  pub refuses : IfErr result (RefusesLine direction before line room)
+  pub refuses : IfErr result (RefusesLine direction before line)
   pub types : OnErr result (after.types ≡ before.types)
   pub kept : OnErr result (direction.emptied after.kept ≡ direction.emptied before.kept)
   pub nothing : OnErr result (ready ≡ [])
@@ -135,10 +135,10 @@ module _ {U O K : Type 0} (direction : Direction U O K) (chosen : Choices → Ch
   -- then: what it reads; it serves them still; it counts one unit more at most, and none where it refuses the line; and
   -- what it knew of lines it knows, of this one too where it took it
   pub record DirectionTakes (served : Choices → Type 0) (before : DirectionParts O K) (number : ℕ) (line : InputLine)
-      (room : Type 0) (result : Result Bool Fault) (ready : List (List ℕ)) (after : DirectionParts O K)
+      (result : Result Bool Fault) (ready : List (List ℕ)) (after : DirectionParts O K)
       (serves : Choices → Bool) (counted count : ℕ) (knew knows : Choices → List InputLine → Type 0)
       : Type 0 where
-    pub reads : Reads direction served before line.content room result ready after
+    pub reads : Reads direction served before line.content result ready after
     pub serving : (choices : Choices) → served choices → serves choices ≡ true
     pub counts : CountsOneAtMost result counted count
     pub notes : KnowsNext before knew knows number line result
@@ -150,13 +150,6 @@ module _ {U O K : Type 0} (direction : Direction U O K) (chosen : Choices → Ch
       → ComesAfter choices lines line parts → knows choices lines → brings_nothing (state_next direction
       (state_by choices (length lines) parts) (as_read line)).answer (as_read line) ≡ true
       → knows choices (with_next lines line)
-
-  -- by what it knows of the lines that it has taken, there is room for the next one where that needs no more
-  abbrev pub HasEnough : (Choices → List InputLine → InputLine → Bool) → DirectionParts O K
-      → (Choices → List InputLine → Type 0) → (List ℕ → Type 0) → Type 0
-  HasEnough outgrows parts knows has_room = (choices : Choices) (lines : List InputLine) (line : InputLine)
-      → ComesAfter choices lines line parts → knows choices lines → is_long line ≡ false
-      → outgrows choices lines line ≡ false → has_room line.content
 
 -- lines that are ready are borrowed from it, and all else stays: its parts, its count, the choices that it serves, what
 -- it knows of some lines, and what it has found in them

@@ -1,15 +1,14 @@
 -- What a direction has to keep to, in the words of a filter.
-use Rattle.std.specs.Prelude.{◌≡◌, ℕ, Bool, true, List, [], ◌∷◌, ◌++◌, map, length, Some, reverse}
+use Rattle.std.specs.Prelude.{◌≡◌, ℕ, List, ◌++◌, map, length, reverse, Some}
 use Rattle.crx_base.specs.meaning.Lines.{InputLine, lines_text}
 use Rattle.crx_base.specs.meaning.AsRead.{ReadLine, Overlong, as_read}
-use Rattle.crx_base.specs.declared.fault.At.{At}
 use Rattle.crx_base.specs.meaning.Choices.{Choices}
 use Rattle.crx_runs.specs.meaning.Filters.{Filter, with_next}
 use Rattle.crx_filter.specs.Laws.{Fed, fed, noticed_by, failed_by}
 use Rattle.crx_base.specs.declared.fault.Fault.TheVariants.{LineTooLong}
 use Rattle.crx_header.specs.meaning.ObservationTypes.{Count}
-use Rattle.crx_filter.specs.LineByLine.{RunState, Direction, Rejects, Notice, Step as LineStep, state_next, state_end_with}
-use Rattle.crx_filter.specs.Memory.{takes_memory}
+use Rattle.crx_filter.specs.LineByLine.{noticed_again, state_next}
+use Rattle.crx_filter.specs.LineByLine.{RunState, Direction, Rejects, Step as LineStep, state_end_with}
 
 -- one line more, as it is fed, is what the filter makes of it
 pub record FollowsBy (filter : Filter) {O K : Type 0}
@@ -29,24 +28,19 @@ pub record EndsLineByLine (filter : Filter) {O K : Type 0} (lines : List InputLi
       (noticed_by end.answer)
   pub fault : (filter.whole lines).fault ≡ failed_by end.answer
 
--- a direction goes line by line as its filter says, by the state after some lines, by the lines that it hands out
--- at a good end after them, and by whether a line after them may need more memory than they did
+-- a direction goes line by line as its filter says, by the state after some lines, and by the lines that it hands out
+-- at a good end after them
 pub record GoesLineByLine {U O K : Type 0} (direction : Direction U O K) (closing_after : List InputLine
     → List (List ℕ)) (state_after_lines : List ReadLine → RunState O K)
-    (outgrows : List InputLine → InputLine → Bool) (filter : Filter) : Type 0 where
+    (filter : Filter) : Type 0 where
   pub follows : (lines : List InputLine) (line : InputLine) → FollowsBy filter lines line
       (state_after_lines (map as_read (with_next lines line))) (fed direction (state_after_lines (map as_read lines)) (as_read line))
   pub ends : (lines : List InputLine) → EndsLineByLine filter lines
       (state_end_with direction (closing_after lines) (state_after_lines (map as_read lines)))
   pub number : (lines : List InputLine) → (state_after_lines (map as_read lines)).number ≡ length lines
-  -- memory may run out at a line that needs more: at once, or after the warning of one that comes again
-  pub memory_first : (lines : List InputLine) (line : InputLine) → outgrows lines line ≡ true
-      → takes_memory direction (state_after_lines (map as_read lines)) (as_read line) ≡ true
-      → filter.memory_after lines line ≡ Some []
-  pub memory_again : (lines : List InputLine) (line : InputLine) (next : RunState O K) (notice : At)
-      → outgrows lines line ≡ true → record { answer = Notice notice true; handed_out = []; next = next }
-      ≡ state_next direction (state_after_lines (map as_read lines)) (as_read line)
-      → takes_memory direction next (as_read line) ≡ true → filter.memory_after lines line ≡ Some (notice ∷ [])
+  -- where memory runs out at a line that comes a second time, it does so after that warning
+  pub cut : (lines : List InputLine) (line : InputLine) → filter.memory_after lines line ≡ Some (noticed_again
+      (state_next direction (state_after_lines (map as_read lines)) (as_read line)).answer)
   -- a line that is too long is a fault
   pub too_long_first : (types : List Count) (kept : K) → direction.begins types kept Overlong ≡ Rejects LineTooLong
   pub too_long_next : (so_far : O) → direction.continues so_far Overlong ≡ Rejects LineTooLong
@@ -54,7 +48,7 @@ pub record GoesLineByLine {U O K : Type 0} (direction : Direction U O K) (closin
 -- a direction keeps to what its filter says, whatever the choices are that it takes of the user's
 abbrev pub IsLawfulDirection : {U O K : Type 0} → Direction U O K → (Choices → Choices)
     → (Choices → List InputLine → List (List ℕ)) → (Choices → List ReadLine → RunState O K)
-    → (Choices → List InputLine → InputLine → Bool) → (Choices → Filter) → Type 0
-IsLawfulDirection direction chosen closing_after state_after_lines outgrows filter = (choices : Choices)
+    → (Choices → Filter) → Type 0
+IsLawfulDirection direction chosen closing_after state_after_lines filter = (choices : Choices)
     → chosen choices ≡ choices → GoesLineByLine direction (closing_after choices) (state_after_lines choices)
-    (outgrows choices) (filter choices)
+    (filter choices)

@@ -6,7 +6,7 @@ use Rattle.crx_base.specs.declared.fault.At.{At}
 use Rattle.crx_base.specs.meaning.Lines.{InputLine}
 use Rattle.crx_base.specs.meaning.AsRead.{ReadLine}
 use Rattle.crx_filter.specs.EngineLines.{HasTaken}
-use Rattle.crx_filter.specs.DirectionParts.{EngineParts, HasEnough, IsAfterLines, ComesAfter, state_by}
+use Rattle.crx_filter.specs.DirectionParts.{EngineParts, IsAfterLines, ComesAfter, state_by}
 use Rattle.crx_filter.specs.LineByLine.{Ended, RunState, state_end_with}
 use Rattle.crx_runs.specs.Engines.{Awaited}
 use Rattle.crx_filter.specs.EngineLaws.{GoesLineByLine}
@@ -42,14 +42,11 @@ module _ {D : Type 0} (d : Ghosts D) where
   abbrev pub engine_took : EngineParts D → List InputLine → List Awaited → Type 0
   engine_took e lines notices = engine_seen e lines notices × d.notes e.direction e.options lines
 
-  -- it goes line by line as its filter says, and there is room for a line that needs no more than those before it
-  -- did
+  -- it goes line by line as its filter says
   pub record EngineGoes (e : EngineParts D) : Type 0 where
     pub chosen : d.chosen e.options ≡ e.options
     pub lawful : GoesLineByLine d.by_line (d.closing_after e.options) (d.state_after_lines e.options)
-        (d.needs_more e.options) (d.filter e.options)
-    pub enough : HasEnough d.by_line d.chosen d.state_after_lines d.needs_more (d.parts e.direction)
-        (d.notes e.direction) (d.has_room e.direction)
+        (d.filter e.options)
 
   -- what its direction knows of the lines that it has taken, it knows of the next one too, once that counts
   abbrev pub EngineNotes : EngineParts D → InputLine → Result Step At → EngineParts D → Type 0
@@ -64,8 +61,7 @@ module _ {D : Type 0} (d : Ghosts D) where
   pub record TakesLine (before : EngineParts D) (line : InputLine) (read : ReadLine) (result : Result Step At)
       (ready : List (List ℕ)) (after : EngineParts D) : Type 0 where
     pub goes : EngineGoes before
-    pub steps : Steps d.by_line (engine_state before) read (d.has_room before.direction line.content) result ready
-        (engine_state after)
+    pub steps : Steps d.by_line (engine_state before) read result ready (engine_state after)
     pub ended : IfErr result (λ at. (engine_state after).phase ≡ Ended at)
     pub notes : EngineNotes before line result after
     pub stays : (choices : Choices) (lines : List InputLine) → d.notes before.direction choices lines

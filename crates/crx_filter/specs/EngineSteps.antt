@@ -5,7 +5,7 @@ use Rattle.crx_base.specs.declared.fault.At.{At}
 use Rattle.crx_base.specs.declared.fault.Fault.TheVariants.{OutOfMemory}
 use Rattle.crx_filter.specs.LineByLine.{RunState, Direction, Answer, Quiet as LineQuiet, Ready as LineReady, Notice}
 use Rattle.crx_filter.specs.LineByLine.{Ended, Failed, Step as LineStep, state_next, with_phase}
-use Rattle.crx_filter.specs.Memory.{takes_memory}
+use Rattle.crx_filter.specs.Memory.{may_reserve}
 use Rattle.crx_runs.specs.declared.engine.Step.{Step}
 use Rattle.crx_runs.specs.declared.engine.Step.TheVariants.{Quiet, Ready, Warned}
 
@@ -25,9 +25,9 @@ out_of_memory direction before =
     let at : At = record { line = before.number + 1; fault = OutOfMemory } in
     record { answer = Failed at; handed_out = []; next = with_phase direction before (Ended at) }
 
--- it made the step of a line; or memory ran out at a line that may take some, and there isn't this room
-abbrev pub Steps : {U O K : Type 0} → Direction U O K → RunState O K → ReadLine → Type 0 → Result Step At
+-- it made the step of a line; or memory ran out at a line that may take some
+abbrev pub Steps : {U O K : Type 0} → Direction U O K → RunState O K → ReadLine → Result Step At
     → List (List ℕ) → RunState O K → Type 0
-Steps direction before line room result ready after = (step_made result ready after ≡ state_next direction before line)
-    ⊎ ((takes_memory direction before line ≡ true) × (room → ⊥)
+Steps direction before line result ready after = (step_made result ready after ≡ state_next direction before line)
+    ⊎ ((may_reserve direction.reserves_first direction.reserves_next before.phase line ≡ true)
     × (step_made result ready after ≡ out_of_memory direction before))

@@ -1,5 +1,5 @@
 -- Expansion line by line: the state between two lines, by the tail of the epochs alone.
-use Rattle.std.specs.Prelude.{ℕ, Bool, false, not, List, [], ◌∷◌, length, Option, Some, None, if◌then◌else◌}
+use Rattle.std.specs.Prelude.{Bool, true, false, List, [], ◌∷◌, length, Option, Some, None, if◌then◌else◌}
 use Rattle.crx_base.specs.meaning.AsRead.{ReadLine, Content, Overlong}
 use Rattle.crx_header.specs.meaning.EpochColumns.{is_event_line}
 use Rattle.crx_rinex.specs.meaning.Places.{Done, Fails, NeedsMore}
@@ -9,7 +9,7 @@ use Rattle.crx_rinex.specs.meaning.Observations.{Epoch}
 use Rattle.crx_compact.specs.meaning.CompactPlaces.{ReadEpoch}
 use Rattle.crx_compact.specs.Tails.{Tail, tail_left}
 use Rattle.crx_compact.specs.OpenEpochs.{OpenRawEpoch, HeldEpoch, RawStep, Going, Whole, Faulty, first_step, next_step}
-use Rattle.crx_compact.specs.OpenEpochs.{is_faulty, open_raw_with}
+use Rattle.crx_compact.specs.OpenEpochs.{open_raw_with}
 use Rattle.crx_base.specs.meaning.Choices.{Choices}
 use Rattle.crx_filter.specs.meaning.Items.{Item, types_in_force}
 use Rattle.crx_filter.specs.LineByLine.{Phase, InFirstLines, InEpoch, RunState, Made, Completes, Moves, Rejects}
@@ -35,12 +35,6 @@ compact_begins types tail line =
 abbrev pub compact_continues : OpenRawEpoch → ReadLine → Made HeldEpoch OpenRawEpoch
 compact_continues so_far line = made_of_raw_step (next_step so_far line)
 
--- ---- what takes memory
-
--- an epoch's line takes memory where it has no fault, for all lines of the epoch
-abbrev pub is_good_beginning : List Count → Option Tail → List ℕ → Bool
-is_good_beginning types tail line = not (is_faulty (first_step types tail (Content line)))
-
 -- ---- the state, and what is written
 
 -- a types line that is accepted among an event's records empties the reader's state, and so does all before the first
@@ -63,8 +57,8 @@ abbrev pub expansion : Direction HeldEpoch OpenRawEpoch (Option Tail)
 expansion = record {
   begins = compact_begins;
   continues = compact_continues;
-  memory_first = is_good_beginning;
-  memory_next = λ so_far line. false;
+  reserves_first = true;
+  reserves_next = false;
   kept_after = tail_kept;
   kept_open = λ tail. None;
   emptied = λ tail. None;

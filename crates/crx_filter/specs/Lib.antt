@@ -31,6 +31,4 @@ pub mod EngineState
 pub mod LenderState
 pub mod CheckerState
 pub mod CheckingParts
-pub mod Rooms
-pub mod EpochRooms
 pub mod Holdings

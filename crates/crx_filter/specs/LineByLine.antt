@@ -53,13 +53,13 @@ pub data Made (U O : Type 0) : Type 0 where
   Repeats : At → Made U O
 
 -- what differs between the two directions: what a line makes where an epoch or an event may begin; what it makes in an
--- epoch; whether a line may take memory where an epoch begins, and in an epoch; the state after a unit, while an
+-- epoch; whether the first line of an epoch may take memory, and whether another may; the state after a unit, while an
 -- epoch is open, and after a fault; and the lines written for a unit
 pub record Direction (U O K : Type 0) : Type 0 where
   pub begins : List Count → K → ReadLine → Made U O
   pub continues : O → ReadLine → Made U O
-  pub memory_first : List Count → K → List ℕ → Bool
-  pub memory_next : O → List ℕ → Bool
+  pub reserves_first : Bool
+  pub reserves_next : Bool
   pub kept_after : RunState O K → Unit U → K
   pub kept_open : K → K
   pub emptied : K → K
@@ -137,6 +137,11 @@ pub data Answer : Type 0 where
   Ready : Answer
   Notice : At → Bool → Answer
   Failed : At → Answer
+
+-- the warning after which a line comes a second time
+abbrev pub noticed_again : Answer → List At
+noticed_again (Notice at true) = at ∷ []
+noticed_again answer = []
 
 -- lines that are handed out are pending; without any, nothing is answered
 abbrev pub answer_of_lines : List (List ℕ) → Answer

@@ -9,12 +9,11 @@ use Rattle.crx_rinex.specs.meaning.Observations.{Epoch as ObservationEpoch}
 use Rattle.crx_rinex.specs.meaning.EpochPlaces.{OpenEpoch}
 use Rattle.crx_rinex.specs.meaning.Units.{Unit, HeaderLine, EventLine, EventRecord, Observation}
 use Rattle.crx_compact.specs.Written.{epoch_by_rows}
-use Rattle.crx_filter.specs.CompactionByLine.{compaction, is_before_header, is_next_row, Written}
+use Rattle.crx_filter.specs.CompactionByLine.{compaction, is_before_header, Written}
 use Rattle.crx_filter.specs.LineByLine.{Phase, Made, Completes, Moves, Rejects, made_in, phase_after, types_after}
-use Rattle.crx_filter.specs.Memory.{may_take_memory}
+use Rattle.crx_filter.specs.Memory.{may_reserve}
 use Rattle.crx_filter.specs.Stages.{phase_of_stage, is_ended}
 use Rattle.crx_filter.specs.RinexStages.{is_open_stage, open_epoch}
-use Rattle.crx_filter.specs.Rooms.{LackTypes}
 use Rattle.crx_filter.specs.declared.rinex_reader.RinexReader.{RinexReader}
 use Rattle.crx_filter.specs.declared.rinex_reader.RinexStep.{RinexStep}
 use Rattle.crx_filter.specs.declared.rinex_reader.RinexStep.TheVariants.{Nothing, Header, Event, Record}
@@ -81,11 +80,10 @@ TakesRinexLine made before line Event after = Completed made (EventLine line) be
 TakesRinexLine made before line Record after = Completed made (EventRecord line) before after
 TakesRinexLine made before line Begun after = BeginsEpoch made before after
 
--- a fault is that of the line, or memory ran out at a line that may take some, since this was lacking: the reading of an
--- epoch's line takes none
-abbrev pub RefusesRinexLine : Made ObservationEpoch OpenEpoch → RinexReader → List ℕ → Type 0 → Fault → Type 0
-RefusesRinexLine made before line lacks fault = (made ≡ Rejects fault) ⊎ ((fault ≡ OutOfMemory)
-    × (may_take_memory before.types (λ first. false) is_next_row (reader_phase before) (Content line) ≡ true) × lacks)
+-- a fault is that of the line, or memory ran out at a line that may take some
+abbrev pub RefusesRinexLine : Made ObservationEpoch OpenEpoch → RinexReader → List ℕ → Fault → Type 0
+RefusesRinexLine made before line fault =
+    (made ≡ Rejects fault) ⊎ ((fault ≡ OutOfMemory) × (may_reserve false true (reader_phase before) (Content line) ≡ true))
 
 -- what a reader answers to a line that is no row of an open epoch, whatever is kept of the epochs before; after
 -- a fault it is as it was
@@ -94,5 +92,5 @@ pub record ReadsRinexLine (before : RinexReader) (line : List ℕ) (result : Res
   pub takes : (kept : Written)
       → IfOk result (λ step. TakesRinexLine (made_at before line kept) before line step after)
   pub refuses : (kept : Written)
-      → IfErr result (RefusesRinexLine (made_at before line kept) before line (LackTypes before.stage before.types))
+      → IfErr result (RefusesRinexLine (made_at before line kept) before line)
   pub same : OnErr result (IsSameReader before after)

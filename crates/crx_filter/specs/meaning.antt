@@ -7,7 +7,6 @@ pub mod Compacted
 pub mod Expanded
 pub mod Standard
 pub mod Damage
-pub mod Memory
 pub mod Directions
 pub mod WayBack
 pub mod Lossless
@@ -17,5 +16,6 @@ pub mod WrittenStandard
 pub mod Canonical
 pub mod Promises
 pub mod Stretches
+pub mod Fate
 pub mod Accounts
 pub mod ByResults

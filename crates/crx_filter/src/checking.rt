@@ -24,14 +24,14 @@ use crate::rinex_reader::{RinexReader, RinexStep};
 use crate::stage::Stage;
 use crate::totals::Totals;
 use crx_base::limits::{HEAD_WIDTH, VERSION_WIDTH};
-use crx_base::{Fault, Options};
+use crx_base::{Fault, Options, Refused};
 use crx_header::{Identifiers, padded};
 use crx_lines::Line;
 use crx_rinex::{has_printed_form, print_head};
 use crx_runs::HandedOut;
 use crx_text::Text;
 use crx_text::columns::end_trimmed;
-use std::alloc::{AllocError, Global};
+use std::alloc::Global;
 use std::marker::Model;
 
 /// What a check has noted of the lines so far.
@@ -162,7 +162,6 @@ pub fn no_options() -> Options
 
 impl Direction for Checking {
     ghost use Rattle.crx_filter.specs.CheckingParts.{HasFound, HasNoted, checking_parts, never_skips, pending_report, report_of};
-    ghost use Rattle.crx_filter.specs.Rooms.{HaveTypes};
     ghost use Rattle.crx_filter.specs.meaning.Directions.{check_filter};
     ghost use Rattle.crx_filter.specs.meaning.Standard.{findings_of, report_lines};
 
@@ -194,13 +193,9 @@ impl Direction for Checking {
 
     ghost takes_at_start = { false };
 
-    ghost has_room = { λ c line. HaveTypes c.reader.stage c.reader.types };
-
     ghost notes = { λ c choices lines. HasNoted c lines };
 
     ghost report_is = { HasFound };
-
-    ghost needs_more = { λ choices lines line. true };
 
     ghost skipping = { λ c choices lines taken skips. never_skips choices taken skips };
 
@@ -208,7 +203,7 @@ impl Direction for Checking {
         no_options()
     }
 
-    fn new(alloc: Global) -> Result<Checking, AllocError> {
+    fn new(alloc: Global) -> Result<Checking, Refused> {
         Ok(Checking {
             reader: RinexReader::new(alloc),
             noted: Noted {

@@ -9,10 +9,10 @@ ghost use Rattle.crx_filter.specs.meaning.Standard.{checked};
 
 use crate::checking::{Checking, no_options};
 use crate::engine::LineEngine;
-use crx_lines::{Sink, Source};
-use crx_runs::Outcome;
+use crx_lines::{LineReader, Sink, Source};
 use crx_runs::run::run;
 use crx_runs::start::start;
+use crx_runs::{Outcome, Run};
 use std::alloc::Global;
 
 /// Checks a RINEX file: writes its report once the whole input is accepted, and else reports the fault that
@@ -39,19 +39,29 @@ pub fn check<R: Source, W: Sink, M: Sink>(
         (span W.Sink writer.old writer.new) (span M.Sink messages.old messages.new) result.fault }
 {
     match LineEngine::<Checking>::new(alloc, no_options()) {
-        Ok(mut engine) => {
-            let Outcome { status, fault } = run(alloc, &mut engine, reader, writer, messages);
-            // Where no fault has ended it, the status says whether the file is standard.
-            let status = match (fault, engine.not_standard()) {
-                (None, None) => 0,
-                (None, Some(_)) => 2,
-                (Some(_), _) => status,
-            };
-            Outcome { status, fault }
-        }
-        Err(error) => start::<LineEngine<Checking>, R, W, M>(
+        Ok(engine) => match LineReader::open(alloc) {
+            Ok(input) => {
+                let mut begun = Run::over(engine, input);
+                let Outcome { status, fault } = run(&mut begun, reader, writer, messages);
+                // If no fault has ended it, the status says whether the file is standard.
+                let status = match (fault, begun.engine().not_standard()) {
+                    (None, None) => 0,
+                    (None, Some(_)) => 2,
+                    (Some(_), _) => status,
+                };
+                Outcome { status, fault }
+            }
+            Err(refused) => start::<LineEngine<Checking>, R, W, M>(
+                alloc,
+                Err(refused),
+                reader,
+                writer,
+                messages,
+            ),
+        },
+        Err(refused) => start::<LineEngine<Checking>, R, W, M>(
             alloc,
-            Err(error),
+            Err(refused),
             reader,
             writer,
             messages,

@@ -7,7 +7,6 @@ ghost use Rattle.crx_compact.specs.Blocks.{PendingLines};
 ghost use Rattle.crx_compact.specs.PrintedBlocks.{ArePrinted};
 ghost use Rattle.crx_header.specs.meaning.EpochColumns.{begins_epoch};
 ghost use Rattle.crx_filter.specs.CompactStages.{is_compact_stage};
-ghost use Rattle.crx_filter.specs.EpochRooms.{KeepsRoomInColumns};
 ghost use Rattle.crx_filter.specs.RinexStages.{is_open_stage};
 ghost use Rattle.crx_filter.specs.Stages.{is_ended};
 ghost use Rattle.crx_filter.specs.declared.stage.Stage.{Stage};
@@ -29,7 +28,7 @@ pub struct CompactReader {
     pub stage: Stage,
     pub(crate) types: Types,
     pub(crate) columns: Box<Columns>,
-    ghost consistent: { is_compact_stage stage columns.value.state ≡ true },
+    ghost consistent: { is_compact_stage stage columns.value ≡ true },
 }
 
 impl CompactReader {
@@ -44,11 +43,10 @@ impl CompactReader {
     pub(crate) fn go_on(&mut self, line: Padded<'_>, lines: &mut Block) -> Result<bool, Fault>
         requires open { self.old.stage ≡ Open }
         requires short { length (line_in line) ≤ LINE_LIMIT }
-        requires printed { ArePrinted self.old.columns.value.state lines.old }
+        requires printed { ArePrinted self.old.columns.value lines.old }
         ensures reads { ReadsCompactLine self.old (line_in line.entry) result
             (if is_open_stage self.new.stage then [] else lines.new.lines) self.new }
-        ensures printed { ArePrinted self.new.columns.value.state lines.new }
-        ensures kept { KeepsRoomInColumns self.old.columns.value self.new.columns.value }
+        ensures printed { ArePrinted self.new.columns.value lines.new }
     {
         match self.columns.feed_into(line, lines) {
             Ok(false) => Ok(false),
@@ -77,10 +75,9 @@ impl CompactReader {
         requires between { self.old.stage ≢ Open }
         requires short { length line.now ≤ LINE_LIMIT }
         ensures reads { ReadsCompactLine self.old line.now result (line_copied line.now result) self.new }
-        ensures kept { KeepsRoomInColumns self.old.columns.value self.new.columns.value }
         // Of an epoch that the line begins no line is printed yet.
         ensures unprinted { (block : PendingLines) → is_open_stage self.new.stage ≡ true
-            → ArePrinted self.new.columns.value.state block }
+            → ArePrinted self.new.columns.value block }
     {
         match self.stage {
             Stage::FirstLines { count: 0 } => {
@@ -125,9 +122,8 @@ impl CompactReader {
             ⊎ ((self.old.stage ≡ Looking) × (begins_epoch line.now ≡ true)) }
         requires short { length line.now ≤ LINE_LIMIT }
         ensures reads { ReadsCompactLine self.old line.now result (line_copied line.now result) self.new }
-        ensures kept { KeepsRoomInColumns self.old.columns.value self.new.columns.value }
         ensures unprinted { (block : PendingLines) → is_open_stage self.new.stage ≡ true
-            → ArePrinted self.new.columns.value.state block }
+            → ArePrinted self.new.columns.value block }
     {
         if is_event_line(line) {
             let Some(count) = records_in(line) else {

@@ -12,11 +12,11 @@ use crate::direction::Direction;
 use crate::lender::Lender;
 use crate::rinex_reader::{RinexReader, RinexStep};
 use crate::stage::Stage;
-use crx_base::{Fault, Options, Padded};
+use crx_base::{Fault, Options, Padded, Refused};
 use crx_compact::Encoder;
 use crx_lines::Line;
 use crx_runs::HandedOut;
-use std::alloc::{AllocError, Global};
+use std::alloc::Global;
 use std::marker::Model;
 
 /// What a compaction keeps between two lines.
@@ -35,8 +35,7 @@ pub struct Compaction {
 /// first line, and `BadTypesLine`; `BadTypesLine` among an event's records, where types lines count; and
 /// where faults aren't skipped `NotAnEpoch`, `BadEpoch` and `BadClock` where an epoch or an event may begin,
 /// and `Truncated`, `BadSatellite`, `BadField`, `BadFlags` and `RepeatedSatellite` in an epoch. `OutOfMemory`
-/// comes only at a line without a fault: the first types line that counts, and a line of a satellite that no
-/// accepted epoch had with as many types. At the end the fault is `MissingVersion` before the first line,
+/// comes only where a growth was refused, at a types line that counts or in an epoch. At the end the fault is `MissingVersion` before the first line,
 /// `NoEndOfHeader` in the header, `Truncated` among an event's records, and in an epoch where faults aren't
 /// skipped.
 pub type Compactor = Lender<Compaction>;
@@ -81,10 +80,10 @@ fn compact_row(
     match encoder.encode_row(&reader.row) {
         Ok(true) => Ok(reader.take_row()),
         Ok(false) => Err(Fault::RepeatedSatellite),
-        Err(_) => {
+        Err(refused) => {
             // The encoder has forgotten the open epoch.
             reader.stage = Stage::Looking;
-            Err(Fault::OutOfMemory)
+            Err(Fault::from(refused))
         }
     }
 }
@@ -105,9 +104,7 @@ impl Direction for Compaction {
     ghost use Rattle.crx_rinex.specs.meaning.EpochPlaces.{OpenEpoch};
     ghost use Rattle.crx_rinex.specs.meaning.Observations.{Epoch as ObservationEpoch};
     ghost use Rattle.crx_filter.specs.CompactionByLine.{Written, compaction, compaction_state};
-    ghost use Rattle.crx_filter.specs.CompactionParts.{compaction_line_outgrows, compaction_parts, is_full_where_due};
-    ghost use Rattle.crx_filter.specs.EpochRooms.{HaveEpochsRoom, rinex_epochs};
-    ghost use Rattle.crx_filter.specs.Rooms.{HasRoomInCompaction};
+    ghost use Rattle.crx_filter.specs.CompactionParts.{compaction_parts, is_full_where_due};
     ghost use Rattle.crx_filter.specs.meaning.Directions.{compaction_filter};
 
     ghost Whole = { ObservationEpoch };
@@ -139,13 +136,9 @@ impl Direction for Compaction {
 
     ghost takes_at_start = { true };
 
-    ghost has_room = { λ c. HasRoomInCompaction c.reader c.encoder.rooms };
-
-    ghost notes = { λ c choices lines. HaveEpochsRoom c.encoder.rooms (rinex_epochs choices lines) };
+    ghost notes = { λ c choices lines. ⊤ };
 
     ghost report_is = { λ c lines. ⊤ };
-
-    ghost needs_more = { compaction_line_outgrows };
 
     ghost skipping = { λ c choices lines taken skips. tt };
 
@@ -153,16 +146,16 @@ impl Direction for Compaction {
         options
     }
 
-    fn new(alloc: Global) -> Result<Compaction, AllocError> {
-        // The place that `?` has for a refusal is as long as an encoder, and would be filled with zeros.
-        let Ok(encoder) = Encoder::new(alloc) else {
-            return Err(AllocError);
-        };
-        Ok(Compaction {
-            index: 0,
-            reader: RinexReader::new(alloc),
-            encoder,
-        })
+    fn new(alloc: Global) -> Result<Compaction, Refused> {
+        // `?` would clear a place as long as an encoder.
+        match Encoder::new(alloc) {
+            Ok(encoder) => Ok(Compaction {
+                index: 0,
+                reader: RinexReader::new(alloc),
+                encoder,
+            }),
+            Err(refused) => Err(refused),
+        }
     }
 
     #[inline(always)]

@@ -9,7 +9,7 @@ ghost use Rattle.crx_base.specs.meaning.Lines.{InputLine, lines_text};
 ghost use Rattle.crx_base.specs.meaning.AsRead.{ReadLine};
 ghost use Rattle.crx_lines.specs.Reading.{line_number, line_shown};
 ghost use Rattle.crx_runs.specs.meaning.Filters.{Filter};
-ghost use Rattle.crx_filter.specs.DirectionParts.{AwaitsLine, DirectionParts, DirectionTakes, HasEnough, IsAfterLines, KeepsAllBeside, KnowsStill, answer_for, handed_out_by, hands_out, state_by};
+ghost use Rattle.crx_filter.specs.DirectionParts.{AwaitsLine, DirectionParts, DirectionTakes, IsAfterLines, KeepsAllBeside, KnowsStill, answer_for, handed_out_by, hands_out, state_by};
 ghost use Rattle.crx_filter.specs.EngineLaws.{IsLawfulDirection};
 ghost use Rattle.crx_filter.specs.LineByLine.{Direction as DirectionByLine, RunState, answer_of_lines, fault_at_end_in};
 ghost use Rattle.crx_filter.specs.RinexStages.{is_open_stage};
@@ -17,10 +17,10 @@ ghost use Rattle.crx_filter.specs.Stages.{bare_phase, is_ended, is_held, is_sett
 ghost use Rattle.crx_filter.specs.declared.stage.Stage.{Stage};
 
 use crate::stage::Stage;
-use crx_base::{Fault, Options};
+use crx_base::{Fault, Options, Refused};
 use crx_lines::Line;
 use crx_runs::HandedOut;
-use std::alloc::{AllocError, Global};
+use std::alloc::Global;
 
 /// A direction of an engine: what it makes of a line, what it forgets after a fault, and the lines that are
 /// ready.
@@ -61,19 +61,11 @@ pub trait Direction: Drop {
     // Whether it takes memory before the first line.
     ghost takes_at_start: { Bool };
 
-    // What it holds is enough for the line with this content.
-    ghost has_room: { Self → List ℕ → Type 0 };
-
-    // What it knows of these lines by these choices, beside what is seen of it: that there is room for the
-    // satellites of their epochs, or what a check has noted of them.
+    // What a check has noted of these lines, taken by these choices; other directions have nothing to say.
     ghost notes: { Self → Choices → List InputLine → Type 0 };
 
     // At a good end its report is that of these lines; a direction without one has nothing to say.
     ghost report_is: { Self → List InputLine → Type 0 };
-
-    // Whether a line that comes after these may need more memory than they did; where none is needed at all,
-    // either may be said. The filter is held to say the same (`lawful`).
-    ghost needs_more: { Choices → List InputLine → InputLine → Bool };
 
     // One that skips faults has nothing to find.
     ghost skipping: { (d : Self) (choices : Choices) (lines : List InputLine)
@@ -85,7 +77,7 @@ pub trait Direction: Drop {
         ensures same { chosen result ≡ result };
 
     /// A direction before the first line of its input.
-    fn new(alloc: Global) -> Result<Self, AllocError>
+    fn new(alloc: Global) -> Result<Self, Refused>
         ensures state { (choices : Choices) → chosen choices ≡ choices
             → IfOk result (λ d. state_by choices 0 (parts d) ≡ state_after_lines choices []) }
         ensures drained { IfOk result (λ d. ready d ≡ []) }
@@ -98,17 +90,15 @@ pub trait Direction: Drop {
     fn stage(&self) -> Stage
         ensures value { result ≡ (parts self.now).stage }
         ensures held { is_held result (parts self.now).begun ≡ true }
-        ensures lawful { IsLawfulDirection by_line chosen closing_after state_after_lines needs_more filter }
-        ensures passes { KnowsStill by_line chosen state_after_lines (parts self.now) (notes self.now) }
-        ensures enough { HasEnough by_line chosen state_after_lines needs_more (parts self.now)
-            (notes self.now) (has_room self.now) };
+        ensures lawful { IsLawfulDirection by_line chosen closing_after state_after_lines filter }
+        ensures passes { KnowsStill by_line chosen state_after_lines (parts self.now) (notes self.now) };
 
     /// Takes a line of an open epoch: `true` says that lines are ready.
     fn take_in_epoch(&mut self, line: Line<'_>) -> Result<bool, Fault>
         requires open { is_open_stage (parts self.old).stage ≡ true }
         requires asked { AwaitsLine (ready self.old) (counted self.old) }
         ensures takes { DirectionTakes by_line chosen state_after_lines (λ choices. was_begun_by self.old choices ≡ true)
-            (parts self.old) (line_number line.entry) (line_shown line.entry) (has_room self.old (line_shown line.entry).content)
+            (parts self.old) (line_number line.entry) (line_shown line.entry)
             result (ready self.new) (parts self.new) (was_begun_by self.new) (counted self.old) (counted self.new)
             (notes self.old) (notes self.new) };
 
@@ -119,7 +109,7 @@ pub trait Direction: Drop {
         requires closed { is_open_stage (parts self.old).stage ≡ false }
         requires asked { AwaitsLine (ready self.old) (counted self.old) }
         ensures takes { DirectionTakes by_line chosen state_after_lines (λ choices. choices ≡ options.now)
-            (parts self.old) (line_number line.entry) (line_shown line.entry) (has_room self.old (line_shown line.entry).content)
+            (parts self.old) (line_number line.entry) (line_shown line.entry)
             (hands_out result) (handed_out_by result (line_shown line.entry).content (ready self.new)) (parts self.new)
             (was_begun_by self.new) (counted self.old) (counted self.new) (notes self.old) (notes self.new) };
 

@@ -7,11 +7,11 @@ ghost use Rattle.crx_filter.specs.DirectionParts.{EngineParts};
 
 use crate::direction::Direction;
 use crate::stage::Stage;
-use crx_base::{At, Fault, Options, Padded};
+use crx_base::{At, Fault, Options, Padded, Refused};
 use crx_lines::Line;
 use crx_rinex::begins_epoch;
 use crx_runs::{HandedOut, Step};
-use std::alloc::{AllocError, Global};
+use std::alloc::Global;
 use std::marker::Model;
 
 /// An engine of a direction, as a run has it: it takes the lines of an input one at a time. The lines that it
@@ -52,25 +52,23 @@ impl<D: Direction> LineEngine<D> {
     ghost use Rattle.crx_filter.specs.declared.stage.Stage.{Stage};
     ghost use Rattle.crx_runs.specs.Engines.{IsNextLine, Stays, answer_given, lines_handed_out};
 
-    /// An engine before the first line of its input; `AllocError` comes where there is no memory for what its
-    /// direction begins with.
-    pub fn new(alloc: Global, options: Options) -> Result<LineEngine<D>, AllocError>
+    /// Returns an engine before the first line of its input, with the memory that its direction begins with.
+    pub fn new(alloc: Global, options: Options) -> Result<LineEngine<D>, Refused>
         ensures state { IfOk result (λ e. engine_state D.Direction e ≡ D.state_after_lines (D.chosen options) []) }
         ensures drained { IfOk result (λ e. engine_ready D.Direction e ≡ []) }
         ensures knows { IfOk result (λ e. D.notes e.direction e.options []) }
         ensures asked { OnErr result (D.takes_at_start ≡ true) }
     {
-        // The place that `?` has for a refusal is as long as a direction. It would be filled with zeros, and
-        // the direction would be moved on the stack.
-        let Ok(direction) = D::new(alloc) else {
-            return Err(AllocError);
-        };
-        Ok(LineEngine {
-            options: D::chosen(options),
-            number: 0,
-            direction,
-            answer: Ok(Step::Quiet),
-        })
+        // `?` would clear a place as long as a direction, and copy the direction out of it.
+        match D::new(alloc) {
+            Ok(direction) => Ok(LineEngine {
+                options: D::chosen(options),
+                number: 0,
+                direction,
+                answer: Ok(Step::Quiet),
+            }),
+            Err(refused) => Err(refused),
+        }
     }
 
     /// Stores the answer to a fault of the line that was counted last: it is given whether the stage may be

@@ -4,12 +4,13 @@ use crate::compact_reader::CompactReader;
 use crate::direction::Direction;
 use crate::lender::Lender;
 use crate::stage::Stage;
-use crx_base::{Fault, Options};
+use crx_base::memory::boxed;
+use crx_base::{Fault, Options, Refused};
 use crx_compact::{Block, Columns};
 use crx_header::Types;
 use crx_lines::Line;
 use crx_runs::HandedOut;
-use std::alloc::{AllocError, Global};
+use std::alloc::Global;
 use std::marker::Model;
 
 /// What an expansion keeps between two lines.
@@ -31,7 +32,7 @@ impl Model for Expansion {
     ghost view = { λ e. record { reader = e.reader; lines = e.lines } };
 
     // Of an open epoch what can be printed is printed.
-    ghost invariant = { λ e. is_open_stage e.reader.stage ≡ true → ArePrinted e.reader.columns.value.state e.lines };
+    ghost invariant = { λ e. is_open_stage e.reader.stage ≡ true → ArePrinted e.reader.columns.value e.lines };
 }
 
 /// Makes RINEX of the lines of Compact RINEX 3.0, which it takes one at a time; the lines to be written are
@@ -48,16 +49,12 @@ impl Model for Expansion {
 pub type Expander = Lender<Expansion>;
 
 impl Direction for Expansion {
-    ghost use Rattle.std.specs.Prelude.{⊤, Option, true, false, [], map};
-    ghost use Rattle.crx_base.specs.meaning.AsRead.{as_read};
+    ghost use Rattle.std.specs.Prelude.{⊤, Option, true, false, []};
     ghost use Rattle.crx_compact.specs.OpenEpochs.{HeldEpoch, OpenRawEpoch};
     ghost use Rattle.crx_compact.specs.Tails.{Tail};
     ghost use Rattle.crx_filter.specs.ExpansionByLine.{expansion, expansion_state};
     ghost use Rattle.crx_filter.specs.ExpansionParts.{expansion_parts, expansion_ready};
-    ghost use Rattle.crx_filter.specs.EpochRooms.{HaveRoomInColumns, compact_epochs};
-    ghost use Rattle.crx_filter.specs.Rooms.{HasRoomInExpansion};
-    ghost use Rattle.crx_filter.specs.meaning.Directions.{compact_reading, expansion_filter};
-    ghost use Rattle.crx_filter.specs.meaning.Memory.{expansion_outgrows};
+    ghost use Rattle.crx_filter.specs.meaning.Directions.{expansion_filter};
 
     ghost Whole = { HeldEpoch };
 
@@ -87,14 +84,9 @@ impl Direction for Expansion {
 
     ghost takes_at_start = { true };
 
-    ghost has_room = { λ e. HasRoomInExpansion e.reader };
-
-    ghost notes = { λ e choices lines. HaveRoomInColumns e.reader.columns.value (compact_epochs choices lines) };
+    ghost notes = { λ e choices lines. ⊤ };
 
     ghost report_is = { λ e lines. ⊤ };
-
-    ghost needs_more = { λ choices lines line.
-        expansion_outgrows (compact_reading choices.skip (map as_read lines)) (as_read line) };
 
     ghost skipping = { λ e choices lines taken skips. tt };
 
@@ -102,12 +94,9 @@ impl Direction for Expansion {
         options
     }
 
-    fn new(alloc: Global) -> Result<Expansion, AllocError> {
+    fn new(alloc: Global) -> Result<Expansion, Refused> {
         let lines = Block::new(alloc)?;
-        // What `?` keeps of a refusal, columns in full, would be filled with zeros twice.
-        let Ok(columns) = Box::new(alloc, Columns::new(alloc)) else {
-            return Err(AllocError);
-        };
+        let columns = boxed(alloc, Columns::new(alloc))?;
         let reader = CompactReader {
             stage: Stage::FirstLines { count: 0 },
             types: Types::new(alloc),

@@ -5,6 +5,7 @@ ghost use Rattle.crx_filter.specs.meaning.Accounts.{AccountsForFile, AccountsFor
 ghost use Rattle.crx_filter.specs.meaning.ByResults.{RanWith};
 ghost use Rattle.crx_filter.specs.meaning.Canonical.{DependsOnNormalForm};
 ghost use Rattle.crx_filter.specs.meaning.CompactText.{IsCompactText, ReadsAnyText};
+ghost use Rattle.crx_filter.specs.meaning.Fate.{LeavesLinesOut};
 ghost use Rattle.crx_filter.specs.meaning.Lossless.{BringsBackWhatPasses, WritesOutputOf};
 ghost use Rattle.crx_filter.specs.meaning.UnitsAndText.{ReadsUnits, WritesUnits};
 ghost use Rattle.crx_filter.specs.meaning.WrittenStandard.{WroteStandard};
@@ -34,8 +35,8 @@ use std::alloc::Global;
 /// or the input is longer; what was written by then is a prefix of the defined output.
 ///
 /// Of the RINEX text of units that make a file it writes their compact text. Files that have the same normal
-/// form have the same compact text. Where no fault ends it, each line was copied, is one of an epoch that was
-/// written, or was dropped with a warning.
+/// form have the same compact text. If no fault ends the run, each unit is what is read from its own lines, and
+/// a warning drops the others, never past the next `>`. The file without the dropped lines has no fault.
 #[inline(never)]
 pub fn compact<R: Source, W: Sink, M: Sink>(
     alloc: Global,
@@ -55,6 +56,8 @@ pub fn compact<R: Source, W: Sink, M: Sink>(
         (reader_span R.Source reader.old reader.new)
         (span W.Sink writer.old writer.new) (span M.Sink messages.old messages.new) result.fault }
     ensures accounted { KeepsPromise (RanWith (AccountsForFile options)) (ran_over R.Source reader.old reader.new
+        W.Sink writer.old writer.new M.Sink messages.old messages.new result) }
+    ensures left_out { KeepsPromise (RanWith (LeavesLinesOut options)) (ran_over R.Source reader.old reader.new
         W.Sink writer.old writer.new M.Sink messages.old messages.new result) }
     ensures blocks { KeepsPromise (RanWith (HasShortBlocks options)) (ran_over R.Source reader.old reader.new
         W.Sink writer.old writer.new M.Sink messages.old messages.new result) }
@@ -79,8 +82,8 @@ pub fn compact<R: Source, W: Sink, M: Sink>(
 /// A file that a check passes comes back from its compact text byte for byte, and of the compact text of
 /// units that make a file it writes their RINEX text. Compact text that follows the format is read as what it
 /// means, whoever wrote it, and nothing else ends with status 0. Whatever text is expanded, what is written
-/// without a fault is a standard file, unless a line of it ends in CR; and each line after the two first was
-/// copied, is one of an epoch that was written, or was dropped with a warning.
+/// without a fault is a standard file, unless a line of it ends in CR. Then each unit is what is read from its own
+/// lines after the first two, and a warning drops the others, never past the next `>`.
 #[inline(never)]
 pub fn expand<R: Source, W: Sink, M: Sink>(
     alloc: Global,

@@ -5,6 +5,7 @@ ghost use Rattle.std.specs.Prelude.{◌≡◌};
 
 use crate::direction::Direction;
 use crate::engine::LineEngine;
+use crx_base::memory::boxed;
 use crx_base::{At, Options};
 use crx_lines::Line;
 use crx_runs::{HandedOut, Step};
@@ -49,14 +50,14 @@ impl<D: Direction> Lender<D> {
     ghost use Rattle.crx_filter.specs.contracts.lender.Lender.{the_row};
     ghost use Rattle.crx_runs.specs.Engines.{IsNextLine};
 
-    /// An engine before the first line of its input; `AllocError` comes where there is no memory for a line.
+    /// Returns an engine before the first line of its input, with the memory for a line.
     pub fn new(alloc: Global, options: Options) -> Result<Lender<D>, AllocError>
         ensures state { IfOk result (λ e. lender_state D.Direction e ≡ D.state_after_lines (D.chosen options) []) }
         ensures drained { IfOk result (λ e. lender_ready D.Direction e ≡ []) }
         ensures knows { IfOk result (λ e. D.notes e.engine.direction e.engine.options []) }
     {
         let engine = LineEngine::new(alloc, options)?;
-        let copied = Box::new(alloc, Text::new())?;
+        let copied = boxed(alloc, Text::new())?;
         Ok(Lender {
             engine,
             copied,

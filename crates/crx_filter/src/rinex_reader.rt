@@ -56,13 +56,12 @@ impl RinexReader {
     ghost use Rattle.crx_header.specs.meaning.EpochColumns.{begins_epoch};
     ghost use Rattle.crx_rinex.specs.meaning.Epochs.{has_satellite};
     ghost use Rattle.crx_rinex.specs.meaning.SatelliteLines.{row_of};
-    ghost use Rattle.crx_filter.specs.CompactionByLine.{Written, is_next_row};
+    ghost use Rattle.crx_filter.specs.CompactionByLine.{Written};
     ghost use Rattle.crx_filter.specs.LineByLine.{Rejects, InHeader};
-    ghost use Rattle.crx_filter.specs.Memory.{may_take_memory};
+    ghost use Rattle.crx_filter.specs.Memory.{may_reserve};
     ghost use Rattle.crx_filter.specs.RinexStages.{is_open_stage};
     ghost use Rattle.crx_filter.specs.Stages.{is_ended};
     ghost use Rattle.crx_filter.specs.RinexReaders.{reader_phase, made_at, IsSameReader, ReadsRinexLine, TakesRow};
-    ghost use Rattle.crx_filter.specs.Rooms.{LackTypes};
 
     /// A reader before the first line.
     pub fn new(alloc: Global) -> RinexReader
@@ -85,8 +84,8 @@ impl RinexReader {
     ///
     /// In the header: the faults of [`header_first`](crx_header::header_first) for the first line, then
     /// `BadTypesLine`. Among an event's records `BadTypesLine`, where types lines count. Where an epoch or an
-    /// event may begin, the faults of [`Head::read`]. `OutOfMemory` comes only at a line without a fault, the
-    /// first types line that counts. After a fault the reader is as it was.
+    /// event may begin, the faults of [`Head::read`]. `OutOfMemory` comes only at a types line that counts.
+    /// After a fault the reader is as it was.
     #[inline(always)]
     pub fn take(&mut self, line: &[u8]) -> Result<RinexStep, Fault>
         requires running { is_ended self.old.stage ≡ false }
@@ -152,8 +151,7 @@ impl RinexReader {
         ensures row { OnOk result (begins_epoch (line_in line.entry) ≡ false) }
         ensures repeated { (kept : Written) → OnOk result (has_satellite self.new.row.name self.old.rows.rows ≡ true
             → made_at self.old (line_in line.entry) kept ≡ Rejects Fault.RepeatedSatellite) }
-        ensures memory { OnOk result (has_satellite self.new.row.name self.old.rows.rows ≡ false
-            → may_take_memory self.old.types (λ first. false) is_next_row (reader_phase self.old)
+        ensures memory { OnOk result (may_reserve false true (reader_phase self.old)
             (Content (line_in line.entry)) ≡ true) }
         ensures refused { (kept : Written) → IfErr result
             (λ fault. made_at self.old (line_in line.entry) kept ≡ Rejects fault) }

@@ -1,14 +1,13 @@
 //! Lines that may declare observation types, in either direction: header lines, and records of events.
 
 ghost use Rattle.std.specs.Option.{is_some};
-ghost use Rattle.std.specs.Prelude.{◌≡◌, ◌⊎◌, ◌&&◌, [], None, Some, is_none, true, false, if◌then◌else◌, OnOk, OnErr, IfOk, IfErr};
+ghost use Rattle.std.specs.Prelude.{◌≡◌, ◌⊎◌, ◌&&◌, None, Some, true, false, if◌then◌else◌, OnOk, OnErr, IfOk, IfErr};
 ghost use Rattle.crx_header.specs.meaning.Header.{is_end_of_header};
 ghost use Rattle.crx_header.specs.meaning.ObservationTypes.{count_of_types_line};
 ghost use Rattle.crx_header.specs.ObservationTypes.{with_line};
 ghost use Rattle.crx_filter.specs.LineByLine.{BetweenUnits, InHeader};
 ghost use Rattle.crx_filter.specs.Stages.{IsClosedStage};
 ghost use Rattle.crx_filter.specs.meaning.Expanded.{empties_state};
-ghost use Rattle.crx_filter.specs.meaning.Items.{are_lacking};
 ghost use Rattle.crx_filter.specs.meaning.UnitPlaces.{header_line_fault, types_fault};
 
 use crate::stage::Stage;
@@ -16,8 +15,7 @@ use crx_base::Fault;
 use crx_header::{Types, header_first, is_end, is_types};
 
 /// Takes in a header line and gives the stage after it, or answers what is wrong with it: the first line has
-/// checks of its own. After a fault the types are as they were. `OutOfMemory` comes only where no system has
-/// types yet.
+/// checks of its own. After a fault the types are as they were. `OutOfMemory` comes only at a types line.
 pub fn accept_header_line(types: &mut Types, is_first: bool, line: &[u8]) -> Result<Stage, Fault>
     ensures stage { IfOk result (λ stage. IsClosedStage stage
         (if is_end_of_header line.now then BetweenUnits else InHeader false)
@@ -26,8 +24,7 @@ pub fn accept_header_line(types: &mut Types, is_first: bool, line: &[u8]) -> Res
     ensures ok { OnOk result (types.new ≡ with_line types.old line.now) }
     ensures same { OnErr result (types.new ≡ types.old) }
     ensures refused { IfErr result (λ fault. (header_line_fault is_first line.now ≡ Some fault)
-        ⊎ ((fault ≡ Fault.OutOfMemory) × ((are_lacking types.old && (is_some (count_of_types_line line.now)
-        && is_none (header_line_fault is_first line.now))) ≡ true) × (types.old ≡ []))) }
+        ⊎ ((fault ≡ Fault.OutOfMemory) × (is_some (count_of_types_line line.now) ≡ true))) }
 {
     if is_first {
         header_first(line)?;
@@ -40,16 +37,14 @@ pub fn accept_header_line(types: &mut Types, is_first: bool, line: &[u8]) -> Res
 }
 
 /// Takes in a record of an event: types lines among them count where this is said, and `true` says that it is
-/// one that counts. After a fault the types are as they were. `OutOfMemory` comes only where no system has
-/// types yet.
+/// one that counts. After a fault the types are as they were. `OutOfMemory` comes only at one that counts.
 pub fn accept_record(types: &mut Types, counted: bool, line: &[u8]) -> Result<bool, Fault>
     ensures types { IfOk result (λ is_accepted. is_accepted ≡ empties_state counted line.now) }
     ensures good { OnOk result ((if counted then types_fault line.now else None) ≡ None) }
     ensures ok { OnOk result (types.new ≡ (if counted then with_line types.old line.now else types.old)) }
     ensures same { OnErr result (types.new ≡ types.old) }
     ensures refused { IfErr result (λ fault. ((if counted then types_fault line.now else None) ≡ Some fault)
-        ⊎ ((fault ≡ Fault.OutOfMemory) × ((are_lacking types.old
-        && (counted && is_some (count_of_types_line line.now))) ≡ true) × (counted ≡ true) × (types.old ≡ []))) }
+        ⊎ ((fault ≡ Fault.OutOfMemory) × ((counted && is_some (count_of_types_line line.now)) ≡ true))) }
 {
     if !(counted && is_types(line)) {
         return Ok(false);

@@ -7,11 +7,12 @@ ghost use Rattle.indexmap.specs.IndexMap.{spare};
 
 use crate::columns::{is_labelled, number};
 use crate::labels::TYPES_LABEL;
-use crx_base::Fault;
 use crx_base::limits::TYPES_LIMIT;
+use crx_base::memory::reserve_entries;
+use crx_base::{Fault, Refused};
 use crx_text::columns::character;
 use indexmap::IndexMap;
-use std::alloc::{AllocError, Global};
+use std::alloc::Global;
 use std::marker::Model;
 
 /// How many bytes there are that a letter may be.
@@ -84,9 +85,7 @@ impl Types {
             }
             _ => return Err(Fault::BadTypesLine),
         };
-        if put(&mut self.counts, letter, count).is_err() {
-            return Err(Fault::OutOfMemory);
-        }
+        put(&mut self.counts, letter, count)?;
         self.by_letter[letter as usize] = count as u16;
         Ok(())
     }
@@ -129,7 +128,7 @@ impl Types {
 /// Replaces the count of a system, or puts it after those of the others. Where no system has types yet, room
 /// is asked for, for all systems; later no more is needed.
 #[tactic(auto, using(crate::proofs::Counts::put_counts))]
-fn put(counts: &mut IndexMap<u8, usize>, letter: u8, count: usize) -> Result<(), AllocError>
+fn put(counts: &mut IndexMap<u8, usize>, letter: u8, count: usize) -> Result<(), Refused>
     requires counts { AreCounts counts.old.entries }
     requires system { is_system letter ≡ true }
     requires room { HasSystemRoom counts.old.entries (spare counts.old) }
@@ -142,9 +141,9 @@ fn put(counts: &mut IndexMap<u8, usize>, letter: u8, count: usize) -> Result<(),
         return Ok(());
     }
     if counts.is_empty() {
-        counts.reserve(SYSTEMS)?;
+        reserve_entries(counts, SYSTEMS)?;
     }
-    counts.insert(letter, count)?;
+    counts.insert(letter, count).unwrap();
     Ok(())
 }
 

@@ -12,9 +12,9 @@ use Rattle.crx_laws.proofs.output.ReadyToHandOut.{IsShort, contents-short, one-r
 use Rattle.crx_filter.proofs.Words.{AllByRecursion, drop, reading_from, first_lines, compact_place, Bool}
 use Rattle.crx_filter.proofs.wayback.{Cut.OfContent, ExpandedStandard.copied-read}
 use Rattle.crx_filter.proofs.wayback.Reading.{of-copied, of-own}
-use Rattle.crx_filter.proofs.accounts.{Reached.first-accounted, OfText.owns-unit}
-use Rattle.crx_filter.proofs.reading.{Each.{all-parts, all-drop}, Resuming.by_place}
-use Rattle.crx_filter.specs.meaning.Accounts.{AreCleanLines}
+use Rattle.crx_filter.proofs.accounts.{Copies.compact-copies, Fates.told}
+use Rattle.crx_filter.proofs.reading.{Each.{all-parts, all-drop}, ForwardCompact.compact-forward}
+use Rattle.crx_filter.proofs.reading.Resuming.{by_place}
 use Rattle.crx_filter.specs.meaning.WrittenStandard.{rinex_items}
 use Rattle.crx_filter.proofs.wayback.NormalForm.{epoch-within}
 
@@ -55,12 +55,11 @@ compact-copied : (skip : Bool) (lines : List ReadLine) → AllByRecursion (OfCon
 compact-copied skip lines all = by_place (first_lines lines) (λ two count e. rw (e, compact_reading) (
     let left = drop count lines in
     let items = (reading_from compact_place skip [] (count + 1) left).items in
-    let (rest, (front, is, own)) = first-accounted AreCleanLines compact_place owns-unit skip
-    (count + 1) left in
-    let short = (all-parts (OfContent IsShort) front rest (rw is at (all-drop
+    let (number, rest, far, stops) = told compact_place compact-forward skip (count + 1) left in
+    let short = (all-parts (OfContent IsShort) far.front rest (rw far.all_is at (all-drop
     (OfContent IsShort) count lines all))).0 in
     of-copied IsShort (rinex_items items) (rw copied-read
-    (of-own AreCleanLines IsShort items front own short))))
+    (of-own compact_place compact-copies IsShort (count + 1) items far.front far.kept far.own short))))
     (λ offset fault e. rw (e, compact_reading) tt) (λ e. rw (e, compact_reading) tt)
 
 pub expanded-ready_to_hand_out : (choices : Choices) (lines : List ReadLine)

@@ -9,3 +9,6 @@ pub mod HoursMakeADay
 pub mod Wild
 pub mod Theorems
 pub mod Opened
+pub mod EpochLines
+pub mod Checks
+pub mod Cuts

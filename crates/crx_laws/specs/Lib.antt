@@ -9,4 +9,5 @@ pub mod SmallStretches
 pub mod Blocks
 pub mod Sizes
 pub mod Again
+pub mod Cuts
 pub mod WildText

@@ -12,6 +12,7 @@ pub mod checking_laws;
 pub mod compact_examples;
 pub mod compact_laws;
 pub mod compact_reading;
+pub mod fate;
 pub mod filter_examples;
 pub mod filter_laws;
 pub mod line_laws;

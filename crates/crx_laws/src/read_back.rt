@@ -33,12 +33,12 @@ fn read_coded(
     types: &Types,
     coded: &mut Coded,
 ) -> Result<Option<Epoch>, Fault>
-    requires idle { is_idle columns.old.state ≡ true }
+    requires idle { is_idle columns.old ≡ true }
     ensures given { IfOk result (λ given. HasGiven
-        (place_by_steps types.now (tail_held columns.old.state) (map Content coded.old.lines)) columns.new.state given) }
+        (place_by_steps types.now (tail_held columns.old) (map Content coded.old.lines)) columns.new given) }
     ensures refused { AreReadable coded.old.lines
         → IfErr result (λ fault. IsFaultAt (place_by_steps types.now
-        (tail_held columns.old.state) (map Content coded.old.lines)) fault ⊎ (fault ≡ Fault.OutOfMemory)) }
+        (tail_held columns.old) (map Content coded.old.lines)) fault ⊎ (fault ≡ Fault.OutOfMemory)) }
 {
     let Some(first) = coded.next_line() else {
         return Ok(None);
@@ -70,16 +70,16 @@ pub fn read_back(
     types: &Types,
     coded: &mut Coded,
 ) -> Result<Option<Epoch>, Fault>
-    requires idle { is_idle columns.old.state ≡ true }
+    requires idle { is_idle columns.old ≡ true }
     // After any epochs at all, written so that they can be read: the lines give the newest of them, and the
     // reader then has the history that the writer has.
     ensures epoch { (m : Marked) (older : List Marked)
         → AreWhole types.now (since_full (m ∷ older)) → coded.old.lines ≡ compact_epoch (m ∷ older)
-        → (m.in_full ≡ false → tail_held columns.old.state ≡ tail_or_nothing older)
-        → IfOk result (λ given. (given ≡ Some m.epoch) × (columns.new.state ≡ Idle (tail_or_nothing (m ∷ older)))) }
+        → (m.in_full ≡ false → tail_held columns.old ≡ tail_or_nothing older)
+        → IfOk result (λ given. (given ≡ Some m.epoch) × (columns.new ≡ Idle (tail_or_nothing (m ∷ older)))) }
     ensures refused { (m : Marked) (older : List Marked)
         → AreWhole types.now (since_full (m ∷ older)) → coded.old.lines ≡ compact_epoch (m ∷ older)
-        → (m.in_full ≡ false → tail_held columns.old.state ≡ tail_or_nothing older)
+        → (m.in_full ≡ false → tail_held columns.old ≡ tail_or_nothing older)
         → IfErr result (λ fault. fault ≡ Fault.OutOfMemory) }
 {
     read_coded(columns, types, coded)

@@ -1,13 +1,15 @@
 //! The devices that bytes come from and go to. Each one counts its failures, so that a contract
 //! can say of a run that none happened, and what became of the bytes where one did. A source also
 //! counts how often it reported its end, so that a read after that shows.
-ghost use Rattle.std.specs.Prelude.{◌≡◌, ℕ, List, [], ◌++◌, ◌<◌, ◌≤◌, length, take, is_ok, true, false, not, Bool, IfOk, OnOk, OnErr};
+ghost use Rattle.std.specs.Prelude.{◌≡◌, ℕ, List, [], ◌++◌, ◌<◌, ◌≤◌, length, take, is_ok, true, false, not, Bool, IfOk, Ok, OnOk, OnErr};
+ghost use Rattle.std.specs.Fs.{IsFile, file_type};
 ghost use Rattle.std.specs.Io.KnownBytes.{Appends, Consumes, IsAtEnd};
+ghost use Rattle.std.specs.declared.fs.attrs.Metadata.{Metadata};
 ghost use Rattle.std.proofs.KnownBytes.{Appends-nil, Appends-trans, Consumes-nil, Consumes-trans};
 ghost use Rattle.crx_lines.specs.meaning.Devices.{ends_after, one_more};
 
 use crate::uninterrupted::Uninterrupted;
-use std::fs::OpenFile;
+use std::fs::{Metadata, OpenFile};
 use std::io::{ErrorKind, Read, Write};
 use std::rt::Files;
 use std::{fs, io};
@@ -161,10 +163,23 @@ pub struct Std<D> {
     is_broken: bool,
 }
 
+/// Returns whether a read of a file may have to wait for bytes that don't exist yet, by what the system says of
+/// the file: only a regular file is known not to wait.
+pub fn reads_may_wait(metadata: &io::Result<Metadata>) -> bool
+    ensures waits { result ≡ false
+        → (known : Metadata) × (metadata.now ≡ Ok known) × IsFile (file_type known) }
+    ensures regular { IfOk metadata.now (λ known. IsFile (file_type known) → result ≡ false) }
+{
+    match metadata {
+        Ok(known) => !known.is_file(),
+        Err(_) => true,
+    }
+}
+
 /// Opens the file of a name for reading, as a device that nothing was read of, and that hands on no
 /// interruption. No other call answers an unread device. The mark is a part of the device and not of the
 /// file, so it shows how the code goes, and is no promise about what was read of the file. A folder counts as
-/// a file that can't be opened. Only a regular file is known not to wait.
+/// a file that can't be opened. Whether reads may have to wait is as [`reads_may_wait`] says.
 pub fn open_file<H: Files>(files: &H, name: &str) -> io::Result<Std<Uninterrupted<H::File>>>
     ensures unread { IfOk result (λ device. device.is_unread ≡ true) }
     ensures failures { IfOk result (λ device. device.failures ≡ 0) }
@@ -175,11 +190,11 @@ pub fn open_file<H: Files>(files: &H, name: &str) -> io::Result<Std<Uninterrupte
     ensures broken { IfOk result (λ device. device.is_broken ≡ false) }
 {
     let file = fs::open(files, name)?;
-    let may_wait = match file.metadata() {
-        Ok(metadata) if metadata.is_dir() => return Err(ErrorKind::IsADirectory.into()),
-        Ok(metadata) => !metadata.is_file(),
-        Err(_) => true,
-    };
+    let metadata = file.metadata();
+    if matches!(&metadata, Ok(known) if known.is_dir()) {
+        return Err(ErrorKind::IsADirectory.into());
+    }
+    let may_wait = reads_may_wait(&metadata);
     Ok(Std {
         inner: Uninterrupted::new(file),
         failures: 0,

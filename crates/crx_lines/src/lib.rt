@@ -12,7 +12,7 @@ pub mod uninterrupted;
 mod window;
 pub mod write;
 
-pub use device::{ReadFailed, Sink, Source, Std, WriteFailed, open_file};
+pub use device::{ReadFailed, Sink, Source, Std, WriteFailed, open_file, reads_may_wait};
 pub use line::{Line, LineReader};
 pub use uninterrupted::Uninterrupted;
 pub use write::write_all_counted;

@@ -12,7 +12,8 @@ use crate::phase::Phase;
 use crate::seek::seek;
 use crate::window::{Cut, Window};
 use crx_base::limits::LINE_LIMIT;
-use crx_base::{At, Fault, Padded};
+use crx_base::memory::boxed;
+use crx_base::{At, Fault, Padded, Refused};
 use std::alloc::{AllocError, Global};
 
 /// A line: its content without the line end, its number and how it ends.
@@ -93,12 +94,20 @@ impl LineReader {
     ghost use Rattle.crx_lines.specs.Readers.{CanBeLent, TakesNextLine, reading};
     ghost use Rattle.crx_lines.specs.Window.{cut_shown};
 
-    /// A reader before its input's first line.
+    /// Returns a reader before its input's first line.
     pub fn new(alloc: Global) -> Result<LineReader, AllocError>
         ensures start { IfOk result
             (λ r. reading r ≡ record { rest = []; passed = 0; number = 0; phase = Phase.Open }) }
     {
-        let window = Box::new(alloc, Window::new(alloc)?)?;
+        Ok(LineReader::open(alloc)?)
+    }
+
+    /// Does what [`LineReader::new`] does, and returns the refusal itself.
+    pub fn open(alloc: Global) -> Result<LineReader, Refused>
+        ensures start { IfOk result
+            (λ r. reading r ≡ record { rest = []; passed = 0; number = 0; phase = Phase.Open }) }
+    {
+        let window = boxed(alloc, Window::new(alloc)?)?;
         Ok(LineReader {
             number: 0,
             window,
@@ -182,6 +191,20 @@ impl LineReader {
         Ok(Some(cut))
     }
 
+    /// Returns the last line that was read, of which `cut` says where it is.
+    #[inline(always)]
+    fn line(&self, cut: Cut) -> Line<'_>
+        requires { CanBeLent self.now.window.value.bytes.items cut }
+        ensures shown { line_shown result ≡ cut_shown self.now.window.value.bytes.items cut }
+        ensures number { line_number result ≡ self.now.number }
+    {
+        Line {
+            content: self.window.padded(cut),
+            number: self.number,
+            is_plain: cut.is_plain,
+        }
+    }
+
     /// Hands out the next line of what is kept and what `reader` gives after it, until the next call.
     /// It asks `reader` only while what is kept holds no LF, and never after `reader` reported its end.
     ///
@@ -213,14 +236,7 @@ impl LineReader {
             Phase::Open => {}
         }
         match self.advance_by_reading(reader)? {
-            Some(cut) => {
-                let number = self.number;
-                Ok(Some(Line {
-                    content: self.window.padded(cut),
-                    number,
-                    is_plain: cut.is_plain,
-                }))
-            }
+            Some(cut) => Ok(Some(self.line(cut))),
             None => Ok(None),
         }
     }
@@ -241,14 +257,7 @@ impl LineReader {
             Phase::Open => {}
         }
         match self.advance_held()? {
-            Some(cut) => {
-                let number = self.number;
-                Ok(Some(Line {
-                    content: self.window.padded(cut),
-                    number,
-                    is_plain: cut.is_plain,
-                }))
-            }
+            Some(cut) => Ok(Some(self.line(cut))),
             None => Ok(None),
         }
     }

@@ -9,9 +9,10 @@ ghost use Rattle.crx_lines.specs.declared.window.TheConstants.{LEAST_ROOM, SIZE}
 
 use crate::device::Source;
 use crx_base::limits::LINE_LIMIT;
+use crx_base::memory::reserve_exact;
 use crx_base::padded::PADDING;
-use crx_base::{Fault, Padded};
-use std::alloc::{AllocError, Global};
+use crx_base::{Fault, Padded, Refused};
+use std::alloc::Global;
 use std::mem;
 
 /// How many bytes a read finds in use and free at least; twice as many are in use at first.
@@ -50,10 +51,11 @@ impl Window {
     ghost use Rattle.crx_lines.specs.Window.{IsCut, cut_shown, kept};
 
     /// An empty window. Its memory is never on the stack.
-    pub(crate) fn new(alloc: Global) -> Result<Window, AllocError>
+    pub(crate) fn new(alloc: Global) -> Result<Window, Refused>
         ensures { IfOk result (λ window. kept window ≡ []) }
     {
-        let mut bytes = Vec::with_capacity(alloc, SIZE + PADDING)?;
+        let mut bytes = Vec::new(alloc);
+        reserve_exact(&mut bytes, SIZE + PADDING)?;
         lengthen(&mut bytes, 2 * PIECE);
         Ok(Window {
             bytes,

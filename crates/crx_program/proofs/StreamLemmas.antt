@@ -9,6 +9,7 @@ use Rattle.crx_base.specs.meaning.Choices.{Choices}
 use Rattle.crx_runs.specs.meaning.Spans.{Input, Device, reader_span, span}
 use Rattle.jiff.specs.declared.timestamp.Timestamp.{Timestamp}
 use Rattle.crx_command.specs.declared.job.{Job.Job, Tool.Tool}
+use Rattle.crx_command.specs.meaning.Planning.{Help, Plan, Refusal, Refused, Run}
 use Rattle.crx_program.specs.{declared.log.{Logged.Logged, Opening.Opening}, meaning.Jobs.IsChosen}
 use Rattle.crx_program.specs.meaning.Calls.{Call}
 use Rattle.crx_program.specs.meaning.Jobs.{calls_of, IsFiltered, IsFilteredFrom, IsFilteredInto, IsJobDone}
@@ -43,7 +44,7 @@ std_sink contents = record {
 abbrev pub logged_source : {D : Type 0} → SourceGhosts D → SourceGhosts (Logged D)
 logged_source inner = record {
   gave = λ a bytes b. (b.log.bytes ≡ a.log.bytes ++ bytes) × (b.opening ≡ a.opening)
-      × inner.gave a.inner bytes b.inner;
+      × inner.gave a.inner bytes b.inner × (inner.waits b.inner ≡ inner.waits a.inner);
   at_end = λ s. inner.at_end s.inner × (0 < inner.ends s.inner);
   failures = λ s. inner.failures s.inner;
   ends = λ s. inner.ends s.inner;
@@ -89,6 +90,38 @@ record Placed {F G I O : Type 0} (job : Job) (source : Option (Logged (Std F)))
   pub writing : Writing job.target job.force target output job.tool choices reader messages status
   pub gave : (bytes : List ℕ) → reader.gave bytes → ReadsGave job.source source input bytes
   pub ended : reader.at_end → IsEndTold source input
+
+pub by_plan : {X : Type 0} (p : Plan) → (p ≡ Help → X) → ((refusal : Refusal) → p ≡ Refused refusal → X)
+    → ((job : Job) → p ≡ Run job → X) → X
+by_plan Help help refused run = help refl
+by_plan (Refused refusal) help refused run = refused refusal refl
+by_plan (Run job) help refused run = run job refl
+
+-- the reads of a job wait as they did before
+module _ {F G I : Type 0} (file : F → Option (List ℕ)) (made : G → Option (List ℕ))
+    (stdin : I → Option (List ℕ))
+    (first last : Logged (Std I)) where
+  into-waits : (name : Option (List ℕ)) (force : Bool) (target : Option (Logged (Std G))) (tool : Tool)
+      (choices : Choices) (output messages : Device) (status : ℕ)
+      → IsFilteredInto (writer_of made) name force target
+      tool choices (reader_span (reader_of stdin) first last) output messages status
+      → last.inner.may_wait ≡ first.inner.may_wait
+  into-waits None force target tool choices output messages status h =
+      let (none, (fault, given, gave, ran)) = h in gave.3
+  into-waits (Some name) force target tool choices output messages status h =
+      let (opening, by, (one, other, e1, e2, e3, e4, (fault, given, gave, ran))) = h in gave.3
+
+  from-waits : (name : Option (List ℕ)) (source : Option (Logged (Std F))) (target_name : Option (List ℕ))
+      (force : Bool) (target : Option (Logged (Std G))) (tool : Tool) (choices : Choices)
+      (output messages : Device)
+      (status : ℕ) → (is_some name ≡ true → last ≡ first)
+      → IsFilteredFrom (reader_of file) (writer_of made) name source
+      target_name force target tool choices (reader_span (reader_of stdin) first last) output messages status
+      → last.inner.may_wait ≡ first.inner.may_wait
+  from-waits None source target_name force target tool choices output messages status same h =
+      into-waits target_name force target tool choices output messages status h.1
+  from-waits (Some name) source target_name force target tool choices output messages status same h =
+      ap (λ (d : Logged (Std I)). d.inner.may_wait) (same refl)
 
 module _ {F G I O E : Type 0} (file : F → Option (List ℕ)) (made : G → Option (List ℕ))
     (stdin : I → Option (List ℕ)) (stdout : O → Option (List ℕ)) (stderr : E → Option (List ℕ)) where
@@ -196,18 +229,21 @@ module _ {F G I O E : Type 0} (file : F → Option (List ℕ)) (made : G → Opt
         status ((last ≡ first) × (after ≡ before) × (target ≡ None)) fewer calls
         → ((status ≡ 1 → ⊥) → IsExact)
         × (IsFront ⊎ ((last.log.bytes ≡ []) × (after.log.bytes ≡ []) × (target ≡ None)))
-        × OpensInOrder job fewer calls
+        × OpensInOrder job fewer calls × (last.inner.may_wait ≡ first.inner.may_wait)
     run_over (inl begun) =
         let place = placed job _ refl source target first last before after none empty same_input same begun.0
         messages status begun.3 in (
           exact_of begun.0 begun.1 place,
           inl (front_of begun.0 begun.1 place),
           (calls_of job, [], begun.2, append-nil (calls_of job)),
+          from-waits file made stdin first last job.source source job.target job.force target job.tool begun.0
+          output messages status same_input begun.3,
         )
     run_over (inr not_begun) = (
       λ well. absurd (well not_begun.status_is),
       inr (rw not_begun.same.0 none, rw not_begun.same.1 empty, not_begun.same.2),
       opens-until not_begun.why job fewer calls not_begun.opened,
+      ap (λ (d : Logged (Std I)). d.inner.may_wait) not_begun.same.0,
     )
 
 -- a new device over a new one of std is unused

@@ -126,7 +126,7 @@ impl<S> Logged<S> {
 
 impl<S: Source> Source for Logged<S> {
     ghost gave = { λ a bytes b. (b.log.bytes ≡ a.log.bytes ++ bytes)
-        × (b.opening ≡ a.opening) × S.gave a.inner bytes b.inner };
+        × (b.opening ≡ a.opening) × S.gave a.inner bytes b.inner × (S.waits b.inner ≡ S.waits a.inner) };
 
     // A read reported the end.
     ghost at_end = { λ s. S.at_end s.inner × (0 < S.ends s.inner) };
@@ -147,12 +147,13 @@ impl<S: Source> Source for Logged<S> {
         Ok(count)
     }
 
-    ghost gave_none = { λ s. (adds_none s.log.bytes, refl, S.gave_none s.inner) };
+    ghost gave_none = { λ s. (adds_none s.log.bytes, refl, S.gave_none s.inner, refl) };
 
     ghost gave_both = { λ a b c xs ys p q. (
       adds_both a.log.bytes b.log.bytes c.log.bytes xs ys p.0 q.0,
       q.1 ∙ p.1,
       S.gave_both a.inner b.inner c.inner xs ys p.2 q.2,
+      q.3 ∙ p.3,
     ) };
 }
 

@@ -12,7 +12,7 @@ ghost use Rattle.crx_runs.specs.meaning.Spans.{span, reader_span};
 use crate::late_writer::LateWriter;
 use crate::log::opener::Opener;
 use crate::log::{Log, Logged, OUTPUT_BUFFER, SourceFile, TargetFile};
-use crate::refusal::{refuse, report, report_at_start};
+use crate::refusal::{refuse, report, report_at_start, report_no_memory};
 use crx_base::Fault;
 use crx_command::date::{date_of, moment_now};
 use crx_command::job::{Decision, Job, Tool};
@@ -145,7 +145,7 @@ fn run_to_target<H: Files, R: Source, W: Sink, M: Sink>(
     };
     let late = LateWriter { writer: None };
     let Ok(buffer) = BufWriter::with_capacity(alloc, OUTPUT_BUFFER, late) else {
-        return Ended::without_files(report_at_start(messages, Fault::OutOfMemory));
+        return Ended::without_files(report_no_memory(messages));
     };
     match files.open_to_write(job.force, name.text(), buffer) {
         Ok(device) => {
@@ -184,7 +184,7 @@ fn run_job<H: Files, R: Source, W: Sink, M: Sink>(
         files.old.log.calls files.new.log.calls }
 {
     let Ok(options) = options_of(alloc, moment, job) else {
-        return Ended::without_files(report_at_start(messages, Fault::OutOfMemory));
+        return Ended::without_files(report_no_memory(messages));
     };
     match &job.source {
         None => run_to_target(files, alloc, job, options, input, output, messages),

@@ -40,6 +40,14 @@ pub fn report_at_start<M: Sink>(messages: &mut M, fault: Fault) -> u8
     FAILED
 }
 
+/// Reports that the system refused memory before the first line was read, and answers the exit status.
+pub fn report_no_memory<M: Sink>(messages: &mut M) -> u8
+    ensures shown { IsShown (span M.Sink messages.old messages.new) (at_start Fault.OutOfMemory) }
+    ensures status { result ≡ 1 }
+{
+    report_at_start(messages, Fault::OutOfMemory)
+}
+
 /// Reports what is wrong, and a name, as `ERROR: file exists: a.crx`, and answers the exit status. If the
 /// system refuses memory for the line, it reports that.
 pub fn report<M: Sink>(alloc: Global, messages: &mut M, words: &str, name: &str) -> u8
@@ -51,7 +59,7 @@ pub fn report<M: Sink>(alloc: Global, messages: &mut M, words: &str, name: &str)
             show(messages, line.text().as_bytes());
             FAILED
         }
-        Err(_) => report_at_start(messages, Fault::OutOfMemory),
+        Err(_) => report_no_memory(messages),
     }
 }
 
@@ -68,7 +76,7 @@ pub fn refuse<M: Sink>(alloc: Global, messages: &mut M, fault: &UsageFault) -> u
             show(messages, text.text().as_bytes());
             FAILED
         }
-        UsageFault::Memory => report_at_start(messages, Fault::OutOfMemory),
+        UsageFault::Memory => report_no_memory(messages),
         other => report(alloc, messages, other.words(), other.subject()),
     }
 }

@@ -12,7 +12,7 @@ ghost use Rattle.crx_runs.specs.meaning.Spans.{reader_span, span};
 use crate::log::opener::Opener;
 use crate::log::{Log, Logged, SourceFile, TargetFile, TargetStream};
 use crate::program::{close_buffer, run_with_files};
-use crate::refusal::report_at_start;
+use crate::refusal::report_no_memory;
 use crx_base::Fault;
 use crx_command::job::Job;
 use crx_lines::{Sink, Source, Std, Uninterrupted};
@@ -63,7 +63,7 @@ pub fn without_memory<I: Read, O: Write + Drop, E: Write, F: Write + Drop>(
     ensures files { HasNoFiles result }
 {
     let mut messages = Logged::new(Std::new(stderr));
-    let status = report_at_start(&mut messages, Fault::OutOfMemory);
+    let status = report_no_memory(&mut messages);
     Whole {
         status,
         input: Logged::new(Std::new(stdin)),
@@ -108,6 +108,7 @@ pub fn run_over<H: Files, I: Read, O: Write + Drop, E: Write>(
         files.old.log.calls files.new.log.calls))) }
     ensures does { (job : Job) → plan_of (map string_bytes words.items) ≡ Run job
         → DoesItsJob moment job files.old.log.calls files.new.log.calls result }
+    ensures waits { result.input.inner.may_wait ≡ may_wait }
 {
     let mut input = Logged::new(Std::new(stdin).waiting(may_wait));
     let mut output = Logged::new(Std::new(stdout));

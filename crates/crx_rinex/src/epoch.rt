@@ -13,6 +13,7 @@ use crate::epoch_line::EpochLine;
 use crate::satellite_row::SatRow;
 use crx_base::Fault;
 use crx_base::limits::NAME_WIDTH;
+use crx_base::memory::{reserve_exact, reserve_keys};
 use indexmap::IndexSet;
 use std::alloc::Global;
 use std::marker::Model;
@@ -71,8 +72,11 @@ impl Epoch {
         }
         if self.rows.is_empty() {
             let count = self.head.count();
-            if self.rows.reserve_exact(count).is_err() || self.names.reserve(count).is_err() {
-                return Err((row, Fault::OutOfMemory));
+            if let Err(refused) = reserve_exact(&mut self.rows, count) {
+                return Err((row, Fault::from(refused)));
+            }
+            if let Err(refused) = reserve_keys(&mut self.names, count) {
+                return Err((row, Fault::from(refused)));
             }
         }
         self.names.insert(row.name()).unwrap();

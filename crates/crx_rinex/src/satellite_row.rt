@@ -1,6 +1,6 @@
 //! Satellite lines. RINEX 3.05, table A3, OBSERVATION record, A1,I2.2,m(F14.3,I1,I1).
 
-ghost use Rattle.std.specs.Prelude.{◌≡◌, ◌≤◌, ◌<◌, ◌+◌, ◌*◌, ◌++◌, ◌⊎◌, true, Ok, Err, is_some, length, All, IfOk, IfErr, MatchResult, slice_get, take};
+ghost use Rattle.std.specs.Prelude.{◌≡◌, ◌≤◌, ◌<◌, ◌+◌, ◌*◌, ◌++◌, ◌⊎◌, true, Ok, Err, is_some, length, All, IfOk, IfErr, MatchResult, None, replicate, slice_get, take, vec_len};
 ghost use Rattle.std.specs.List.{list_all};
 ghost use Rattle.std.specs.Option.{ForSome};
 ghost use Rattle.crx_base.specs.declared.limits.TheConstants.{CELL_WIDTH, NAME_WIDTH, TYPES_LIMIT};
@@ -15,8 +15,9 @@ ghost use Rattle.crx_rinex.specs.meaning.SatelliteLines.{row_of, IsSoundRow};
 ghost use Rattle.crx_header.specs.meaning.Satellites.{is_identifier, types_of_satellite};
 
 use crate::row_buffer::read_cell;
-use crx_base::Fault;
 use crx_base::limits::{CELL_WIDTH, NAME_WIDTH, TYPES_LIMIT};
+use crx_base::memory::reserve_exact;
+use crx_base::{Fault, Refused};
 use crx_header::{
     Types, after_columns, all_blank, identifier, padded, put_flags, types_of_satellite,
 };
@@ -63,12 +64,7 @@ impl SatRow {
         let Some(m) = types_of_satellite(types, line) else {
             return Err(Fault::BadSatellite);
         };
-        let Ok(mut values) = vec![in alloc; None; m] else {
-            return Err(Fault::OutOfMemory);
-        };
-        let Ok(mut flags) = vec![in alloc; b' '; 2 * m] else {
-            return Err(Fault::OutOfMemory);
-        };
+        let (mut values, mut flags) = blank_cells(alloc, m)?;
         let read = values.as_mut_slice();
         let marks = flags.as_mut_slice();
         for k in 0..m {
@@ -97,12 +93,7 @@ impl SatRow {
         ensures value { MatchResult result
             (λ row. row ≡ blank_row name m) (λ fault. fault ≡ Fault.OutOfMemory) }
     {
-        let Ok(values) = vec![in alloc; None; m] else {
-            return Err(Fault::OutOfMemory);
-        };
-        let Ok(flags) = vec![in alloc; b' '; 2 * m] else {
-            return Err(Fault::OutOfMemory);
-        };
+        let (values, flags) = blank_cells(alloc, m)?;
         Ok(SatRow {
             name,
             values,
@@ -168,6 +159,22 @@ impl SatRow {
     {
         print_row(self.name, &self.values, &self.flags, text);
     }
+}
+
+/// Returns `m` missing values, and two blank indicators for each.
+fn blank_cells(alloc: Global, m: usize) -> Result<(Vec<Option<i64>>, Vec<u8>), Refused>
+    requires allowed { m ≤ TYPES_LIMIT }
+    ensures values { IfOk result (λ cells. cells.0.items ≡ replicate m None) }
+    ensures flags { IfOk result (λ cells. cells.1.items ≡ replicate (2 * m) 32) }
+    ensures counted { IfOk result (λ cells. (vec_len cells.0 ≡ m) × (vec_len cells.1 ≡ 2 * m)) }
+{
+    let mut values = Vec::new(alloc);
+    reserve_exact(&mut values, m)?;
+    values.resize(m, None).unwrap();
+    let mut flags = Vec::new(alloc);
+    reserve_exact(&mut flags, 2 * m)?;
+    flags.resize(2 * m, b' ').unwrap();
+    Ok((values, flags))
 }
 
 /// Replaces a text by the printed line of a row, without blanks at its end.

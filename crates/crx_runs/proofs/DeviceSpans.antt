@@ -1,6 +1,6 @@
 -- A device over two stretches of a run, and over both.
 use Rattle.std.proofs.lemmas.Grind.{common_steps}
-use Rattle.std.proofs.Common.{◌≡◌, ℕ, ◌+◌, ◌≤◌, List, [], ◌∷◌, ◌++◌, length, take, refl, sym, ap, subst, ◌∙◌}
+use Rattle.std.proofs.Common.{◌≡◌, ℕ, ◌≤◌, List, [], ◌∷◌, ◌++◌, length, take, refl, sym, ap, subst, ◌∙◌}
 use Rattle.std.proofs.{Common.{arith, append_assoc, append-nil, length-append}, Math.Seq.take-append-add}
 use Rattle.std.proofs.lemmas.List.{take-append-le}
 use Rattle.crx_lines.{specs.declared.device.Sink.Ghosts}

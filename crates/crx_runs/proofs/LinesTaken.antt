@@ -1,7 +1,7 @@
 -- A line that an engine takes, at once or a second time.
 use Rattle.std.proofs.lemmas.Grind.{common_steps}
 use Rattle.std.proofs.Common.{◌≡◌, ◌⊎◌, ℕ, ◌+◌, Bool, true, false, List, [], ◌∷◌, ◌++◌, length}
-use Rattle.std.proofs.Common.{Option, Some, None, Result, Ok, Err, IfOk, IfErr, refl, ap, ◌||◌}
+use Rattle.std.proofs.Common.{Option, Some, None, Result, Ok, Err, IfOk, IfErr, refl, ap, ◌∙◌, ◌||◌}
 use Rattle.std.specs.Prelude.{⊤}
 use Rattle.std.proofs.Common.{arith, append-nil}
 use Rattle.crx_base.specs.{declared.fault.At.At, meaning.Lines.InputLine}
@@ -10,7 +10,7 @@ use Rattle.crx_runs.proofs.{DeviceSpans.{Joins}, LineEndings.{all-next, answer-e
 use Rattle.crx_runs.specs.Endings.{WarnsAtEnd}
 use Rattle.crx_runs.specs.Engines.{Adds, Awaited, awaited_notices, EngineAnswers, IsDrainedAfter}
 use Rattle.crx_runs.specs.Engines.{Stays, answer_given, shown_with}
-use Rattle.crx_runs.specs.Taking.{Becomes, IsSettled, made_by, step_notices}
+use Rattle.crx_runs.specs.Taking.{Becomes, IsLineAfter, IsSettled, TakesNext, WasAnswered, made_by, step_notices}
 use Rattle.crx_runs.specs.declared.engine.Engine.{Ghosts as EngineGhosts}
 use Rattle.crx_runs.specs.declared.engine.HandedOut.{HandedOut, TheVariants.{Nothing, Lines, AsItIs}}
 use Rattle.crx_runs.specs.declared.engine.Step.{Step, TheVariants.{Quiet, Ready, Warned}}
@@ -137,6 +137,18 @@ module _ {writer1 writer2 writer messages1 messages2 messages : Device} (w : Joi
       line-becomes Ready drained a shown kept made result is (always-ok made tt) s
   handed-becomes AsItIs _ a drained shown kept made result is s =
       line-becomes Ready drained a shown kept made result is (always-ok made tt) s
+
+-- what is done with an answer to a line is what becomes of the line
+pub answered-next : {E : Type 0} (engine : EngineGhosts E) (before now then : E) (line : InputLine)
+    {writer messages : Device} {result : Result Bool Halt} → engine.filter now ≡ engine.filter before
+    → ((lines : List InputLine) → engine.shows before lines [] → WasAnswered engine now line lines (Some line))
+    → TakesNext engine now then (WasAnswered engine now line) writer messages result
+    → TakesNext engine before then (IsLineAfter engine before line) writer messages result
+answered-next engine before now then line kept answered taken = record {
+  filter = taken.filter ∙ kept;
+  drained = taken.drained;
+  becomes = λ lines next comes. rw (kept) at (taken.becomes lines next (rw (comes.1) (answered lines comes.0)));
+}
 
 -- a warning after which a line comes a second time was reported
 pub again-out : {writer messages : Device} (ready : List (List ℕ)) (step : Step) (notice : At) (warned : Bool)

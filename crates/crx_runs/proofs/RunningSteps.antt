@@ -1,15 +1,16 @@
 -- A run goes on by a line, or ends at it; and its end.
 use Rattle.std.proofs.lemmas.Grind.{common_steps}
-use Rattle.std.proofs.Common.{arith, ◌≡◌, ℕ, ◌+◌, Bool, ◌||◌, List, [], length, None, Result}
+use Rattle.std.proofs.Common.{arith, ◌≡◌, ℕ, ◌+◌, Bool, ◌||◌, List, [], length, Option, None, Some, is_some, true, refl, Result}
 use Rattle.std.proofs.Common.{Ok, Err, OnOk}
 use Rattle.crx_base.specs.meaning.Lines.{InputLine}
 use Rattle.crx_lines.specs.Reading.{HasNoFeed, ReaderState}
 use Rattle.crx_lines.specs.declared.phase.Phase.TheVariants.{Open}
 use Rattle.crx_runs.proofs.DeviceSpans.{Joins, all-still, took-still}
 use Rattle.crx_runs.proofs.{LineEndings.out-more, StepReading.ReadsLine}
-use Rattle.crx_runs.specs.{Endings.{EndsBy, EndsFrom, FlushFailed, HandingFailed, WellDone}, Engines.Awaited}
-use Rattle.crx_runs.specs.Running.{ComesToEnd, GoesOnBy, IsRunning, StepGoes, stepped}
+use Rattle.crx_runs.specs.{Endings.{EndsBy, EndsFrom, FlushFailed, HandingFailed, StopsAt, WellDone}, Engines.Awaited}
+use Rattle.crx_runs.specs.Running.{ComesToEnd, GoesOnBy, IsRunning, StepGoes, step_answer, stepped}
 use Rattle.crx_runs.specs.Taking.{Becomes, IsDone}
+use Rattle.crx_runs.specs.declared.stepwise.StepOutcome.TheVariants.{Stopped}
 use Rattle.crx_runs.specs.{declared.one_line.Halt.Halt, meaning.Filters.{Filter, with_next}}
 use Rattle.crx_runs.specs.meaning.{Results.{Course, are_some}, Spans.{Device, Input, TookAll}}
 
@@ -17,6 +18,14 @@ use Rattle.crx_runs.specs.meaning.{Results.{Course, are_some}, Spans.{Device, In
 pub stepped-ok : (P : Type 0) (taken : Result Bool Halt) → OnOk taken P → OnOk (stepped taken) P
 stepped-ok P (Ok warned) is = is
 stepped-ok P (Err halt) is = is
+
+-- a run that stopped keeps what ended it
+pub stopped-by : {filter : Filter} (shows : List InputLine → List Awaited → Type 0) {input : Input}
+    {writer messages : Device} {now : ReaderState} {lines : List InputLine} (ended : Option Halt)
+    → is_some ended ≡ true → StepGoes filter shows input writer messages now lines (step_answer Stopped ended)
+    → (halt : Halt) × (ended ≡ Some halt) × StopsAt filter input writer messages now lines halt
+stopped-by shows (Some halt) some goes = (halt, refl, goes)
+stopped-by shows None some goes = absurd (cc)
 
 -- the run goes on
 pub go-on : {filter : Filter} {shows : List InputLine → List Awaited → Type 0} {input : Input}

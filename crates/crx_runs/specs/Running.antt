@@ -1,5 +1,5 @@
 -- A run between two lines, and how it goes on.
-use Rattle.std.specs.Prelude.{◌≡◌, ◌⊎◌, ◌<◌, ◌≤◌, Bool, Contains, List, [], ◌++◌, Option, Some, None, Result, Ok, Err}
+use Rattle.std.specs.Prelude.{◌≡◌, ◌⊎◌, ◌<◌, ◌≤◌, Bool, true, false, Contains, List, [], ◌++◌, Option, Some, None, is_some, Result, Ok, Err}
 use Rattle.std.specs.Prelude.{IfOk, IfSome, OnOk}
 use Rattle.crx_base.specs.meaning.Lines.{InputLine}
 use Rattle.crx_lines.specs.Reading.{ReaderState}
@@ -11,8 +11,10 @@ use Rattle.crx_lines.specs.declared.device.Sink.{Ghosts as SinkGhosts}
 use Rattle.crx_lines.specs.declared.device.Source.{Ghosts as SourceGhosts}
 use Rattle.crx_runs.specs.declared.engine.Engine.{Ghosts as EngineGhosts}
 use Rattle.crx_runs.specs.declared.one_line.Halt.{Halt}
-use Rattle.crx_runs.specs.declared.one_line.LineOutcome.{LineOutcome}
-use Rattle.crx_runs.specs.Taking.{HandsOnFirst, with_halt}
+use Rattle.crx_runs.specs.declared.one_line.Halt.TheVariants.{Unwritten}
+use Rattle.crx_runs.specs.declared.stepwise.StepOutcome.{StepOutcome}
+use Rattle.crx_runs.specs.declared.stepwise.StepOutcome.TheVariants.{Taken, Warned, AtEnd, Stopped}
+use Rattle.crx_runs.specs.Taking.{HandsOnFirst}
 use Rattle.crx_runs.specs.meaning.Results.{Course, are_some}
 use Rattle.crx_runs.specs.meaning.Filters.{Filter, with_next}
 use Rattle.crx_runs.specs.meaning.Spans.{Device, Input, reader_span, span}
@@ -52,10 +54,18 @@ abbrev pub stepped : Result Bool Halt → Result (Option Bool) Halt
 stepped (Ok warned) = Ok (Some warned)
 stepped (Err halt) = Err halt
 
--- what a step came to: a line, or the end of the input
-abbrev pub step_with_halt : Option LineOutcome → Halt → Result (Option Bool) Halt
-step_with_halt None halt = Ok None
-step_with_halt (Some outcome) halt = stepped (with_halt outcome halt)
+-- what a step came to, and what is kept of a run that stopped: by `IsEndKept` that is never nothing
+abbrev pub step_answer : StepOutcome → Option Halt → Result (Option Bool) Halt
+step_answer Taken ended = Ok (Some false)
+step_answer Warned ended = Ok (Some true)
+step_answer AtEnd ended = Ok None
+step_answer Stopped (Some halt) = Err halt
+step_answer Stopped None = Err Unwritten
+
+-- a run that stopped keeps what ended it, and no other step changes that
+abbrev pub IsEndKept : StepOutcome → Option Halt → Option Halt → Type 0
+IsEndKept Stopped before now = is_some now ≡ true
+IsEndKept outcome before now = now ≡ before
 
 -- one step over the input: a line was taken, the end was reported, or the run ended
 abbrev pub StepGoes : Filter → (List InputLine → List Awaited → Type 0)

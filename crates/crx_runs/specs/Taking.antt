@@ -9,8 +9,8 @@ use Rattle.crx_runs.specs.declared.engine.Engine.{Ghosts as EngineGhosts}
 use Rattle.crx_runs.specs.declared.engine.Step.{Step}
 use Rattle.crx_runs.specs.declared.engine.Step.TheVariants.{Quiet, Ready, Warned}
 use Rattle.crx_runs.specs.declared.one_line.Halt.{Halt}
-use Rattle.crx_runs.specs.declared.one_line.LineOutcome.{LineOutcome}
-use Rattle.crx_runs.specs.declared.one_line.LineOutcome.TheVariants as outcomes
+use Rattle.crx_runs.specs.declared.one_line.Halt.TheVariants.{Unwritten}
+use Rattle.crx_lines.specs.declared.device.WriteFailed.{WriteFailed}
 use Rattle.crx_runs.specs.meaning.Results.{Course}
 use Rattle.crx_runs.specs.meaning.Filters.{course_with, memory_with}
 use Rattle.crx_runs.specs.Engines.{Adds, EngineAnswers, IsDrainedAfter, KeepsAllElse, shown_with, taken_after}
@@ -36,11 +36,14 @@ pub record HoldsAnswer {E : Type 0} (engine : EngineGhosts E) (now : E) (content
       × (engine.taken now ≡ taken_after step count) × (number ≡ count + 1))
   pub within : number ≤ INPUT_LIMIT
 
--- an engine holds its answer to what came next after some lines: a line of this content
-abbrev pub WasAnswered : {E : Type 0} → EngineGhosts E → E → List ℕ → Bool → List InputLine → Option InputLine → Type 0
-WasAnswered engine now content is_plain lines next = EngineAnswers (engine.filter now) (engine.shows now)
-    (engine.has_ended now) (engine.ready now) lines [] next (engine.answer now)
-    × (next ≡ Some (record { content = content; is_plain = is_plain }))
+-- an engine holds its answer to what came next after some lines: this line
+abbrev pub WasAnswered : {E : Type 0} → EngineGhosts E → E → InputLine → List InputLine → Option InputLine → Type 0
+WasAnswered engine now line lines next = EngineAnswers (engine.filter now) (engine.shows now)
+    (engine.has_ended now) (engine.ready now) lines [] next (engine.answer now) × (next ≡ Some line)
+
+-- this line comes after some lines that an engine has taken
+abbrev pub IsLineAfter : {E : Type 0} → EngineGhosts E → E → InputLine → List InputLine → Option InputLine → Type 0
+IsLineAfter engine now line lines next = engine.shows now lines [] × (next ≡ Some line)
 
 -- lines were taken over from an engine, and nothing else of it changed
 abbrev pub KeepsLines : {E : Type 0} → EngineGhosts E → E → E → Type 0
@@ -81,12 +84,6 @@ IsSettled writer messages made (Ok warned) = IsAllOut writer messages made × (w
 IsSettled writer messages made (Err halt) =
     EndsAt None 0 writer messages (record { output = []; warnings = []; fault = None }) made halt
 
--- what became of a line, or what ended the run, where that was stored
-abbrev pub with_halt : LineOutcome → Halt → Result Bool Halt
-with_halt outcomes.Taken halt = Ok false
-with_halt outcomes.Warned halt = Ok true
-with_halt outcomes.Stopped halt = Err halt
-
 -- ---- one line
 
 -- a line was taken, or the end: what it adds was written and reported
@@ -117,6 +114,17 @@ pub record TakesNext {E : Type 0} (engine : EngineGhosts E) (before now : E)
       → Becomes (memory_with (engine.filter before) lines next) (length lines + 1)
       ((engine.filter before).so_far lines) (course_with (engine.filter before) lines next)
       (shown_with (engine.shows now) (engine.has_ended now) lines next) writer messages result
+
+-- an engine took a line, and what it handed out was written, or that failed; or it holds an answer to the line
+abbrev pub HasHandedOut : {E : Type 0} → EngineGhosts E → E → E → InputLine → ℕ → Device → Device
+    → Result Bool WriteFailed → Type 0
+HasHandedOut engine before now line number writer messages (Ok true) =
+    TakesNext engine before now (IsLineAfter engine before line) writer messages (Ok false)
+HasHandedOut engine before now line number writer messages (Ok false) =
+    HoldsAnswer engine now line.content number × (engine.filter now ≡ engine.filter before)
+    × ((lines : List InputLine) → engine.shows before lines [] → WasAnswered engine now line lines (Some line))
+HasHandedOut engine before now line number writer messages (Err failed) =
+    TakesNext engine before now (IsLineAfter engine before line) writer messages (Err Unwritten)
 
 -- the end of the input ended the run, after whichever lines: it has no warning then, or the one that failed
 abbrev pub EndWarns : {E : Type 0} → EngineGhosts E → E → Result Bool Halt → Type 0

@@ -1,6 +1,6 @@
 //! The end of a run: the writer is flushed, and the fault is reported.
 
-ghost use Rattle.std.specs.Prelude.{◌≡◌, ◌⊎◌, [], Some};
+ghost use Rattle.std.specs.Prelude.{◌≡◌, ◌⊎◌, [], Some, false};
 ghost use Rattle.crx_lines.specs.meaning.Devices.{one_more};
 ghost use Rattle.crx_runs.specs.Endings.{Finishes, IsReported};
 ghost use Rattle.crx_runs.specs.meaning.Spans.{span};
@@ -8,8 +8,7 @@ ghost use Rattle.crx_runs.specs.meaning.Spans.{span};
 use crate::message::{Severity, message};
 use crate::one_line::Halt;
 use crate::outcome::Outcome;
-use crate::work::Work;
-use crx_base::{At, Fault};
+use crx_base::{At, Fault, Refused};
 use crx_lines::{Sink, write_all_counted};
 
 /// Reports a fault; a failure ends the message where it comes. Only a writer that failed isn't flushed
@@ -32,23 +31,30 @@ fn report<W: Sink, M: Sink>(_writer: &W, messages: &mut M, at: At) -> Outcome
     }
 }
 
-/// Finishes a run whose work has ended. A writer that failed isn't flushed; a flush that fails is
-/// `WriteFailed` at the last line that was read, unless there is a fault. Then the fault is reported, but for
-/// a warning that couldn't be.
-pub(crate) fn finish<W: Sink, M: Sink>(writer: &mut W, messages: &mut M, work: Work) -> Outcome
+/// Finishes a run: `last` is the number of the last line that was read, `warned` whether a warning was reported,
+/// `ended` what ended the run before the good end of its input. It flushes the writer, unless the writer failed
+/// or a warning couldn't be written, and reports the fault, unless a warning couldn't be written. A flush that
+/// fails is `WriteFailed` at the last line, unless there is a fault.
+pub(crate) fn finish<W: Sink, M: Sink>(
+    writer: &mut W,
+    messages: &mut M,
+    last: u64,
+    warned: bool,
+    ended: Option<Halt>,
+) -> Outcome
     ensures { Finishes
         (span W.Sink writer.old writer.new)
         (span M.Sink messages.old messages.new)
-        work.last work.warned work.halt result.status result.fault }
+        last warned ended result.status result.fault }
 {
     let unwritten = At {
-        line: work.last,
+        line: last,
         fault: Fault::WriteFailed,
     };
-    match work.halt {
+    match ended {
         None => match writer.flush() {
             Ok(()) => Outcome {
-                status: if work.warned { 2 } else { 0 },
+                status: if warned { 2 } else { 0 },
                 fault: None,
             },
             Err(_) => report(writer, messages, unwritten),
@@ -63,4 +69,22 @@ pub(crate) fn finish<W: Sink, M: Sink>(writer: &mut W, messages: &mut M, work: W
             fault: Some(unwritten),
         },
     }
+}
+
+/// Finishes a run for which memory was refused before its first line was read.
+pub(crate) fn finish_without_memory<W: Sink, M: Sink>(
+    writer: &mut W,
+    messages: &mut M,
+    refused: Refused,
+) -> Outcome
+    ensures { Finishes
+        (span W.Sink writer.old writer.new)
+        (span M.Sink messages.old messages.new)
+        0 false (Some (Halt.Fault (record { line = 0; fault = Fault.OutOfMemory }))) result.status result.fault }
+{
+    let at = At {
+        line: 0,
+        fault: Fault::from(refused),
+    };
+    finish(writer, messages, 0, false, Some(Halt::Fault(at)))
 }

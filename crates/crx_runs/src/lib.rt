@@ -10,12 +10,10 @@ pub mod outcome;
 mod ready_lines;
 pub mod run;
 pub mod start;
-mod step;
 pub mod stepwise;
 pub mod until_failure;
-mod work;
 
 pub use engine::{Engine, HandedOut, Step};
 pub use outcome::Outcome;
-pub use stepwise::Run;
+pub use stepwise::{Run, StepOutcome};
 pub use until_failure::UntilFailure;

@@ -2,6 +2,7 @@
 
 ghost use Rattle.std.specs.Prelude.{◌≡◌, ℕ, List, [], None};
 ghost use Rattle.crx_base.specs.meaning.Lines.{lines_of};
+ghost use Rattle.crx_lines.specs.Readers.{reading};
 ghost use Rattle.crx_runs.specs.Lawful.{IsLawful};
 ghost use Rattle.crx_runs.specs.Runs.{result_by};
 ghost use Rattle.crx_runs.specs.meaning.Runs.{RunsAs};
@@ -10,46 +11,30 @@ ghost use Rattle.crx_runs.specs.meaning.Spans.{reader_span};
 
 use crate::engine::Engine;
 use crate::finish::finish;
-use crate::one_line::Halt;
 use crate::outcome::Outcome;
-use crate::work::{Work, take_all};
-use crx_base::{At, Fault};
-use crx_lines::{LineReader, Sink, Source};
-use std::alloc::Global;
+use crate::stepwise::Run;
+use crx_lines::phase::Phase;
+use crx_lines::{Sink, Source};
 
-/// Memory ran out before the first line was asked for.
-pub(crate) const NO_MEMORY: Work = Work {
-    last: 0,
-    warned: false,
-    halt: Some(Halt::Fault(At {
-        line: 0,
-        fault: Fault::OutOfMemory,
-    })),
-};
-
-/// Runs an engine over an input: reads its lines, writes what the engine makes ready, reports its warnings,
-/// and finishes.
-pub fn run<E: Engine, R: Source, W: Sink, M: Sink>(
-    alloc: Global,
-    engine: &mut E,
+/// Takes a run from before its first line to its end: reads the lines of the input, writes the lines that the
+/// engine makes, reports its warnings, and finishes. The run stays with the caller, who may ask its engine.
+pub fn run<E: Engine + Drop, R: Source, W: Sink, M: Sink>(
+    begun: &mut Run<E>,
     reader: &mut R,
     writer: &mut W,
     messages: &mut M,
 ) -> Outcome
-    requires drained { E.ready engine.old ≡ [] }
-    requires shown { E.shows engine.old [] [] }
-    requires lawful { IsLawful (E.filter engine.old) }
+    requires drained { E.ready begun.old.engine ≡ [] }
+    requires shown { E.shows begun.old.engine [] [] }
+    requires lawful { IsLawful (E.filter begun.old.engine) }
+    requires first { reading begun.old.input ≡ record { rest = []; passed = 0; number = 0; phase = Phase.Open } }
+    requires going { begun.old.ended ≡ None }
     ensures runs { (given : List ℕ)
-        × R.gave reader.old given reader.new × RunsAs (result_by (E.filter engine.old)) (E.filter engine.old)
+        × R.gave reader.old given reader.new × RunsAs (result_by (E.filter begun.old.engine)) (E.filter begun.old.engine)
         (reader_span R.Source reader.old reader.new) given
         (span W.Sink writer.old writer.new) (span M.Sink messages.old messages.new) result.status result.fault
-        × (result.fault ≡ None → E.has_ended engine.new (lines_of given)) }
+        × (result.fault ≡ None → E.has_ended begun.new.engine (lines_of given)) }
 {
-    match LineReader::new(alloc) {
-        Err(_) => finish(writer, messages, NO_MEMORY),
-        Ok(mut input) => {
-            let work = take_all(engine, &mut input, reader, writer, messages);
-            finish(writer, messages, work)
-        }
-    }
+    let warned = begun.take_all(reader, writer, messages);
+    finish(writer, messages, begun.number(), warned, begun.ended())
 }

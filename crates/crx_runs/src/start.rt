@@ -9,17 +9,19 @@ ghost use Rattle.crx_runs.specs.meaning.Spans.{span};
 ghost use Rattle.crx_runs.specs.meaning.Spans.{reader_span};
 
 use crate::engine::Engine;
-use crate::finish::finish;
+use crate::finish::finish_without_memory;
 use crate::outcome::Outcome;
-use crate::run::{NO_MEMORY, run};
-use crx_lines::{Sink, Source};
-use std::alloc::{AllocError, Global};
+use crate::run::run;
+use crate::stepwise::Run;
+use crx_base::Refused;
+use crx_lines::{LineReader, Sink, Source};
+use std::alloc::Global;
 
 /// Runs an engine over an input where it could be made; where it couldn't, memory ran out before the first
 /// line.
 pub fn start<E: Engine + Drop, R: Source, W: Sink, M: Sink>(
     alloc: Global,
-    engine: Result<E, AllocError>,
+    engine: Result<E, Refused>,
     reader: &mut R,
     writer: &mut W,
     messages: &mut M,
@@ -34,7 +36,10 @@ pub fn start<E: Engine + Drop, R: Source, W: Sink, M: Sink>(
     ensures memory { OnErr engine (is_some result.fault ≡ true) }
 {
     match engine {
-        Ok(mut engine) => run(alloc, &mut engine, reader, writer, messages),
-        Err(_) => finish(writer, messages, NO_MEMORY),
+        Ok(engine) => match LineReader::open(alloc) {
+            Ok(input) => run(&mut Run::over(engine, input), reader, writer, messages),
+            Err(refused) => finish_without_memory(writer, messages, refused),
+        },
+        Err(refused) => finish_without_memory(writer, messages, refused),
     }
 }

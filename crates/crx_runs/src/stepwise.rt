@@ -1,26 +1,107 @@
-//! A run that its caller takes from step to step.
+//! A run that is taken from step to step.
 
-ghost use Rattle.std.specs.Prelude.{◌≡◌, ◌⊎◌, ◌≤◌, [], IfOk, None, true, false};
+ghost use Rattle.std.specs.Prelude.{◌≡◌, ◌⊎◌, ◌≤◌, [], IfOk, None, Some, Result, Bool, true, false};
 ghost use Rattle.crx_base.specs.declared.limits.TheConstants.{INPUT_LIMIT};
+ghost use Rattle.crx_base.specs.meaning.Lines.{InputLine, is_long};
 ghost use Rattle.crx_lines.specs.Readers.{reading};
-ghost use Rattle.crx_runs.specs.Running.{CanStep, RunGoesOn, RunHasStepped};
-ghost use Rattle.crx_runs.specs.Taking.{EndWarns, TakesNext, KeepsOrder};
-ghost use Rattle.crx_runs.specs.meaning.Spans.{span};
+ghost use Rattle.crx_lines.specs.Reading.{line_number, line_shown};
+ghost use Rattle.crx_runs.specs.Endings.{FlushFailed, WorkEnds};
+ghost use Rattle.crx_runs.specs.Engines.{IsNextLine};
+ghost use Rattle.crx_runs.specs.Running.{CanStep, IsEndKept, RunGoesOn, RunHasStepped, step_answer, stepped};
+ghost use Rattle.crx_runs.specs.Taking.{EndWarns, HoldsAnswer, TakesNext, KeepsOrder, WasAnswered};
+ghost use Rattle.crx_runs.specs.declared.one_line.Halt.{Halt};
+ghost use Rattle.crx_runs.specs.meaning.Spans.{TookAll, reader_span, span};
 
 use crate::engine::Engine;
-use crate::one_line::{Halt, take_end};
-use crate::step::step;
+use crate::one_line::{Halt, hand_out, take_again, take_end, take_line, take_overlong};
+use crx_base::Fault;
 use crx_lines::phase::Phase;
-use crx_lines::{LineReader, Sink, Source};
+use crx_lines::{Line, LineReader, Sink, Source};
 use std::alloc::{AllocError, Global};
 
-/// A run between two lines of its input: its engine, and the reader of its lines. [`run`](crate::run::run)
-/// takes the same steps one after another and then the end; it also flushes, and reports the fault, which a
-/// caller of `Run` does itself.
+/// The result of a step. What ended a run is kept in the run: for an answer that could hold it a place would
+/// be cleared at each line.
+#[derive(Clone, Copy, Debug, PartialEq, Eq)]
+pub enum StepOutcome {
+    /// A line was taken, and had no warning.
+    Taken,
+    /// A line was taken, and its warning was reported.
+    Warned,
+    /// The end of the input was reached.
+    AtEnd,
+    /// The run ended; [`Run::ended`] says why.
+    Stopped,
+}
+
+/// A run between two lines of its input: its engine, the reader of its lines, and what ended it.
+/// [`run`](crate::run::run) takes its steps one after another and then the end; it also flushes, and reports
+/// the fault, which a caller of `Run` does itself.
 #[derive(Drop)]
 pub struct Run<E> {
     engine: E,
     input: LineReader,
+    ended: Option<Halt>,
+}
+
+/// Stores what ended a run, if it has ended.
+#[cold]
+#[inline(never)]
+fn stop(ended: &mut Option<Halt>, answer: Result<bool, Halt>) -> StepOutcome
+    ensures answer { step_answer result ended.new ≡ stepped answer }
+    ensures kept { IsEndKept result ended.old ended.new }
+{
+    match answer {
+        Ok(false) => StepOutcome::Taken,
+        Ok(true) => StepOutcome::Warned,
+        Err(halt) => {
+            *ended = Some(halt);
+            StepOutcome::Stopped
+        }
+    }
+}
+
+/// Does what the engine answered to a line, and stores what ended the run, if it has ended.
+#[cold]
+#[inline(never)]
+fn take_answer<E: Engine, W: Sink, M: Sink>(
+    engine: &mut E,
+    ended: &mut Option<Halt>,
+    writer: &mut W,
+    messages: &mut M,
+    line: Line<'_>,
+) -> StepOutcome
+    requires { HoldsAnswer E.Engine engine.old (line_shown line).content (line_number line) }
+    ensures taken { (answer : Result Bool Halt) × TakesNext E.Engine engine.old engine.new
+        (WasAnswered E.Engine engine.old (line_shown line.entry))
+        (span W.Sink writer.old writer.new) (span M.Sink messages.old messages.new) answer
+        × (step_answer result ended.new ≡ stepped answer) }
+    ensures order { KeepsOrder W.Sink writer.old writer.new messages.old messages.new }
+    ensures kept { IsEndKept result ended.old ended.new }
+{
+    stop(ended, take_again(engine, writer, messages, line))
+}
+
+/// Has the writer hand on what it took, if a read may have to wait, and returns whether that went well. If it
+/// didn't, a flush fails too, by which the failure is counted.
+#[cold]
+#[inline(never)]
+fn hand_on<R: Source, W: Sink>(reader: &R, writer: &mut W) -> bool
+    ensures still { result ≡ true → TookAll (span W.Sink writer.old writer.new) [] }
+    ensures waited { result ≡ true → R.waits reader.now ≡ true → W.is_awaited writer.new ≡ true }
+    ensures current { result ≡ true → W.is_awaited writer.new ≡ true → W.is_current writer.new }
+    ensures awaited { R.waits reader.now ≡ false → W.is_awaited writer.new ≡ W.is_awaited writer.old }
+    ensures failed { result ≡ false → FlushFailed (span W.Sink writer.old writer.new) }
+{
+    if reader.may_wait() {
+        writer.await_output();
+    }
+    if writer.hand_on() {
+        return true;
+    }
+    match writer.flush() {
+        Ok(()) => unreachable!(),
+        Err(_) => false,
+    }
 }
 
 impl<E: Engine + Drop> Run<E> {
@@ -29,54 +110,147 @@ impl<E: Engine + Drop> Run<E> {
         ensures engine { IfOk result (λ run. run.engine ≡ engine) }
         ensures first { IfOk result (λ run.
             reading run.input ≡ record { rest = []; passed = 0; number = 0; phase = Phase.Open }) }
+        ensures going { IfOk result (λ run. run.ended ≡ None) }
     {
-        let input = LineReader::new(alloc)?;
-        Ok(Run { engine, input })
+        Ok(Run::over(engine, LineReader::new(alloc)?))
     }
 
-    /// The engine.
-    pub fn into_engine(self) -> E
-        ensures engine { result ≡ self.engine }
+    /// A run before the first line of this reader.
+    pub fn over(engine: E, input: LineReader) -> Run<E>
+        ensures { result ≡ record { engine = engine; input = input; ended = None } }
     {
-        self.engine
+        Run {
+            engine,
+            input,
+            ended: None,
+        }
     }
 
-    /// Takes the next line: writes what it makes, and reports its warnings, whether there was one; `None` at
-    /// the end of the input. Before the reader is asked for more, the output and the warnings of all lines
-    /// that it gave so far are written, in the order of the lines. Where the reader may have to wait, the
-    /// writer hands on first what it took, and so it does before a warning where output is awaited.
+    /// Returns the engine.
+    pub fn engine(&self) -> &E
+        ensures engine { result.now ≡ self.now.engine }
+    {
+        &self.engine
+    }
+
+    /// What ended the run; `None` if nothing has.
+    pub fn ended(&self) -> Option<Halt>
+        ensures value { result ≡ self.now.ended }
+    {
+        self.ended
+    }
+
+    /// Takes the next line: writes the output that it makes, and reports its warnings. Before it reads on, the
+    /// output and the warnings of all lines that were read so far are written, in the order of the lines. If the
+    /// reader may have to wait, the writer first hands on what it took, and so it does before a warning if output
+    /// is awaited.
+    #[inline(always)]
     pub fn step<R: Source, W: Sink, M: Sink>(
         &mut self,
         reader: &mut R,
         writer: &mut W,
         messages: &mut M,
-    ) -> Result<Option<bool>, Halt>
+    ) -> StepOutcome
         requires can { CanStep E.Engine self.old.engine (reading self.old.input) }
         ensures stepped { RunHasStepped E.Engine W.Sink self.old.engine self.new.engine (reading self.old.input)
-            (reading self.new.input) reader.old reader.new writer.old messages.old messages.new result }
+            (reading self.new.input) reader.old reader.new writer.old messages.old messages.new
+            (step_answer result self.new.ended) }
         ensures goes { RunGoesOn E.Engine R.Source W.Sink M.Sink self.old.engine self.new.engine
             (reading self.old.input) (reading self.new.input) reader.old reader.new writer.old writer.new
-            messages.old messages.new result }
+            messages.old messages.new (step_answer result self.new.ended) }
+        ensures kept { IsEndKept result self.old.ended self.new.ended }
         ensures handed_on { (reader.new ≡ reader.old)
             ⊎ (R.waits reader.old ≡ true → (then : W) × W.took writer.old [] then × W.is_current then) }
         ensures awaited { R.waits reader.old ≡ false → W.is_awaited writer.new ≡ W.is_awaited writer.old }
     {
-        let mut halt = Halt::Unwritten;
-        match step(
-            &mut self.engine,
-            &mut self.input,
-            reader,
-            writer,
-            messages,
-            &mut halt,
-        ) {
-            Some(outcome) => Ok(Some(outcome.answer(halt)?)),
-            None => Ok(None),
+        match self.input.next_held() {
+            Ok(Some(line)) => match hand_out(&mut self.engine, writer, messages, line) {
+                Ok(true) => StepOutcome::Taken,
+                Ok(false) => {
+                    take_answer(&mut self.engine, &mut self.ended, writer, messages, line)
+                }
+                Err(_) => self.fail_to_write(),
+            },
+            Ok(None) => {
+                if !hand_on(reader, writer) {
+                    return self.fail_to_write();
+                }
+                self.read_step(reader, writer, messages)
+            }
+            Err(at) => self.take_overlong(writer, messages, at.line),
         }
     }
 
-    /// Takes the end of the input: writes what it makes ready, and reports its warning; whether there was
-    /// one.
+    /// Ends the run because the writer failed.
+    #[cold]
+    #[inline(never)]
+    fn fail_to_write(&mut self) -> StepOutcome
+        ensures stopped { result ≡ StepOutcome.Stopped }
+        ensures ended { self.new ≡ record self.old { ended = Some Halt.Unwritten } }
+    {
+        self.ended = Some(Halt::Unwritten);
+        StepOutcome::Stopped
+    }
+
+    /// Takes a line that is too long, by its number, as [`Run::step`] does.
+    #[cold]
+    #[inline(never)]
+    fn take_overlong<W: Sink, M: Sink>(
+        &mut self,
+        writer: &mut W,
+        messages: &mut M,
+        number: u64,
+    ) -> StepOutcome
+        requires may_take { IsNextLine (E.ready self.old.engine) (E.taken self.old.engine) number }
+        ensures taken { (answer : Result Bool Halt) × TakesNext E.Engine self.old.engine self.new.engine
+            (λ lines next. E.shows self.old.engine lines []
+            × ((l : InputLine) × (next ≡ Some l) × (is_long l ≡ true)))
+            (span W.Sink writer.old writer.new) (span M.Sink messages.old messages.new) answer
+            × (step_answer result self.new.ended ≡ stepped answer) }
+        ensures input { self.new.input ≡ self.old.input }
+        ensures order { KeepsOrder W.Sink writer.old writer.new messages.old messages.new }
+        ensures kept { IsEndKept result self.old.ended self.new.ended }
+    {
+        let answer = take_overlong(&mut self.engine, writer, messages, number);
+        stop(&mut self.ended, answer)
+    }
+
+    /// Reads on and takes the next line, as [`Run::step`] does, once what was written was handed on.
+    #[cold]
+    #[inline(never)]
+    fn read_step<R: Source, W: Sink, M: Sink>(
+        &mut self,
+        reader: &mut R,
+        writer: &mut W,
+        messages: &mut M,
+    ) -> StepOutcome
+        requires handed_on { (R.waits reader.old ≡ true → W.is_awaited writer.old ≡ true)
+            × (W.is_awaited writer.old ≡ true → W.is_current writer.old) }
+        requires can { CanStep E.Engine self.old.engine (reading self.old.input) }
+        ensures stepped { RunHasStepped E.Engine W.Sink self.old.engine self.new.engine (reading self.old.input)
+            (reading self.new.input) reader.old reader.new writer.old messages.old messages.new
+            (step_answer result self.new.ended) }
+        ensures goes { RunGoesOn E.Engine R.Source W.Sink M.Sink self.old.engine self.new.engine
+            (reading self.old.input) (reading self.new.input) reader.old reader.new writer.old writer.new
+            messages.old messages.new (step_answer result self.new.ended) }
+        ensures kept { IsEndKept result self.old.ended self.new.ended }
+        ensures awaited { W.is_awaited writer.new ≡ W.is_awaited writer.old }
+    {
+        match self.input.next_line(reader) {
+            Ok(Some(line)) => {
+                let answer = take_line(&mut self.engine, writer, messages, line);
+                stop(&mut self.ended, answer)
+            }
+            Ok(None) => StepOutcome::AtEnd,
+            Err(at) => match at.fault {
+                Fault::LineTooLong => self.take_overlong(writer, messages, at.line),
+                _ => stop(&mut self.ended, Err(Halt::Fault(at))),
+            },
+        }
+    }
+
+    /// Takes the end of the input: writes the output that it makes, and reports its warning; returns whether
+    /// there was one.
     pub fn end<W: Sink, M: Sink>(&mut self, writer: &mut W, messages: &mut M) -> Result<bool, Halt>
         requires drained { E.ready self.old.engine ≡ [] }
         requires within { E.taken self.old.engine ≤ INPUT_LIMIT }
@@ -86,5 +260,50 @@ impl<E: Engine + Drop> Run<E> {
         ensures order { KeepsOrder W.Sink writer.old writer.new messages.old messages.new }
     {
         take_end(&mut self.engine, writer, messages)
+    }
+
+    /// Takes all lines of the input one after another, and its end; returns whether a warning was reported.
+    #[inline(never)]
+    pub(crate) fn take_all<R: Source, W: Sink, M: Sink>(
+        &mut self,
+        reader: &mut R,
+        writer: &mut W,
+        messages: &mut M,
+    ) -> bool
+        requires drained { E.ready self.old.engine ≡ [] }
+        requires shown { E.shows self.old.engine [] [] }
+        requires first { reading self.old.input ≡ record { rest = []; passed = 0; number = 0; phase = Phase.Open } }
+        requires going { self.old.ended ≡ None }
+        requires nothing { (E.filter self.old.engine).so_far [] ≡ record { output = []; warnings = []; fault = None } }
+        ensures { WorkEnds (E.filter self.old.engine) (E.has_ended self.new.engine)
+            (reader_span R.Source reader.old reader.new)
+            (span W.Sink writer.old writer.new)
+            (span M.Sink messages.old messages.new)
+            (reading self.new.input) (reading self.new.input).number result self.new.ended }
+    {
+        let mut warned = false;
+        'lines: loop {
+            match self.step(reader, writer, messages) {
+                StepOutcome::Taken => {}
+                StepOutcome::Warned => warned = true,
+                StepOutcome::Stopped => return warned,
+                StepOutcome::AtEnd => {
+                    return match take_end(&mut self.engine, writer, messages) {
+                        Ok(warning) => warned | warning,
+                        Err(halt) => {
+                            self.ended = Some(halt);
+                            warned
+                        }
+                    };
+                }
+            }
+        }
+    }
+
+    /// The number of the last line that was read, 0 before the first.
+    pub(crate) fn number(&self) -> u64
+        ensures value { result ≡ (reading self.now.input).number }
+    {
+        self.input.number()
     }
 }

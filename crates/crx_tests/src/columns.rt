@@ -5,7 +5,6 @@ ghost use Rattle.std.specs.Prelude.{◌≡◌, None};
 ghost use Rattle.crx_compact.specs.OpenEpochs.ColumnsState.{Idle};
 
 use crate::owned::Owned;
-use crate::rinex::{ONE_TYPE, TWO_TYPES, types_of};
 use crx_base::Fault;
 use crx_compact::Columns;
 use crx_header::Types;
@@ -15,6 +14,17 @@ use std::alloc::Global;
 mod cases;
 mod reading;
 mod writing;
+
+/// The line that declares one type of GPS.
+const ONE_TYPE: &[u8] =
+    b"G    1 C1C                                                  SYS / # / OBS TYPES";
+
+/// Counts of types that a line declares.
+fn types_of(alloc: Global, line: &[u8]) -> Result<Owned<Types>, Fault> {
+    let mut types = Owned::of(Types::new(alloc));
+    types.value.accept_line(line)?;
+    Ok(types)
+}
 
 /// Columns that keep nothing.
 fn no_columns(alloc: Global) -> Owned<Columns>

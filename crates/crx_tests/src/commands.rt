@@ -15,22 +15,13 @@ use std::time::{Clock, Duration};
 const MOMENTS: &[(i64, i32, &str)] = &[
     (0, 0, "01-Jan-70 00:00"),
     (1_704_067_199, 0, "31-Dec-23 23:59"),
-    (1_704_067_199, 999_999_999, "31-Dec-23 23:59"),
-    (1_704_067_200, 0, "01-Jan-24 00:00"),
-    (951_782_400, 0, "29-Feb-00 00:00"),
-    (4_102_444_800, 0, "01-Jan-00 00:00"),
-    (-1, 0, "31-Dec-69 23:59"),
     (0, -1, "31-Dec-69 23:59"),
-    (-60, -1, "31-Dec-69 23:58"),
-    (-2_208_988_800, 0, "01-Jan-00 00:00"),
 ];
 
 /// What a clock gives in seconds after 1970 began, or that it gives none, and the date of a run at that
 /// moment.
 const CLOCKS: &[(Option<u64>, &str)] = &[
-    (Some(0), "01-Jan-70 00:00"),
     (Some(1_704_067_199), "31-Dec-23 23:59"),
-    (Some(4_102_444_800), "01-Jan-00 00:00"),
     // the year 14645, which no date has
     (Some(400_000_000_000), ""),
     (None, ""),
@@ -43,8 +34,6 @@ const RUNS: &[(&str, &str, &str)] = &[
     ("check - a.rnx", "a.rnx", ""),
     ("rnx2crx - a.txt", "a.txt", ""),
     ("crx2rnx - x.crx", "x.crx", ""),
-    ("rnx2crx", "", ""),
-    ("rnx2crx a.RNX", "a.RNX", "a.CRX"),
 ];
 
 /// Why arguments are refused.
@@ -65,7 +54,6 @@ const REFUSALS: &[(&str, Refused)] = &[
     ("rnx2crx -e 0", Refused::Parse),
     ("rnx2crx -e 1000001", Refused::Parse),
     ("rnx2crx --date abcdefghijklmnopqrstu", Refused::BadDate),
-    ("", Refused::Parse),
 ];
 
 /// A clock that stands at one moment, or gives none.

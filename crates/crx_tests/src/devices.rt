@@ -1,21 +1,18 @@
-//! What a device of std is asked, call by call: `Std` neither tries again nor leaves out a call, nor does
-//! `UntilFailure` before a failure; and that a text and a flush reach the file through all that the program
-//! has above it.
+//! Which calls reach a device of std: `Std` neither repeats nor leaves out a call, and before a failure
+//! `UntilFailure` doesn't either; `Uninterrupted` repeats a call that a signal interrupted.
 
-use crate::expecting::expect_at;
+use crate::expecting::{expect, expect_at};
 use crx_base::Fault;
-use crx_lines::{Sink, Source, Std, Uninterrupted, write_all_counted};
+use crx_lines::{Sink, Source, Std, Uninterrupted};
 use crx_runs::UntilFailure;
-use std::alloc::Global;
 use std::io;
-use std::io::{BufWriter, Read, Write};
+use std::io::{ErrorKind, Read, Write};
 use std::process::Abort;
 
-/// Counts the calls. The first one of each kind fails, the second write takes nothing, the third read
-/// gives nothing; each other read gives one byte, and each other write takes one.
+/// Counts the calls. A signal interrupts the first one of each kind, the second write takes nothing, the
+/// third read gives nothing; each other read gives one byte, and each other write takes one.
 #[derive(Drop)]
 struct Counting {
-    kind: io::ErrorKind,
     reads: u32,
     writes: u32,
     flushes: u32,
@@ -25,7 +22,7 @@ impl Read for Counting {
     fn read(&mut self, buffer: &mut [u8]) -> io::Result<usize> {
         self.reads = self.reads.saturating_add(1);
         if self.reads == 1 {
-            return Err(io::Error::from(self.kind));
+            return Err(ErrorKind::Interrupted.into());
         }
         if self.reads == 3 || buffer.is_empty() {
             return Ok(0);
@@ -39,7 +36,7 @@ impl Write for Counting {
     fn write(&mut self, bytes: &[u8]) -> io::Result<usize> {
         self.writes = self.writes.saturating_add(1);
         if self.writes == 1 {
-            return Err(io::Error::from(self.kind));
+            return Err(ErrorKind::Interrupted.into());
         }
         if self.writes == 2 {
             return Ok(0);
@@ -50,7 +47,7 @@ impl Write for Counting {
     fn flush(&mut self) -> io::Result<()> {
         self.flushes = self.flushes.saturating_add(1);
         if self.flushes == 1 {
-            return Err(io::Error::from(self.kind));
+            return Err(ErrorKind::Interrupted.into());
         }
         Ok(())
     }
@@ -98,32 +95,41 @@ const CALLS: &[(Call<'_>, Result<usize, Fault>, [u32; 3])] = &[
     (Call::Write(b"a"), Ok(1), [4, 5, 3]),
 ];
 
-fn expect_one_call_each(rt: &impl Abort, kind: io::ErrorKind) {
+#[test]
+fn asks_the_inner_device_once_a_call(rt: HostRuntime) {
     for (place, (_, _, after)) in CALLS.iter().enumerate() {
         let mut device = Std::new(Counting {
-            kind,
             reads: 0,
             writes: 0,
             flushes: 0,
         });
         for (call, want, _) in CALLS.iter().take(place.saturating_add(1)) {
-            expect_at(rt, answer(&mut device, call) == *want, "calls up to", place);
+            expect_at(
+                &rt,
+                answer(&mut device, call) == *want,
+                "calls up to",
+                place,
+            );
         }
         let inner = device.into_inner();
         let is_so = [inner.reads, inner.writes, inner.flushes] == *after;
-        expect_at(rt, is_so, "counts after call", place);
+        expect_at(&rt, is_so, "counts after call", place);
     }
 }
 
 #[test]
-fn asks_the_inner_device_once_a_call(rt: HostRuntime) {
-    for kind in [
-        io::ErrorKind::Interrupted,
-        io::ErrorKind::WouldBlock,
-        io::ErrorKind::BrokenPipe,
-    ] {
-        expect_one_call_each(&rt, kind);
-    }
+fn repeats_a_call_that_was_interrupted(rt: HostRuntime) {
+    let mut device = Uninterrupted::new(Counting {
+        reads: 0,
+        writes: 0,
+        flushes: 0,
+    });
+    expect(&rt, matches!(device.read(&mut [0; 4]), Ok(1)), "a read");
+    expect(&rt, matches!(device.write(b"ab"), Ok(0)), "a write");
+    expect(&rt, device.flush().is_ok(), "a flush");
+    let inner = device.into_inner();
+    let is_so = [inner.reads, inner.writes, inner.flushes] == [2, 2, 2];
+    expect(&rt, is_so, "each call is made twice");
 }
 
 /// Counts the calls into numbers of the caller's; each of them is done.
@@ -165,55 +171,4 @@ fn counts_of_calls(rt: &impl Abort, is_flushed: bool) -> (u32, u32) {
 fn each_call_reaches_the_inner_writer_once(rt: HostRuntime) {
     assert!(rt; counts_of_calls(&rt, false) == (1, 0));
     assert!(rt; counts_of_calls(&rt, true) == (1, 1));
-}
-
-/// How many bytes the buffer of a test holds.
-const BUFFER: usize = 16;
-
-/// A text that is longer than that.
-const LONG: &[u8] =
-    b"Usage: rnxcmp rnx2crx [OPTIONS] [FILE]..., and a buffer holds no more than its first sixteen bytes";
-
-/// Keeps what it takes, at most three bytes a call, in a list of the caller's, and counts the flushes.
-#[derive(Drop)]
-struct Keeping<'a> {
-    taken: &'a mut Vec<u8>,
-    flushes: &'a mut u32,
-}
-
-impl Write for Keeping<'_> {
-    fn write(&mut self, bytes: &[u8]) -> io::Result<usize> {
-        let count = bytes.len().min(3);
-        self.taken.extend_from_slice(&bytes[..count])?;
-        Ok(count)
-    }
-
-    fn flush(&mut self) -> io::Result<()> {
-        *self.flushes = self.flushes.saturating_add(1);
-        Ok(())
-    }
-}
-
-/// Writes a text over all that the program has above a file, and flushes once: whether the file got the text
-/// whole, and one flush.
-fn is_handed_on(alloc: Global, text: &[u8]) -> io::Result<bool> {
-    let (mut taken, mut flushes) = (Vec::new(alloc), 0);
-    let file = Keeping {
-        taken: &mut taken,
-        flushes: &mut flushes,
-    };
-    let writer = UntilFailure::new(Uninterrupted::new(file));
-    let mut device = Std::new(BufWriter::with_capacity(alloc, BUFFER, writer)?);
-    let is_done = write_all_counted(&mut device, text).is_ok() && device.flush().is_ok();
-    drop(device);
-    Ok(is_done && taken.as_slice() == text && flushes == 1)
-}
-
-#[test]
-fn a_text_of_each_length_reaches_the_file_below_a_buffer(rt: HostRuntime) -> io::Result<()> {
-    for length in 0..LONG.len() {
-        let is_so = is_handed_on(rt.alloc(), &LONG[..length])?;
-        expect_at(&rt, is_so, "a text of so many bytes:", length);
-    }
-    Ok(())
 }

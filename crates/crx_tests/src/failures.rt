@@ -19,7 +19,6 @@ mod damage;
 mod messages;
 mod reads;
 mod rows;
-mod stepwise;
 mod writes;
 
 /// Which filter runs, or the check.

@@ -20,8 +20,6 @@ mod failures;
 #[cfg(test)]
 mod faults;
 #[cfg(test)]
-mod interruptions;
-#[cfg(test)]
 mod line_ends;
 #[cfg(test)]
 mod lines;
@@ -33,8 +31,6 @@ mod numbers;
 mod options;
 #[cfg(test)]
 mod owned;
-#[cfg(test)]
-mod rinex;
 #[cfg(test)]
 mod steps;
 #[cfg(test)]

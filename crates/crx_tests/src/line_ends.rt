@@ -1,8 +1,5 @@
 //! An LF at each place of a text, and none.
-ghost use Rattle.std.specs.Prelude.{◌<◌};
-
 use crate::expecting::expect_at;
-use crx_base::limits::LINE_LIMIT;
 use crx_lines::{LineReader, Std};
 use std::alloc::Global;
 use std::process::Abort;
@@ -35,26 +32,19 @@ fn expect_lengths(
     Ok(())
 }
 
-/// Looks for an LF at each `step`th place of a text, and for none.
-fn expect_each(rt: &impl Abort, alloc: Global, len: usize, step: usize) -> Result<(), Fail>
-    requires { 0 < step }
-{
-    let mut bytes = vec![in alloc; b'x'; len]?;
-    expect_lengths(rt, alloc, bytes.as_slice(), &[len])?;
-    for at in (0..len).step_by(step) {
-        let rest = len - at - 1;
-        let count = if rest > 0 { 2 } else { 1 };
-        bytes[at] = b'\n';
-        expect_lengths(rt, alloc, bytes.as_slice(), &[at, rest][..count])?;
-        bytes[at] = 11;
-    }
-    expect_lengths(rt, alloc, bytes.as_slice(), &[len])
-}
+/// How long the text is.
+const LENGTH: usize = 130;
 
 #[test]
 fn finds_an_lf_at_each_place(rt: HostRuntime) -> Result<(), Fail> {
-    for (len, step) in [(130, 1), (192, 1), (LINE_LIMIT, 97)] {
-        expect_each(&rt, rt.alloc(), len, step)?;
+    let mut bytes = [b'x'; LENGTH];
+    expect_lengths(&rt, rt.alloc(), &bytes, &[LENGTH])?;
+    for at in 0..LENGTH {
+        let rest = LENGTH - at - 1;
+        let count = if rest > 0 { 2 } else { 1 };
+        bytes[at] = b'\n';
+        expect_lengths(&rt, rt.alloc(), &bytes, &[at, rest][..count])?;
+        bytes[at] = 11;
     }
-    Ok(())
+    expect_lengths(&rt, rt.alloc(), &bytes, &[LENGTH])
 }

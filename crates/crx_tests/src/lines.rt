@@ -1,6 +1,4 @@
-//! Lines with each kind of line end, out of a slice and out of a reader that fails; and those that are held.
-
-ghost use Rattle.std.specs.Prelude.{◌<◌};
+//! Lines with each kind of line end, out of a slice and out of a reader that fails.
 
 use crate::expecting::expect_at;
 use crx_base::limits::LINE_LIMIT;
@@ -137,68 +135,4 @@ fn reports_lines_over_the_limit(rt: HostRuntime) -> Result<(), Fail> {
         Answer::End,
     ];
     expect_answers(&rt, rt.alloc(), &mut Std::new(bytes), &wanted)
-}
-
-/// Whether the line is asked for that is held, or the next one.
-#[derive(Clone, Copy)]
-enum Call {
-    Held,
-    Next,
-}
-
-/// Calls one after another, each with its answer, and how many reads were asked for by then.
-type Calls = &'static [(Call, Answer<'static>, u64)];
-
-/// Those to `a\nbb\r\nccc\nd`, where the first read ends within the third line.
-const HALF_A_LINE: Calls = &[
-    (Call::Held, Answer::End, 0),
-    (Call::Next, Answer::Line(b"a", 1, true), 1),
-    (Call::Held, Answer::Line(b"bb", 2, false), 1),
-    (Call::Held, Answer::End, 1),
-    (Call::Held, Answer::End, 1),
-    (Call::Next, Answer::Line(b"ccc", 3, true), 2),
-    (Call::Held, Answer::End, 2),
-    (Call::Next, Answer::Line(b"d", 4, false), 3),
-    (Call::Held, Answer::End, 3),
-    (Call::Next, Answer::End, 3),
-    (Call::Held, Answer::End, 3),
-];
-
-/// Those to `a\n\n\nb\n`, where the first read gives all.
-const ALL_LINES: Calls = &[
-    (Call::Next, Answer::Line(b"a", 1, true), 1),
-    (Call::Next, Answer::Line(b"", 2, true), 1),
-    (Call::Held, Answer::Line(b"", 3, true), 1),
-    (Call::Held, Answer::Line(b"b", 4, true), 1),
-    (Call::Held, Answer::End, 1),
-    (Call::Next, Answer::End, 2),
-    (Call::Held, Answer::End, 2),
-];
-
-/// Expects that calls have these answers, over bytes of which a read gives so many.
-fn expect_calls(
-    rt: &impl Abort,
-    alloc: Global,
-    bytes: &[u8],
-    at_most: usize,
-    calls: Calls,
-) -> Result<(), Fail>
-    requires { 0 < at_most }
-{
-    let mut lines = LineReader::new(alloc)?;
-    let mut reader = FailingSource::new(bytes, at_most, Plan::never());
-    for (place, (call, answer, reads)) in calls.iter().enumerate() {
-        let is = match call {
-            Call::Held => is_wanted(lines.next_held(), *answer),
-            Call::Next => is_wanted(lines.next_line(&mut reader), *answer),
-        };
-        expect_at(rt, is && reader.calls() == *reads, "call", place);
-    }
-    Ok(())
-}
-
-#[test]
-fn gives_each_held_line_once(rt: HostRuntime) -> Result<(), Fail> {
-    expect_calls(&rt, rt.alloc(), b"a\nbb\r\nccc\nd", 9, HALF_A_LINE)?;
-    expect_calls(&rt, rt.alloc(), b"a\n\n\nb\n", 100, ALL_LINES)
 }

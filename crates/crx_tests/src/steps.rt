@@ -24,14 +24,12 @@ struct Answer {
     again: Option<Step>,
 }
 
-/// A run of an engine: its name, whether it skips, the lines of its input, the answers to them, and the fault
-/// of one more line.
+/// A run of an engine: its name, whether it skips, the lines of its input, and the answers to them.
 struct Run {
     name: &'static str,
     skip: bool,
     lines: &'static str,
     answers: &'static [Answer],
-    fault: Option<At>,
 }
 
 /// Nothing is to be written.

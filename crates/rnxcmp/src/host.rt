@@ -1,22 +1,21 @@
 //! The program's arguments and its standard streams.
 
-ghost use Rattle.std.specs.Prelude.{◌≡◌, [], None, drop, map, string_bytes};
+ghost use Rattle.std.specs.Prelude.{◌≡◌, ◌⊎◌, [], None, drop, map, string_bytes};
 ghost use Rattle.std.specs.Vec.Iter.{into_iter_items};
 ghost use Rattle.crx_command.specs.meaning.Planning.{Help, Refusal, Refused, Run, plan_of};
 ghost use Rattle.crx_program.specs.meaning.Jobs.{IsJobDone};
 ghost use Rattle.crx_program.specs.meaning.Kept.{DoesItsJob};
 ghost use Rattle.crx_program.specs.meaning.Program.{IsHelped, IsRefused};
-ghost use Rattle.crx_program.specs.meaning.Streams.{FromUnused, HasNoFiles};
+ghost use Rattle.crx_program.specs.meaning.Streams.{FromUnused, HasNoFiles, IsUnused};
 ghost use Rattle.crx_runs.specs.meaning.Spans.{reader_span, span};
 
 use crate::{Job, UsageFault, Word};
-use crx_base::Fault;
 use crx_command::date::moment_now;
 use crx_command::plan::words_given;
-use crx_lines::{Sink, Source, Std, Uninterrupted};
+use crx_lines::{Sink, Source, Std, Uninterrupted, reads_may_wait};
 use crx_program::log::opener::Opener;
 use crx_program::log::{OUTPUT_BUFFER, SourceFile, TargetFile};
-use crx_program::refusal::{refuse, report_at_start};
+use crx_program::refusal::{refuse, report_no_memory};
 use crx_program::streams::{
     InputDevice, MessageDevice, OutputDevice, Whole, run_over, without_memory,
 };
@@ -35,14 +34,6 @@ const NO_STREAM: &str = "/";
 
 /// The name of standard input as a file.
 const STANDARD_INPUT: &str = "/dev/stdin";
-
-/// Whether standard input may have to wait for more: what isn't a regular file may, and what can't be told.
-fn input_may_wait(rt: &HostRuntime) -> bool {
-    match fs::metadata(rt, STANDARD_INPUT) {
-        Ok(metadata) => !metadata.is_file(),
-        Err(_) => true,
-    }
-}
 
 /// Does what the arguments of a process ask for, of which the first is the program's name, over the standard
 /// streams (see [`run_over`]), and hands these back. It takes the list and the streams as they come from the
@@ -80,6 +71,7 @@ pub fn run_streams(
         files.old.log.calls files.new.log.calls))) }
     ensures does { (job : Job) → plan_of (map string_bytes (drop 1 (into_iter_items arguments))) ≡ Run job
         → DoesItsJob moment job files.old.log.calls files.new.log.calls result }
+    ensures waits { (result.input.inner.may_wait ≡ waits) ⊎ IsUnused stdin result.input }
 {
     match words_given(alloc, arguments) {
         Ok(words) => run_over(files, alloc, moment, words, waits, stdin, stdout, stderr),
@@ -116,12 +108,12 @@ pub fn run_host(rt: &HostRuntime) -> ExitCode {
     let stdout = UntilFailure::new(Uninterrupted::new(rt.stdout()));
     let Ok(buffer) = BufWriter::with_capacity(rt.alloc(), OUTPUT_BUFFER, stdout) else {
         let mut messages = Std::new(Uninterrupted::new(rt.stderr()));
-        return ExitCode::from(report_at_start(&mut messages, Fault::OutOfMemory));
+        return ExitCode::from(report_no_memory(&mut messages));
     };
     let moment = moment_now(rt);
     let stdin = Uninterrupted::new(rt.stdin());
     let stderr = Uninterrupted::new(rt.stderr());
-    let waits = input_may_wait(rt);
+    let waits = reads_may_wait(&fs::metadata(rt, STANDARD_INPUT));
     let mut files = Opener::new(rt);
     let whole = run_streams(
         &mut files,

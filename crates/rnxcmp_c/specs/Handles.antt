@@ -18,7 +18,6 @@ use Rattle.crx_filter.specs.CompactorState.{compacting_ready, compacting_state}
 use Rattle.crx_filter.specs.meaning.Directions.{compaction_filter, expansion_filter}
 use Rattle.crx_filter.specs.EngineLines.{HasTaken}
 use Rattle.crx_runs.specs.Engines.{Awaited}
-use Rattle.crx_filter.specs.EpochRooms.{HaveEpochsRoom, HaveRoomInColumns, compact_epochs, rinex_epochs}
 use Rattle.crx_filter.specs.ExpanderState.{expanding_ready, expanding_state}
 use Rattle.crx_filter.specs.ExpansionByLine.{expansion, expansion_state}
 use Rattle.crx_runs.specs.declared.outcome.Outcome.{Outcome}
@@ -49,10 +48,10 @@ engine_filter (Checking c) = check_filter
 abbrev pub shows_of : AnyEngine → List InputLine → List Awaited → Type 0
 shows_of (Compacting c) lines notices =
     (HasTaken compaction (compaction_state (compacting_state c).choices) (compacting_state c) lines notices
-    × HaveEpochsRoom c.direction.encoder.rooms (rinex_epochs c.options lines)) × ((compacting_state c).number ≡ length lines)
+    × ⊤) × ((compacting_state c).number ≡ length lines)
 shows_of (Expanding e) lines notices =
     (HasTaken expansion (expansion_state e.options) (expanding_state e) lines notices
-    × HaveRoomInColumns e.direction.reader.columns.value (compact_epochs e.options lines)) × (e.number ≡ length lines)
+    × ⊤) × (e.number ≡ length lines)
 shows_of (Checking c) lines notices =
     (HasTaken check_by_line check_reading (checking_state c) lines notices × HasNoted c.direction lines)
     × (c.number ≡ length lines)

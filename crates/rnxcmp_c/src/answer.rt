@@ -54,6 +54,17 @@ pub(crate) fn failed(line: u64, fault: Fault) -> Answer
     bare(1, line, u32::from(fault.code()))
 }
 
+/// Returns the fault of a run whose output or messages couldn't be kept: a write into memory failed at this
+/// line, because the system refused memory.
+pub(crate) fn no_memory_at(line: u64) -> At
+    ensures { result ≡ record { line = line; fault = Fault.OutOfMemory } }
+{
+    At {
+        line,
+        fault: Fault::OutOfMemory,
+    }
+}
+
 /// The line and the number of the fault that ended a run; 0 for both where none did.
 pub(crate) fn line_and_code(fault: Option<At>) -> (u64, u32)
     ensures line { result.0 ≡ line_in fault }

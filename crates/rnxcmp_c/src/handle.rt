@@ -5,7 +5,7 @@
 //! all, and then what is kept, is what the lines make that were fed, a prefix of the result's texts, while
 //! the run goes on; and after its end the whole of them, unless memory or a limit ended it.
 
-ghost use Rattle.std.specs.Prelude.{◌≡◌, ◌⊎◌, ◌++◌, ℕ, List, [], IfSome, drop, length, take, Some, true, false};
+ghost use Rattle.std.specs.Prelude.{◌≡◌, ◌⊎◌, ◌++◌, ℕ, List, [], drop, length, take, Some, true, false};
 ghost use Rattle.crx_base.specs.meaning.Choices.{Choices, choices_of, is_date};
 ghost use Rattle.crx_base.specs.declared.fault.Fault.TheVariants.{InputTooLong};
 ghost use Rattle.crx_base.specs.meaning.Faults.{code_of_fault};
@@ -26,6 +26,7 @@ use crate::loose::Loose;
 use crate::reader::Reader;
 use crate::reader_box::ReaderBox;
 use crx_base::Fault;
+use crx_base::memory::boxed;
 use crx_filter::Options;
 use crx_filter::checking::{Checking, no_options};
 use crx_filter::compaction::Compaction;
@@ -76,8 +77,9 @@ fn open(alloc: Global, handle: &mut Handle, engine: AnyEngine, max_output: u64) 
     ensures unchanged { (result.status ≡ 0 → ⊥) → IsUnchanged handle.old handle.new }
     ensures answer { AnswersOpening result }
 {
-    let Ok(held) = HandleState::new(alloc, max_output) else {
-        return failed(0, Fault::OutOfMemory);
+    let held = match HandleState::new(alloc, max_output) {
+        Ok(held) => held,
+        Err(refused) => return failed(0, Fault::from(refused)),
     };
     let reader = Reader {
         engine,
@@ -85,23 +87,12 @@ fn open(alloc: Global, handle: &mut Handle, engine: AnyEngine, max_output: u64) 
         fed: 0,
         outcome: None,
     };
-    match on_heap(alloc, reader) {
-        Some(reader) => {
+    match boxed(alloc, reader) {
+        Ok(reader) => {
             put_in(handle, reader);
             bare(0, 0, 0)
         }
-        None => failed(0, Fault::OutOfMemory),
-    }
-}
-
-/// Puts a value on the heap; `None` where there is no memory for it. The type is a parameter, since the size
-/// of a reader, which holds whole lines, takes the prover minutes.
-fn on_heap<T: Drop>(alloc: Global, value: T) -> Option<Box<T>>
-    ensures { IfSome result (λ boxed. boxed.value ≡ value) }
-{
-    match Box::new(alloc, value) {
-        Ok(boxed) => Some(boxed),
-        Err(_) => None,
+        Err(refused) => failed(0, Fault::from(refused)),
     }
 }
 
@@ -132,7 +123,7 @@ pub extern "C" fn rnxcmp_c_open_compact(
     };
     match LineEngine::<Compaction>::new(alloc, options) {
         Ok(compactor) => open(alloc, handle, AnyEngine::Compacting(compactor), max_output),
-        Err(_) => failed(0, Fault::OutOfMemory),
+        Err(refused) => failed(0, Fault::from(refused)),
     }
 }
 
@@ -158,7 +149,7 @@ pub extern "C" fn rnxcmp_c_open_expand(
     };
     match LineEngine::<Expansion>::new(alloc, options) {
         Ok(expander) => open(alloc, handle, AnyEngine::Expanding(expander), max_output),
-        Err(_) => failed(0, Fault::OutOfMemory),
+        Err(refused) => failed(0, Fault::from(refused)),
     }
 }
 
@@ -175,7 +166,7 @@ pub extern "C" fn rnxcmp_c_open_check(alloc: Global, handle: &mut Handle) -> Ans
     }
     match LineEngine::<Checking>::new(alloc, no_options()) {
         Ok(checker) => open(alloc, handle, AnyEngine::Checking(checker), 0),
-        Err(_) => failed(0, Fault::OutOfMemory),
+        Err(refused) => failed(0, Fault::from(refused)),
     }
 }
 

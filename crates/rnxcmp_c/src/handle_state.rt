@@ -3,8 +3,9 @@
 use crate::limits::READY_LIMIT;
 use crate::pending::Pending;
 use crate::piece::Piece;
-use crx_base::PaddedCopy;
-use std::alloc::{AllocError, Global};
+use crx_base::memory::boxed;
+use crx_base::{PaddedCopy, Refused};
+use std::alloc::Global;
 
 /// What is held between two calls.
 #[derive(Drop)]
@@ -42,11 +43,11 @@ impl HandleState {
     ghost use Rattle.rnxcmp_c.specs.declared.limits.TheConstants.{READY_LIMIT};
 
     /// What is held before the first byte.
-    pub(crate) fn new(alloc: Global, limit: u64) -> Result<HandleState, AllocError>
+    pub(crate) fn new(alloc: Global, limit: u64) -> Result<HandleState, Refused>
         ensures { IfOk result (HoldsNothing limit) }
     {
         let tail = Piece::new(alloc)?;
-        let copy = Box::new(alloc, PaddedCopy::new())?;
+        let copy = boxed(alloc, PaddedCopy::new())?;
         Ok(HandleState {
             tail,
             copy,

@@ -9,11 +9,12 @@ ghost use Rattle.rnxcmp_c.specs.meaning.Handles.{TaskRun};
 ghost use Rattle.rnxcmp_c.specs.Holding.{IsCounted, IsMarkWithin, StopsCounted, ready_in};
 ghost use Rattle.rnxcmp_c.specs.declared.limits.TheConstants.{LINE_ROOM, READY_LIMIT};
 
+use crate::answer::no_memory_at;
 use crate::handle_state::{HandleState, Mark};
 use crate::pending::Pending;
 use crate::stop::Stop;
+use crx_base::PaddedCopy;
 use crx_base::limits::LINE_LIMIT;
-use crx_base::{At, Fault, PaddedCopy};
 use crx_lines::Line;
 use crx_lines::feed::feed_from;
 use crx_runs::Engine;
@@ -64,10 +65,7 @@ fn counted(
         Err(Halt::Fault(at)) => Err(Stop::Fault(at)),
         Err(Halt::Unwritten | Halt::Unreported) => {
             held.cut_back(mark);
-            Err(Stop::Fault(At {
-                line: number,
-                fault: Fault::OutOfMemory,
-            }))
+            Err(Stop::Fault(no_memory_at(number)))
         }
     }
 }
@@ -91,29 +89,16 @@ fn take_within<E: Engine>(
     let number = held.number + 1;
     let tail = &held.tail;
     let (content, has_return) = content_of(&tail.bytes);
-    let mut halt = Halt::Unwritten;
     let taken = if content.len() > LINE_LIMIT {
-        take_overlong(
-            engine,
-            &mut held.output,
-            &mut held.messages,
-            number,
-            &mut halt,
-        )
+        take_overlong(engine, &mut held.output, &mut held.messages, number)
     } else {
         let is_plain = is_ended && !has_return;
         let line = Line::of(held.copy.of(content), number, is_plain);
-        take_line(
-            engine,
-            &mut held.output,
-            &mut held.messages,
-            line,
-            &mut halt,
-        )
+        take_line(engine, &mut held.output, &mut held.messages, line)
     };
     held.tail.bytes.clear();
     held.number = number;
-    counted(held, mark, number, taken.answer(halt))
+    counted(held, mark, number, taken)
 }
 
 /// Takes the first of some bytes, up to an LF, with which a line is taken, and answers how many; all, where

@@ -4,7 +4,9 @@ ghost use Rattle.std.specs.Prelude.{◌≡◌, ◌≤◌, ◌++◌, [], length, 
 ghost use Rattle.rnxcmp_c.specs.declared.limits.TheConstants.{LINE_ROOM};
 
 use crate::limits::LINE_ROOM;
-use std::alloc::{AllocError, Global};
+use crx_base::Refused;
+use crx_base::memory::reserve_exact;
+use std::alloc::Global;
 
 /// The first bytes of a line, at most [`LINE_ROOM`]. Its memory is taken at the beginning, and never more.
 #[derive(Drop)]
@@ -16,11 +18,12 @@ pub struct Piece {
 
 impl Piece {
     /// No bytes.
-    pub(crate) fn new(alloc: Global) -> Result<Piece, AllocError>
+    pub(crate) fn new(alloc: Global) -> Result<Piece, Refused>
         ensures none { IfOk result (λ piece. piece.bytes.items ≡ []) }
         ensures room { IfOk result (λ piece. vec_capacity piece.bytes ≡ LINE_ROOM) }
     {
-        let bytes = Vec::with_capacity(alloc, LINE_ROOM)?;
+        let mut bytes = Vec::new(alloc);
+        reserve_exact(&mut bytes, LINE_ROOM)?;
         Ok(Piece { bytes })
     }
 

@@ -7,7 +7,7 @@ ghost use Rattle.rnxcmp_c.specs.meaning.Handles.{Task, joined_texts};
 ghost use Rattle.rnxcmp_c.specs.Waiting.{waiting};
 ghost use Rattle.rnxcmp_c.specs.meaning.Answers.{BothTexts, rooms};
 
-use crate::answer::{Answer, MISUSED, OUTPUT_LIMIT, bare, line_and_code};
+use crate::answer::{Answer, MISUSED, OUTPUT_LIMIT, bare, line_and_code, no_memory_at};
 use crate::engines::{AnyEngine, end_engine, feed_engine, status_at_end};
 use crate::handle_state::HandleState;
 use crate::stop::Stop;
@@ -48,10 +48,7 @@ fn outcome_of(held: &mut HandleState, stop: Stop) -> Outcome
     }
     Outcome {
         status: 1,
-        fault: Some(At {
-            line: at.line,
-            fault: Fault::OutOfMemory,
-        }),
+        fault: Some(no_memory_at(at.line)),
     }
 }
 

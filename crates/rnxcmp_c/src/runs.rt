@@ -4,9 +4,10 @@
 ghost use Rattle.rnxcmp_c.specs.meaning.Answers.{rooms};
 ghost use Rattle.rnxcmp_c.specs.Collecting.{AnswersRun, TakeEnough};
 
-use crate::answer::{Answer, NO_ROOM, OUTPUT_LIMIT, bare, failed, line_and_code, place};
+use crate::answer::{
+    Answer, NO_ROOM, OUTPUT_LIMIT, bare, failed, line_and_code, no_memory_at, place,
+};
 use crate::devices::Counted;
-use crx_base::Fault;
 use crx_runs::Outcome;
 
 /// Answers what a run came to, and puts what was collected of both texts into the caller's rooms. Where the
@@ -28,9 +29,9 @@ pub(crate) fn answer_of(
         return bare(OUTPUT_LIMIT, 0, 0);
     }
     let (line, code) = line_and_code(outcome.fault);
-    let no_memory = code == u32::from(Fault::OutOfMemory.code());
-    if no_memory || output.failures != 0 || messages.failures != 0 {
-        return failed(line, Fault::OutOfMemory);
+    let no_memory = no_memory_at(line).fault;
+    if code == u32::from(no_memory.code()) || output.failures != 0 || messages.failures != 0 {
+        return failed(line, no_memory);
     }
     place(&output.bytes, output_room);
     place(&messages.bytes, messages_room);

@@ -77,7 +77,7 @@ def looked_at(folder):
 
 
 def main(folder):
-    lacking = sorted({tool for machine in machines.MACHINES for tool in machine.lacking()})
+    lacking = sorted({machine.lacking() for machine in machines.MACHINES} - {""})
     if lacking or not (made / "out/machines/windows/made").exists():
         print(f"not here: {', '.join(lacking) or 'what make dist makes for all machines'}")
         return NOT_KNOWN

@@ -6,25 +6,18 @@ use Rattle.crx_compact.proofs.Words.{ints, common_steps, IsWithin, IsShort, Step
 use Rattle.crx_compact.proofs.Words.{value_of_code, arc_of_code, ◌+ℤ◌, ◌-ℤ◌, w64, to_z-of_z}
 use Rattle.crx_compact.proofs.Words.{drop-set-lt, differences_after, onto_sum, differences_by, highest}
 use Rattle.crx_compact.proofs.{Words.{in_range}, arcs.Bounds.ten-more}
-use Rattle.std.proofs.Common.{FitsSigned, to_z, of_z, append-nil}
-use Rattle.std.proofs.lemmas.Int.{wrapping_sub_onto, int_wrap_fits}
-use Rattle.std.specs.Int.{int_wrap}
-use Rattle.std.specs.Prelude.{◌%◌}
-use Rattle.std.proofs.Common.{sym, ◌∙◌}
-use Rattle.std.proofs.Math.Nat.{mod-lt}
-use mir.ValLaws.{of_z_fits}
-use borrow.Rule.Slice.PartMut.{put_mid}
-use Rattle.std.proofs.{Math.Nat.add-zero, Common.subst}
-use Rattle.std.specs.Prelude.{◌↔◌}
-use Rattle.std.proofs.lemmas.List.{drop_all, length-take, length-take-le, take_all, take_at}
-use Rattle.std.proofs.{lemmas.List.{take_more, take-append-drop}, Math.Nat.pow-le-pow_right}
-use Rattle.crx_compact.specs.Arcs.{IsBelow, AreBelow, value_bound, kept_tail}
-use Rattle.crx_compact.specs.Arcs.{IsArcInRange, IsNewestWithin, whole_arc}
-use Rattle.crx_compact.specs.Arcs.{order_bound}
+use Rattle.std.proofs.Common.{FitsSigned, to_z, of_z}
+use Rattle.std.proofs.{lemmas.List.{drop_all, length-take, take_all}, Math.Nat.pow-le-pow_right}
+use Rattle.crx_compact.specs.Arcs.{IsBelow, AreBelow, value_bound, kept_tail, IsArcInRange, IsNewestWithin}
 use Rattle.crx_compact.specs.meaning.Differences.{newest}
 use Rattle.crx_compact.proofs.PlaceByPlace.{from-place}
 
 -- ---- size
+
+-- how large a difference of an order may be
+abbrev pub order_bound : ℕ → ℕ
+order_bound zero = value_bound
+order_bound (suc k) = order_bound k + order_bound k
 
 order-bound-is : (k : ℕ) → order_bound k ≡ value_bound * 2 ^ k
 order-bound-is zero = omega arith
@@ -181,62 +174,6 @@ take-take : (n m : ℕ) (ds : List ℤ) → take n (take m ds) ≡ take (min n m
 take-take (suc n) (suc m) (d ∷ ds) = grind (arith, common_steps, take-take n m ds)
 take-take n m ds = grind (arith, common_steps)
 
--- what is left of a difference in 64 bits, where it fits them
-wrapped-difference : (bits : ℕ) (value before : ℤ) → bits < 2 ^ 64 → to_z w64 bits ≡ value
-    → FitsSigned w64 before → FitsSigned w64 (value -ℤ before)
-    → to_z w64 ((bits + (2 ^ 64 - of_z w64 before)) % 2 ^ 64) ≡ value -ℤ before
-wrapped-difference bits value before room same f g =
-    wrapping_sub_onto w64 bits before room f ∙ ap (λ v. int_wrap w64 (v -ℤ before)) same
-    ∙ int_wrap_fits w64 (value -ℤ before) g
-
--- the differences up to order 3 at a next value, of which those above an order mean nothing
-near-steps : (order : ℕ) (value a b c d first second third : ℤ) (ds : List ℤ) → order < 4
-    → (1 ≤ order → first ≡ value -ℤ a) → (2 ≤ order → second ≡ value -ℤ a -ℤ b)
-    → (3 ≤ order → third ≡ value -ℤ a -ℤ b -ℤ c)
-    → take (order + 1) (value ∷ first ∷ second ∷ third ∷ [])
-    ≡ differences_after value (take order (a ∷ b ∷ c ∷ d ∷ ds))
-near-steps zero value a b c d f s t ds few one two three = refl
-near-steps (suc zero) value a b c d f s t ds few one two three = rw (one (omega arith)) refl
-near-steps (suc (suc zero)) value a b c d f s t ds few one two three =
-    rw (one (omega arith), two (omega arith)) refl
-near-steps (suc (suc (suc zero))) value a b c d f s t ds few one two three =
-    rw (one (omega arith), two (omega arith), three (omega arith)) refl
-near-steps (suc (suc (suc (suc n)))) value a b c d f s t ds few one two three = absurd (omega (arith, few))
-
--- the first of them are as small
-young : (n order : ℕ) → n ≤ order → (ds : List ℤ) → AreBelow value_bound (take order ds)
-    → AreBelow value_bound (take n ds)
-young n order few ds h =
-    let same : min n order ≡ n = omega (arith, few) in
-    rw (take-take n order ds, same) at (take-below value_bound n (take order ds) h)
-
-pub near-after : (order : ℕ) (value : ℤ) (ds new : List ℤ) (one two three : ℕ)
-    → one ≡ (of_z w64 value + (2 ^ 64 - of_z w64 (slice_index_or ds 0 (pos 0)))) % 2 ^ 64
-    → two ≡ (one + (2 ^ 64 - of_z w64 (slice_index_or ds 1 (pos 0)))) % 2 ^ 64
-    → three ≡ (two + (2 ^ 64 - of_z w64 (slice_index_or ds 2 (pos 0)))) % 2 ^ 64
-    → take 4 new ≡ value ∷ to_z w64 one ∷ to_z w64 two ∷ to_z w64 three ∷ []
-    → order < 4 → 3 < length ds → IsBelow value_bound value → AreBelow value_bound (take order ds)
-    → take (order + 1) new ≡ differences_after value (take order ds)
-near-after order value (a ∷ b ∷ c ∷ d ∷ ds) new one two three e f g put few long h hs =
-    let room : (n : ℕ) → n % 2 ^ 64 < 2 ^ 64 = λ n. mod-lt n (omega arith) in
-    let value_fits : FitsSigned w64 value = omega (arith, ints, h) in
-    let first : 1 ≤ order → to_z w64 one ≡ value -ℤ a = λ some.
-    let below = young 1 order some (a ∷ b ∷ c ∷ d ∷ ds) hs in
-    rw e (wrapped-difference (of_z w64 value) value a (of_z_fits w64 value value_fits).fits
-    (same-bits value value_fits) (omega (arith, ints, below)) (omega (arith, ints, h, below))) in
-    let second : 2 ≤ order → to_z w64 two ≡ value -ℤ a -ℤ b = λ some.
-    let below = young 2 order some (a ∷ b ∷ c ∷ d ∷ ds) hs in
-    rw f (wrapped-difference one (value -ℤ a) b (rw e (room _)) (first (omega (arith, some)))
-    (omega (arith, ints, below)) (omega (arith, ints, h, below))) in
-    let third : 3 ≤ order → to_z w64 three ≡ value -ℤ a -ℤ b -ℤ c = λ some.
-    let below = young 3 order some (a ∷ b ∷ c ∷ d ∷ ds) hs in
-    rw g (wrapped-difference two (value -ℤ a -ℤ b) c (rw f (room _)) (second (omega (arith, some)))
-    (omega (arith, ints, below)) (omega (arith, ints, h, below))) in
-    let same : min (order + 1) 4 ≡ order + 1 = omega (arith, few) in
-    sym (ap (λ n. take n new) same) ∙ sym (take-take (order + 1) 4 new) ∙ ap (take (order + 1)) put
-    ∙ near-steps order value a b c d _ _ _ ds few first second third
-near-after order value ds new one two three e f g put few long h hs = absurd (omega (arith, long))
-
 -- a value that fits its columns is below the bound of all
 pub within-below : (width : ℕ) (value : ℤ) → width ≤ 15 → IsWithin width value → IsBelow value_bound value
 within-below width value few h =
@@ -262,7 +199,7 @@ lower-below order count last ds e h =
 
 -- the same of an arc of order 3 that has all of its differences
 module _ (width order count : ℕ) (ds : List ℤ) (third : (order ≡ 3) × (count ≡ 4))
-    (kept : IsArcInRange width order count (take count ds)) (long : 3 < length ds) where
+    (kept : IsArcInRange width order count (take count ds)) (long : length ds ≡ 10) where
   pub third-last : 3 ≡ min order count
   third-last = omega (arith, third.0, third.1)
 
@@ -271,7 +208,7 @@ module _ (width order count : ℕ) (ds : List ℤ) (third : (order ≡ 3) × (co
 
   pub onto-third-kept : (number : ℤ) → IsShort number → OntoThird number ds
   onto-third-kept number h = onto-third number ds
-      long (grind (arith, h)) (lower-below order count 3 ds third-last kept.below)
+      (omega (arith, long)) (grind (arith, h)) (lower-below order count 3 ds third-last kept.below)
 
 some-kept : (order : ℕ) (value : ℤ) (ds : List ℤ) → Some
     (record { order = order; differences = differences_after value ds })
@@ -324,7 +261,7 @@ pub record StepsOn (width order count last : ℕ) (number value : ℤ) (ds : Lis
       ≡ arc_of_code (Step number) (kept_tail order (take count ds))
 
 pub stepped : (width order count last : ℕ) (number value : ℤ) (ds : List ℤ) → last ≡ min order count
-    → 0 < count → 0 < length ds → value ≡ newest (differences_by (to_z w64 (of_z w64 number)) (take last ds))
+    → 0 < count → length ds ≡ 10 → value ≡ newest (differences_by (to_z w64 (of_z w64 number)) (take last ds))
     → FitsSigned w64 number → StepsOn width order count last number value ds
 stepped width order count last number value ds e h l v f =
     grind (arith, common_steps, same-bits, lower-taken, some-kept, by-after)
@@ -342,130 +279,3 @@ highest-short width order count last value ds e k h = highest-below 0 (differenc
     (omega (arith, length-after value (take last ds), length-take last ds, k.order_within))
     (after-below value_bound value
     (take last ds) (within-below width value k.few_columns h) (lower-below order count last ds e k.below))
-
--- the difference of an order at a next value is the highest of those up to it
-pub near-highest : (order : ℕ) (value : ℤ) (ds new : List ℤ) → order < 4 → order < length new
-    → IsBelow value_bound value → AreBelow value_bound (take order ds)
-    → take (order + 1) new ≡ differences_after value (take order ds)
-    → to_z w64 (of_z w64 (slice_index_or new order (pos 0)))
-    ≡ highest (differences_after value (take order ds))
-near-highest order value ds new few long h hs after =
-    let all = differences_after value (take order ds) in
-    let last : take (order + 1) new ≡ take order new ++ slice_index_or new order (pos 0) ∷ [] =
-    take_more new order (pos 0) long in
-    let is : slice_index_or new order (pos 0) ≡ highest all =
-    sym (highest-last (take order new) (slice_index_or new order (pos 0))) ∙ ap highest (sym last ∙ after) in
-    let short =
-    highest-below 0 all (omega (arith, few, length-after value (take order ds), length-take order ds))
-    (after-below value_bound value (take order ds) h hs) in
-    rw is (same-bits (highest all) (omega (arith, ints, short)))
-
--- ---- in two parts
-
--- a difference further on
-next-order : (k n : ℕ) (xs : List ℤ) → AreBelow (order_bound (k + suc n)) xs
-    → AreBelow (order_bound (suc k + n)) xs
-next-order k n xs h =
-    let same : k + suc n ≡ suc k + n = omega arith in
-    subst (λ m. AreBelow (order_bound m) xs) same h
-
-below-append : (k : ℕ) (xs ys : List ℤ) → AreBelow (order_bound k) xs
-    → AreBelow (order_bound (k + length xs)) ys → AreBelow (order_bound k) (xs ++ ys)
-below-append k [] ys h hs = rw (add-zero k) at hs
-below-append k (x ∷ xs) ys h hs = (h.0, below-append (suc k) xs ys h.1 (next-order k (length xs) ys hs))
-
-below-drop : (k n : ℕ) (xs : List ℤ) → AreBelow (order_bound k) xs
-    → AreBelow (order_bound (k + n)) (drop n xs)
-below-drop k zero xs h = rw (add-zero k) h
-below-drop k (suc n) [] h = tt
-below-drop k (suc n) (x ∷ xs) h =
-    let same : suc k + n ≡ k + suc n = omega arith in
-    subst (λ m. AreBelow (order_bound m) (drop n xs)) same (below-drop (suc k) n xs h.1)
-
--- the second part is as small after a next value
-pub far-kept : (order : ℕ) (value : ℤ) (near far all : List ℤ) → length near ≡ 4 → 4 ≤ order → order ≤ 9
-    → length all ≡ 10 → AreBelow value_bound (take order (near ++ far)) → AreBelow (order_bound 4) far
-    → IsBelow value_bound value
-    → take (order + 1) all ≡ differences_after value (take order (near ++ far))
-    → drop (order + 1) all ≡ drop (order + 1) (near ++ far) → AreBelow (order_bound 4) (drop 4 all)
-far-kept order value near far all four many few long below h f after rest =
-    let first : take 4 (take order (near ++ far)) ≡ near =
-    let small : min 4 order ≡ 4 = omega (arith, many) in
-    cc (take-take 4 order (near ++ far), small, take_at near far 4 four) in
-    let near_below = rw first at (take-below value_bound 4 (take order (near ++ far)) below) in
-    let before = below-append 0 near far near_below (rw four h) in
-    let front = rw (← after) at (after-below value_bound value (take order (near ++ far)) f below) in
-    let behind = rw (← rest) at (below-drop 0 (order + 1) (near ++ far) before) in
-    let count : length (take (order + 1) all) ≡ order + 1 = length-take-le (order + 1) all (omega arith) in
-    below-drop 0 4 all (rw (take-append-drop (order + 1) all) at
-    (below-append 0 (take (order + 1) all) (drop (order + 1) all) front (rw count behind)))
-
--- the differences of both parts
-pub take-both : (n : ℕ) (xs ys : List ℤ) → take n xs ++ take (n - length xs) ys ≡ take n (xs ++ ys)
-take-both zero xs ys = grind arith
-take-both (suc n) [] ys =
-    let same : suc n - 0 ≡ suc n = omega arith in
-    ap (λ m. take {A = ℤ} m ys) same
-take-both (suc n) (x ∷ xs) ys = grind (arith, take-both n xs ys)
-
-below-both : (k n : ℕ) (xs ys : List ℤ) → AreBelow (order_bound k) (take n xs)
-    → AreBelow (order_bound (k + length xs)) ys → AreBelow (order_bound k) (take n (xs ++ ys))
-below-both k zero xs ys h hs = tt
-below-both k (suc n) [] ys h hs = take-below (order_bound k) (suc n) ys (rw (add-zero k) at hs)
-below-both k (suc n) (x ∷ xs) ys h hs =
-    (h.0, below-both (suc k) n xs ys h.1 (next-order k (length xs) ys hs))
-
-below-first : (bound n : ℕ) (xs ys : List ℤ) → AreBelow bound (take n (xs ++ ys)) → AreBelow bound (take n xs)
-below-first bound (suc n) (x ∷ xs) ys h = (h.0, below-first (bound + bound) n xs ys h.1)
-below-first bound zero xs ys h = tt
-below-first bound (suc n) [] ys h = tt
-
-newest-both : (width n : ℕ) (d : ℤ) (ds ys : List ℤ) → IsNewestWithin width (take n (d ∷ ds))
-    ↔ IsNewestWithin width (take n (d ∷ ds ++ ys))
-newest-both width zero d ds ys = ((λ h. h), (λ h. h))
-newest-both width (suc n) d ds ys = ((λ h. h), (λ h. h))
-
--- what is true of an arc, by its parts, and of its first part
-pub both-kept : (width order count : ℕ) (near far : List ℤ) → length near ≡ 4 → AreBelow (order_bound 4) far
-    → IsArcInRange width order count (take count near)
-    → IsArcInRange width order count (take count (near ++ far))
-both-kept width order count (d ∷ ds) far four h k = record {
-  few_columns = k.few_columns;
-  order_within = k.order_within;
-  counted = k.counted;
-  below = below-both 0 count (d ∷ ds) far k.below (rw four h);
-  newest = (newest-both width count d ds far).0 k.newest;
-}
-both-kept width order count [] far four h k = absurd (omega (arith, four))
-
-pub near-kept : (width order count : ℕ) (near far : List ℤ) → length near ≡ 4
-    → IsArcInRange width order count (take count (near ++ far))
-    → IsArcInRange width order count (take count near)
-near-kept width order count (d ∷ ds) far four k = record {
-  few_columns = k.few_columns;
-  order_within = k.order_within;
-  counted = k.counted;
-  below = below-first value_bound count (d ∷ ds) far k.below;
-  newest = (newest-both width count d ds far).1 k.newest;
-}
-near-kept width order count [] far four k = absurd (omega (arith, four))
-
-pub two-put : (near far rest : List ℤ) → length near ≡ 4 → length rest ≡ 6
-    → put_mid 4 6 (near ++ rest) far ≡ near ++ far
-two-put (a ∷ b ∷ c ∷ d ∷ []) far (e ∷ f ∷ g ∷ h ∷ i ∷ j ∷ []) four six =
-    ap (λ (xs : List ℤ). a ∷ b ∷ c ∷ d ∷ xs) (append-nil far)
-two-put near far rest four six = absurd (omega (arith, four, six))
-
-pub both-arc : (order count : ℕ) (near far : List ℤ) → length near ≡ 4
-    → whole_arc (record { order = order; count = count; differences = take count near }) far
-    ≡ kept_tail order (take count (near ++ far))
-both-arc order count near far four =
-    ap (kept_tail order) (subst (λ n. take count near ++ take (count - n) far ≡ take count (near ++ far)) four
-    (take-both count near far))
-
--- it has no second part
-pub third-arc : (order count : ℕ) (ds far : List ℤ) → count ≡ 4
-    → whole_arc (record { order = order; count = count; differences = ds }) far ≡ kept_tail order ds
-third-arc order count ds far four =
-    let none : take (count - 4) far ≡ [] = rw four refl in
-    rw none (ap (kept_tail order) (append-nil ds))

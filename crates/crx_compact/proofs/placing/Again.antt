@@ -48,14 +48,12 @@ module _ {S : Type 0} (m : IndexMap (List ℕ) SatelliteTail S) (unique : IsUniq
       let found = found-in_range 0 live os i e (apart-in_order m.entries is unique)
       (there-in_order m.entries is i e (omega (arith, less, within)) k.there) (omega arith) less in
       let named = named-map (λ (row : RowTail). row.name) row_of_entry e.0 (take live os) in
-      let room = room-here m (get_or order i 0) e.0 e.1 e.1 unique k.there (length e.1.cells) k.room in
-      grind (arith, k.typed, k.own, found, named, room)
+      grind (arith, k.typed, k.own, found, named)
 
   pub come-again : HaveComeAgain types (placed_rows 0 live (in_order order m.entries) m.entries)
       (placed_rows live live (in_order order m.entries) m.entries)
   come-again = record {
     rows = refl;
-    rooms = refl;
     again = λ i d less.
         let below = among-placed live i (in_order order m.entries) less in
         let at = row-here m.entries is live less refl (kept i below).there in

@@ -2,7 +2,8 @@
 use Rattle.crx_filter.proofs.Words
 use Words.{common_steps, arith, ℕ, ◌≡◌, List, ap, sym, ◌∙◌, subst, append-nil, Choices, compacted, expanded}
 use Words.{checked, FilterResult}
-use Rattle.crx_filter.proofs.accounts.{OfFile.file-accounted, OfText.text-accounted, Shortness.short-blocks}
+use Rattle.crx_filter.proofs.accounts.{Told.{file-told, text-told}, Leaving.leaves-out}
+use Rattle.crx_filter.proofs.accounts.Shortness.{short-blocks}
 use Rattle.crx_filter.proofs.anywriter.{AnyRun.reads-any, OnlyTexts.only-text}
 use Rattle.crx_filter.proofs.wayback.{Canonical.same-compaction, ExpandedStandard.expanded-standard}
 use Rattle.crx_filter.proofs.{anywriter.ComesBack.texts-of_units, standard.CheckStandard.named-where_not}
@@ -15,11 +16,11 @@ use Rattle.crx_runs.specs.meaning.Messages.{error_text}
 
 pub accounts-for_file : (choices : Choices) (file : List ℕ)
     → AccountsForFile choices file (compacted file choices)
-accounts-for_file choices file good = grind (arith, common_steps, file-accounted, append-nil, error_text)
+accounts-for_file choices file good = grind (arith, common_steps, file-told, append-nil, error_text)
 
 pub accounts-for_text : (choices : Choices) (text : List ℕ)
     → AccountsForText choices.skip text (expanded text choices)
-accounts-for_text choices text good = grind (arith, common_steps, text-accounted, append-nil, error_text)
+accounts-for_text choices text good = grind (arith, common_steps, text-told, append-nil, error_text)
 
 -- ---- by what holds of a result
 
@@ -30,6 +31,7 @@ compaction-keeps holds choices file ran = record {
       ∙ (texts-of_units units choices choices h).compaction) ran;
   canonical = λ other h k same. subst holds (same-compaction file other choices h k (sym same)) ran;
   accounted = (compacted file choices, ran, accounts-for_file choices file);
+  left_out = (compacted file choices, ran, leaves-out choices file);
   blocks = (compacted file choices, ran, short-blocks choices file);
 }
 

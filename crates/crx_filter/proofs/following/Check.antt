@@ -13,7 +13,7 @@ printed_after before = printed_unit
 check-same : AreSame checking totals_of printed_after no_choices
 check-same = grind (arith, common_steps, either-same)
 
-abbrev pub check_meaning : Meaning Epoch Epoch OpenEpoch Totals Epoch
+abbrev pub check_meaning : Meaning Epoch Epoch OpenEpoch Totals
 check_meaning = rinex_meaning checking totals_of printed_after no_choices
 
 pub check-carried_out : IsCarriedOut check_meaning

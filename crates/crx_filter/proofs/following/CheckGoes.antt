@@ -1,13 +1,13 @@
 -- A check goes line by line, in the words of its filter: it hands out nothing before the end of the input,
 -- and then its report.
 use Rattle.crx_filter.proofs.Words
-use Words.{common_steps, arith, ℕ, ◌≡◌, true, false, List, [], ◌∷◌, length, map, refl}
+use Words.{common_steps, arith, ℕ, ◌≡◌, false, List, [], ◌∷◌, map, refl}
 use Words.{map-append, length-map, ReadLine, as_read, Choices, Count, Epoch, lines_text, noticed_by}
 use Words.{failed_by, is_again, Made, Phase, OpenEpoch, step_of_made, state_next, state_end, LineStep, Totals}
-use Words.{checking, check_by_line, check_reading, check_filter, no_choices, findings_of, false-true}
+use Words.{checking, check_by_line, check_reading, check_filter, no_choices, findings_of}
 use Rattle.crx_filter.proofs.following.{CheckedOn.{one-on, same-state}, Following.{fed-once, state_in}}
-use Rattle.crx_filter.proofs.following.{Check.check-carried_out, Memory.allowed-first}
-use Rattle.crx_filter.proofs.{following.MemoryOfRinex.check-takes, standard.CheckEnded.check-ended}
+use Rattle.crx_filter.proofs.{following.CutOff.none-again, standard.CheckEnded.check-ended}
+use Rattle.std.proofs.Common.{ap, sym, Some}
 use Rattle.crx_filter.specs.{EngineLaws.GoesLineByLine, LineByLine.{state_end_with, fault_at_end_in}}
 use Rattle.crx_filter.specs.meaning.{Directions.report_unless, Standard.{Findings, report_lines}}
 
@@ -49,7 +49,7 @@ end-reported found number phase types kept =
 -- ---- line by line
 
 pub check-goes : (choices : Choices) → no_choices ≡ choices → GoesLineByLine check_by_line
-    (λ lines. report_lines (findings_of lines)) check_reading (λ lines line. true) check_filter
+    (λ lines. report_lines (findings_of lines)) check_reading check_filter
 check-goes choices taken = record {
   follows = λ lines line. grind (
     arith,
@@ -61,10 +61,7 @@ check-goes choices taken = record {
   );
   ends = λ lines. grind (arith, end-reported, check-ended, same-state);
   number = λ lines. length-map lines as_read;
-  memory_first = λ lines line needed. allowed-first check-carried_out check-takes 1 (length (map as_read
-      lines))
-      (map as_read lines) (as_read line) (omega arith);
-  memory_again = grind (arith, common_steps, false-true, step-quiet);
+  cut = λ lines line. ap Some (sym (none-again _ (step-quiet (map as_read lines) (as_read line)).once));
   too_long_first = λ types kept. refl;
   too_long_next = λ so_far. refl;
 }

@@ -30,7 +30,7 @@ same-epochs choices items lines epoch count here =
     (sound-epoch_place (types_in_force items) lines epoch count (counts-in_force items) here).0.sound.apart in
     grind (arith, common_steps, by_tail, either-same, same-tail choices items epoch)
 
-abbrev pub compaction_meaning : Choices → Meaning Epoch Epoch OpenEpoch Written Epoch
+abbrev pub compaction_meaning : Choices → Meaning Epoch Epoch OpenEpoch Written
 compaction_meaning choices = rinex_meaning compaction (written_of choices.every) (compact_unit choices)
     choices
 

@@ -7,14 +7,13 @@ use Words.{Fault, Place, Done, Fails, NeedsMore, ReadEpoch, OpenRawEpoch, Tail, 
 use Words.{AtLines, reading_from, Fed, fed, fed_once, Phase}
 use Words.{InFirstLines, Ended, RunState, Rejects, Made, made_in, step_of_made, state_next, state_of}
 use Words.{rules, crinex_version, crinex_program, first_lines, expansion, compact_open, compact_place}
-use Words.{tail_of_items, compact_reading, expansion_state, map, Satellite}
+use Words.{tail_of_items}
 use Rattle.crx_compact.specs.{OpenEpochs.HeldEpoch}
-use Rattle.crx_filter.proofs.following.{Collecting.Collects, Expansion.{expansion-carried_out, of_read}}
+use Rattle.crx_filter.proofs.following.{Expansion.{expansion-carried_out}}
 use Rattle.crx_filter.proofs.following.{Expansion.expansion_meaning, Following.{Follows, state_in, fed-once}}
 use Rattle.crx_filter.proofs.following.{Lines.{last_made, last-once, quiet-elsewhere}, MoreLines.more-line}
 use Rattle.crx_filter.proofs.{Choosing.by_result, reading.CompactPrefixes.remains}
-use Rattle.crx_filter.specs.{Laws.IsExpandedOn, meaning.Memory.accepted_epochs}
-pub use Rattle.crx_filter.proofs.following.Expansion.{of_held}
+use Rattle.crx_filter.specs.{Laws.IsExpandedOn}
 
 -- ---- the reading by where the first two lines are
 
@@ -119,11 +118,3 @@ module _ (choices : Choices) where
 pub expanded-on : (choices : Choices) (lines : List ReadLine) (line : ReadLine)
     → IsExpandedOn choices lines line
 expanded-on choices lines line = (compact-on choices lines line (first_lines lines) refl).followed
-
--- the satellites of the epochs that were accepted
-abbrev pub satellites_expanded : Choices → List ReadLine → List (List Satellite)
-satellites_expanded choices lines = map of_read (accepted_epochs (compact_reading choices.skip lines).items)
-
-pub expansion-collects : (choices : Choices)
-    → Collects expansion of_held (expansion_state choices) (satellites_expanded choices)
-expansion-collects choices lines line = (compact-on choices lines line (first_lines lines) refl).epochs

@@ -6,61 +6,15 @@ use proofs.Words.{ReadLine, Content, Fault, BadEpoch, is_event_line, records_in,
 use proofs.Words.{NeedsMore, FileUnit, EventLine, RawEpoch, ReadEpoch, epoch_at, Tail, OpenRawEpoch, RawStep}
 use proofs.Words.{first_step, next_step, open_raw_after, Choices, Item, types_in_force, raws_kept, event_line}
 use proofs.Words.{as_observation, expanded_unit, Made, made_of_unit, made_of_raw_step, expansion}
-use proofs.Words.{tail_of_items, begins_event, compact_open, by_bool, map, length-map}
-use proofs.Words.{Count, Past, Satellite, block_of, subst}
+use proofs.Words.{tail_of_items, begins_event, compact_open, by_bool}
 use Rattle.crx_compact.proofs.reading.LineByLine.{steps-agree, wanted-where_open, steps-from_open}
 use Rattle.crx_compact.proofs.reading.RawTailing.{place-by_tail, left-by_tail}
 use Rattle.crx_compact.{proofs.soundness.Soundness.reads-soundly, specs.OpenEpochs.{epoch_after, HeldEpoch}}
 use Rattle.crx_compact.specs.OpenEpochs.{Going, Whole, Faulty, placed_as, held_after, place_of_step}
 use Rattle.crx_compact.specs.{OpenEpochs.place_of_steps, ReadingLaws.is_wanted, Tails.tail_left}
-use Rattle.crx_compact.proofs.soundness.Soundness.{Paired, RowFacts, epoch-facts}
-use Rattle.crx_compact.specs.{Placing.satellite_of as satellite_of_tail, Tails.{raw_row_tail, tail_of_block}}
-use Rattle.crx_compact.specs.{meaning.{CompactPlaces.ReadRow, Expansion.{RawRow, raw_run_of}}}
 use Rattle.crx_filter.specs.{ExpansionByLine.compact_begins}
-use Rattle.crx_filter.specs.{meaning.Memory.{satellite_of_row, satellites_had}}
-use Rattle.{crx_text.proofs.EachPlace.length-each_place, std.proofs.lemmas.Option.same_Some}
 use proofs.following.{Following.{Meaning, IsSameEpoch, AgreeOn, IsCarriedOut}, Lines.one_line-decided}
 use proofs.reading.ForwardCompact.{compact-forward, compact_beginning}
-
--- ---- the satellites of an epoch
-
--- those of an epoch, as it comes line by line, and as it is read
-abbrev pub of_held : HeldEpoch → List Satellite
-of_held held = map satellite_of_tail held.tail.rows
-
-abbrev pub of_read : ReadEpoch → List Satellite
-of_read read = satellites_had read.epoch
-
-abbrev satellite_of_raw : RawRow → Satellite
-satellite_of_raw row = record { name = row.name; count = length row.codes }
-
-rows-left : (block : List RawEpoch) (rows : List RawRow)
-    → map satellite_of_tail (map (λ (r : RawRow). raw_row_tail (raw_run_of r.name block) r) rows)
-    ≡ map satellite_of_raw rows
-rows-left block [] = refl
-rows-left block (row ∷ rows) = grind (arith, common_steps, rows-left block rows, length-each_place)
-
-row-read : (past : Past) (satellite : Satellite) (line : List ℕ) (read : ReadRow)
-    → RowFacts past satellite line read → satellite_of_raw read.raw ≡ satellite_of_row read.row
-row-read past satellite line read facts = grind (arith, common_steps, length-map, facts.cells)
-
-rows-read : (past : Past) (satellites : List Satellite) (lines : List (List ℕ)) (rows : List ReadRow)
-    → Paired (RowFacts past) satellites lines rows → map satellite_of_raw (map (λ (r : ReadRow). r.raw) rows)
-    ≡ map satellite_of_row (map (λ (r : ReadRow). r.row) rows)
-rows-read past [] [] [] h = refl
-rows-read past (s ∷ ss) (l ∷ ls) (r ∷ rs) h = cc (row-read past s l r h.0, rows-read past ss ls rs h.1)
-rows-read past satellites lines rows h = absurd h
-
--- an epoch that is read has the satellites that its lines leave
-same-satellites : (types : List Count) (older : List RawEpoch) (lines : List ReadLine) (read : ReadEpoch)
-    (count : ℕ) (tail : Tail) → epoch_at types older lines ≡ Done read count
-    → Some tail ≡ tail_left (read.raw ∷ older) → map satellite_of_tail tail.rows ≡ of_read read
-same-satellites types older lines read count tail here left =
-    let facts = epoch-facts types older lines read count here in
-    let block : List RawEpoch = block_of (read.raw ∷ older) in
-    ap (λ (t : Tail). map satellite_of_tail t.rows) (same_Some tail (tail_of_block block) left)
-    ∙ rows-left block read.raw.rows ∙ subst (λ (r : ReadEpoch). map satellite_of_raw r.raw.rows ≡ of_read r)
-    facts.is_read (rows-read _ facts.satellites facts.own facts.rows facts.rows_ok)
 
 -- ---- one line
 
@@ -79,8 +33,7 @@ at-observation : (items : List (Item ReadEpoch)) (line : ReadLine) (lines : List
 at-observation items line lines e = grind (arith, common_steps)
 
 -- what the definitions say of an expansion
-abbrev pub expansion_meaning : Choices → Meaning ReadEpoch HeldEpoch OpenRawEpoch (Option Tail) (List
-    Satellite)
+abbrev pub expansion_meaning : Choices → Meaning ReadEpoch HeldEpoch OpenRawEpoch (Option Tail)
 expansion_meaning choices = record {
   direction = expansion;
   choices = choices;
@@ -88,8 +41,6 @@ expansion_meaning choices = record {
   open_with = compact_open;
   kept_of = tail_of_items;
   unit_lines = expanded_unit;
-  epoch_of = of_held;
-  epoch_read = of_read;
 }
 
 module _ (choices : Choices) where
@@ -106,7 +57,6 @@ module _ (choices : Choices) where
       ∙ sym (left-by_tail read.raw (raws_kept items) (reads-soundly (types_in_force items) (raws_kept items)
       lines read count here).single) in record {
         taken = λ number phase types kept either. (left, cc);
-        alike = same-satellites (types_in_force items) (raws_kept items) lines read count held.tail here left;
       }
 
   -- what some lines make where no event begins, by the step that the last of them is

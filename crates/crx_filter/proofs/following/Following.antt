@@ -2,7 +2,7 @@
 use Rattle.crx_filter.proofs
 use proofs.Words.{ℕ, ◌≡◌, ◌⊎◌, ◌+◌, true, false, List, [], ◌∷◌, ◌++◌, length}
 use proofs.Words.{Option, Some, None, refl, ◌&&◌, nat_lt}
-use proofs.Words.{map, ReadLine, Fault, At, Place, Done, Fails, NeedsMore, FileUnit}
+use proofs.Words.{ReadLine, Fault, At, Place, Done, Fails, NeedsMore, FileUnit}
 use proofs.Words.{HeaderLine, EventLine, EventRecord, Observation, Choices, Count, Item, Accepted, Warned}
 use proofs.Words.{is_at_start, header_has_ended, records_left, records_count_types, types_in_force}
 use proofs.Words.{unit_place, Reading, is_skipped, can_go_on}
@@ -11,41 +11,25 @@ use proofs.Words.{RunState, Made, Completes, Moves, Rejects, Direction, Notice, 
 use proofs.Words.{types_after, may_skip, is_in_epoch, is_skipped_in, kept_in, with_phase, after_warning}
 use proofs.Words.{failed_step, state_next, phase_after_items, IsReadForward, fed, fed_once, fed_twice}
 use proofs.Words.{is_again, state_end, IsFollowed, Fed, written_lines, warnings_in, fault_of_stop}
-use Rattle.crx_filter.specs.{LineByLine.end_step, meaning.Memory.accepted_epochs}
+use Rattle.crx_filter.specs.{LineByLine.end_step}
 pub use Rattle.crx_filter.proofs.Pending.{state_in}
 
 -- ---- what a direction has to keep to
 
 -- what the definitions of whole inputs say of a direction, by the user's choices: what is at some lines where
 -- an epoch or an event may begin, and the epoch that they leave open; what is kept after some items, and the
--- lines of a unit; and what is collected of an epoch, as it comes line by line and as it is read
-pub record Meaning (E U O K V : Type 0) : Type 0 where
+-- lines of a unit
+pub record Meaning (E U O K : Type 0) : Type 0 where
   pub direction : Direction U O K
   pub choices : Choices
   pub beginning : List (Item E) → List ReadLine → Place (FileUnit E)
   pub open_with : List (Item E) → List ReadLine → Option O
   pub kept_of : List (Item E) → K
   pub unit_lines : List (Item E) → FileUnit E → List (List ℕ)
-  pub epoch_of : U → V
-  pub epoch_read : E → V
 
--- what is collected after a unit, and after what a line makes
-module _ {U V : Type 0} (epoch_of : U → V) where
-  abbrev pub add_unit : List V → FileUnit U → List V
-  add_unit epochs (Observation held) = epoch_of held ∷ epochs
-  add_unit epochs unit = epochs
-
-  abbrev pub add_made : {O : Type 0} → List V → Made U O → List V
-  add_made epochs (Completes unit) = add_unit epochs unit
-  add_made epochs made = epochs
-
-module _ {E U O K V : Type 0} (m : Meaning E U O K V) where
+module _ {E U O K : Type 0} (m : Meaning E U O K) where
   abbrev pub place : List (Item E) → List ReadLine → Place (FileUnit E)
   place = unit_place m.beginning
-
-  -- what is collected of some items
-  abbrev pub collected : List (Item E) → List V
-  collected items = map m.epoch_read (accepted_epochs items)
 
   -- what is seen after so many lines, where these items were read
   abbrev pub state_at : ℕ → Phase O → List (Item E) → K → RunState O K
@@ -65,7 +49,6 @@ module _ {E U O K V : Type 0} (m : Meaning E U O K V) where
   pub record IsSameEpoch (items : List (Item E)) (epoch : E) (held : U) : Type 0 where
     pub taken : (number : ℕ) (phase : Phase O) (types : List Count) (kept : K) → AreKept items kept
         → IsTaken items (state_in m.choices number phase types kept) (Observation epoch) (Observation held)
-    pub alike : m.epoch_of held ≡ m.epoch_read epoch
 
   -- what is at some lines where an epoch or an event may begin, and what the last of them makes
   abbrev pub AgreeOn : List (Item E) → List ReadLine → Made U O → Type 0
@@ -115,7 +98,6 @@ module _ {E U O K V : Type 0} (m : Meaning E U O K V) where
     pub phases : phase_after_items {O = O} (Accepted unit ∷ items) None ≡ phase_after phase held
     pub types : types_in_force (Accepted unit ∷ items) ≡ types_after phase (types_in_force items) held
     pub taken : (count : ℕ) → IsTaken items (state_at count phase items kept) unit held
-    pub epochs : collected (Accepted unit ∷ items) ≡ add_unit m.epoch_of (collected items) held
 
   -- what is at some lines, and what the last of them makes
   abbrev pub Agrees : List (Item E) → Phase O → K → List ReadLine → Made U O → Type 0
@@ -144,7 +126,6 @@ module _ {E U O K V : Type 0} (m : Meaning E U O K V) where
       (made : Made U O) : Type 0 where
     pub followed : IsFollowed state_then (written_lines m.unit_lines items) (written_lines m.unit_lines
         r.items) (warnings_in items) (warnings_in r.items) (fault_of_stop r.stop) line_fed
-    pub epochs : collected r.items ≡ add_made m.epoch_of (collected items) made
 
 -- where an epoch or an event may begin
 pub body-place : {E : Type 0} (beginning : List (Item E) → List ReadLine → Place (FileUnit E))

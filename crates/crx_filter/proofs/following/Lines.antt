@@ -115,7 +115,7 @@ kept-with_records direction left counted kept = grind (arith, common_steps)
 
 -- ---- one line more
 
-module _ {E U O K V : Type 0} {m : Meaning E U O K V} (h : IsCarriedOut m) where
+module _ {E U O K : Type 0} {m : Meaning E U O K} (h : IsCarriedOut m) where
   -- what is so in each phase that a reading can be in where more lines are wanted, is so there
   pub by_phase : (P : List ReadLine → Phase O → Type 0) (items : List (Item E)) (rest : List ReadLine)
       → place m items rest ≡ NeedsMore → (header_has_ended items ≡ false → P [] (InHeader (is_at_start

@@ -5,7 +5,7 @@ use Rattle.crx_filter.proofs.{following.Lines.{last_made, next-line}, reading.Re
 use Rattle.crx_filter.proofs.{reading.Stopping.reading-stopped, Words.{ℕ, ◌≡◌, ◌+◌, List, [], ◌∷◌, ◌++◌}}
 use Rattle.crx_filter.proofs.Words.{length, ReadLine, Reading, reading_from, RunState, fed}
 
-module _ {E U O K V : Type 0} {m : Meaning E U O K V} (h : IsCarriedOut m) where
+module _ {E U O K : Type 0} {m : Meaning E U O K} (h : IsCarriedOut m) where
   -- lines that are read with no items before them, the first at a line of some number
   abbrev pub read_from : ℕ → List ReadLine → Reading E
   read_from number lines = reading_from (place m) m.choices.skip [] number lines

@@ -14,13 +14,9 @@ use Rattle.crx_filter.proofs.{reading.Forward.rinex_beginning}
 
 -- ---- what is asked of a direction
 
--- an epoch that is read comes line by line as it is
-abbrev pub as_it_is : Epoch → Epoch
-as_it_is epoch = epoch
-
 -- what the definitions say of a direction that reads RINEX, and keeps and writes this
 abbrev pub rinex_meaning : {K : Type 0} → Direction Epoch OpenEpoch K → (List (Item Epoch) → K)
-    → (List (Item Epoch) → FileUnit Epoch → List (List ℕ)) → Choices → Meaning Epoch Epoch OpenEpoch K Epoch
+    → (List (Item Epoch) → FileUnit Epoch → List (List ℕ)) → Choices → Meaning Epoch Epoch OpenEpoch K
 rinex_meaning direction kept_of unit_lines choices = record {
   direction = direction;
   choices = choices;
@@ -28,8 +24,6 @@ rinex_meaning direction kept_of unit_lines choices = record {
   open_with = rinex_open;
   kept_of = kept_of;
   unit_lines = unit_lines;
-  epoch_of = as_it_is;
-  epoch_read = as_it_is;
 }
 
 -- an epoch that is read is kept and written as it is

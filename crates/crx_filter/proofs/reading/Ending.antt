@@ -8,7 +8,7 @@ use Rattle.crx_filter.proofs.following.Lines.{IsStopped, stands, seen_after}
 use Rattle.crx_filter.specs.LineByLine.{end_step}
 pub use Rattle.crx_filter.proofs.following.Lines.{closes-well}
 
-module _ {E U O K V : Type 0} {m : Meaning E U O K V} (h : IsCarriedOut m) where
+module _ {E U O K : Type 0} {m : Meaning E U O K} (h : IsCarriedOut m) where
   -- the end after some items, and as it is fed
   abbrev EndsAs : List (Item E) → WholeReading E → Step O K → Type 0
   EndsAs items whole end = IsEndedBy (written_lines m.unit_lines items) (written_lines m.unit_lines

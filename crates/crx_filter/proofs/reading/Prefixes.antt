@@ -22,8 +22,8 @@ grown made one xs (x ∷ more) =
 
 -- the same in the words of a filter that goes line by line
 module _ {U O K : Type 0} {direction : Direction U O K} {closing_after : List InputLine → List (List ℕ)}
-    {state_after : List ReadLine → RunState O K} {outgrows : List InputLine → InputLine → _}
-    {filter : Filter} (goes : GoesLineByLine direction closing_after state_after outgrows filter)
+    {state_after : List ReadLine → RunState O K}
+    {filter : Filter} (goes : GoesLineByLine direction closing_after state_after filter)
     (lines more : List InputLine) where
   pub output-grows : Begins (filter.so_far (lines ++ more)).output (filter.so_far lines).output
   output-grows =

@@ -4,7 +4,7 @@ use Rattle.crx_filter.proofs.Words.{arith, length-drop, ReadLine, Place, FileUni
 use Rattle.crx_filter.proofs.Words.{header_has_ended, records_left, Reading, looked_for}
 use Rattle.crx_filter.proofs.Words.{reading_within, reading_from, IsReadForward}
 use Rattle.crx_filter.proofs.Words.{common_steps}
-use Rattle.crx_filter.proofs.{following.Lines.IsStopped, reading.Resuming.{by_place, here-within}}
+use Rattle.crx_filter.proofs.{following.Lines.IsStopped, reading.Resuming.{here-within}}
 use Rattle.crx_filter.proofs.reading.Resuming.{wrong-within, within-here, within-wrong, within-wanted}
 
 looked-stopped : {E : Type 0} (place : List (Item E) → List ReadLine → Place (FileUnit E))

@@ -21,7 +21,7 @@ use Rattle.crx_filter.specs.{CompactionByLine.is_before_header, declared.checkin
 use Rattle.crx_filter.specs.{DirectionParts.{DirectionParts, DirectionTakes, Reads}}
 use Rattle.crx_filter.specs.DirectionParts.{ComesAfter, brings_nothing, state_by}
 use Rattle.crx_filter.specs.LineByLine.{Quiet as LineQuiet}
-use Rattle.crx_filter.specs.{Rooms.{HaveTypes, LackTypes}, RinexReaders.RefusesRinexLine, Stages.is_ended}
+use Rattle.crx_filter.specs.{RinexReaders.RefusesRinexLine, Stages.is_ended}
 use Rattle.crx_filter.specs.{Totals.{totals_held, HasPrinted}, meaning.Directions.fault_so_far}
 use Rattle.crx_filter.specs.meaning.Standard.{Findings, report_lines}
 use Rattle.crx_header.specs.{Identifiers.has_identifier, meaning.Satellites.is_identifier}
@@ -87,17 +87,15 @@ has-printed phase types kept line is = subst HasPrinted (made-same phase types k
 
 module _ (serves : Choices → Type 0) (before after : RinexReader) (totals : Held) (content : List ℕ)
     (ready : List (List ℕ)) where
-  pub rejected-reads : {room : Type 0} (fault : Fault) → IsSameReader before after
+  pub rejected-reads : (fault : Fault) → IsSameReader before after
       → made_there before content ≡ Rejects fault → ready ≡ []
-      → Reads check_by_line serves (parts_with before (totals_held totals)) content room (Err fault) ready
+      → Reads check_by_line serves (parts_with before (totals_held totals)) content (Err fault) ready
       (parts_with after (totals_held totals))
   rejected-reads fault same rejects none = grind (arith, common_steps, made-same)
 
   pub refused-reads : (fault : Fault) → IsSameReader before after → is_open_stage before.stage ≡ false
-      → RefusesRinexLine (made_there before content) before content
-      (LackTypes before.stage before.types) fault
-      → ready ≡ [] → Reads check_by_line serves (parts_with before (totals_held totals)) content
-      (HaveTypes before.stage before.types) (Err fault) ready
+      → RefusesRinexLine (made_there before content) before content fault
+      → ready ≡ [] → Reads check_by_line serves (parts_with before (totals_held totals)) content (Err fault) ready
       (parts_with after (totals_held totals))
   refused-reads fault same closed refuses none = grind (arith, common_steps, rejected-reads, false≢true)
 
@@ -165,9 +163,9 @@ module _ (before after : RinexReader) (old new : Noted) (line : InputLine) (numb
         (checked-on lines line).next,
       )
 
-  pub noted-takes : {served : Choices → Type 0} {room : Type 0} {ready : List (List ℕ)} → ready ≡ []
+  pub noted-takes : {served : Choices → Type 0} {ready : List (List ℕ)} → ready ≡ []
       → DirectionTakes check_by_line (λ choices. no_choices) (λ choices. check_reading) served
-      (parts_with before (totals_held old.totals)) number line room (Ok false) ready
+      (parts_with before (totals_held old.totals)) number line (Ok false) ready
       (parts_with after (totals_held new.totals)) (λ choices. true) (old.totals.epochs + old.totals.events)
       (new.totals.epochs + new.totals.events)
       (λ choices lines. old.not_standard ≡ first_not_standard 1 lines (printed_so_far lines))
@@ -189,11 +187,11 @@ module _ (before after : RinexReader) (old new : Noted) (line : InputLine) (numb
 -- or has refused a line as its reader did
 pub refused-takes : {served : Choices → Type 0} {before after : DirectionParts OpenEpoch Totals}
     {number count : ℕ}
-    {line : InputLine} {room : Type 0} {fault : Fault} {ready : List (List ℕ)}
+    {line : InputLine} {fault : Fault} {ready : List (List ℕ)}
     {knows : Choices → List InputLine → Type 0}
-    → Reads check_by_line served before line.content room (Err fault) ready after
+    → Reads check_by_line served before line.content (Err fault) ready after
     → DirectionTakes check_by_line (λ choices. no_choices)
-    (λ choices. check_reading) served before number line room
+    (λ choices. check_reading) served before number line
     (Err fault) ready after (λ choices. true) count count knows knows
 refused-takes reads = grind (arith, common_steps)
 

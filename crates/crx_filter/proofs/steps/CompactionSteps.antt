@@ -1,19 +1,12 @@
 -- What a compaction makes of a line: a fault, another stage, a line that is copied, or an epoch.
 use Rattle.crx_filter.proofs.Words.{common_steps, arith, ◌≡◌, ℕ, false, false≢true, true, List, Bool}
-use Rattle.crx_filter.proofs.Words.{ObservationEpoch, OpenEpoch, Observation, Made, Completes, epoch_open}
+use Rattle.crx_filter.proofs.Words.{ObservationEpoch, OpenEpoch, Made, epoch_open}
 use Rattle.crx_filter.proofs.Words.{is_open_stage, TakesRinexLine, RinexStep, Header}
 use Rattle.crx_filter.specs.declared.rinex_reader.RinexStep.TheVariants.{Event, Record}
 use Rattle.crx_filter.proofs.Words.{RinexReader}
-use Rattle.crx_compact.specs.Placing.{HaveTypesRoom}
-use Rattle.crx_filter.specs.{DirectionParts.{DirectionParts}, meaning.Memory.satellites_had}
-use Rattle.std.specs.Prelude.{⊤}
+use Rattle.crx_filter.specs.DirectionParts.{DirectionParts}
 
 -- ---- a line's step, by the reader
-
--- what a line adds has room
-abbrev pub AddsHeld : List (List ℕ × ℕ) → Made ObservationEpoch OpenEpoch → Type 0
-AddsHeld rooms (Completes (Observation epoch)) = HaveTypesRoom (satellites_had epoch) rooms
-AddsHeld rooms made = ⊤
 
 -- what is there between two lines, by the reader and what is kept of the epochs
 abbrev pub parts_with : {K : Type 0} → RinexReader → K → DirectionParts OpenEpoch K

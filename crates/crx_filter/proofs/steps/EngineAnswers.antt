@@ -7,11 +7,11 @@ use proofs.Words.{Result, Ok, Err, refl, ap, sym, subst, ◌∙◌, append-nil, 
 use proofs.Words.{InputLine, is_long, ReadLine, Content, Overlong, as_read, At, LINE_LIMIT}
 use proofs.Words.{Choices, step_made, Steps, is_again, fed_once, fed_twice, fed, LookingOn}
 use proofs.Words.{RunState, Direction, Made, Rejects, Notice, LineStep, made_in, is_in_epoch}
-use proofs.Words.{is_skipped_in, step_of_made, state_next, takes_memory, can_go_on, ◌++◌}
-use proofs.Words.{by_bool, Completes, false≢true, answer_of_step, noticed_by, false-true}
-use proofs.Words.{failed_by, Bool}
-use Rattle.std.specs.Prelude.{IfOk}
-use Rattle.crx_filter.specs.DirectionParts.{EngineParts, HasEnough, IsAfterLines, ComesAfter}
+use proofs.Words.{is_skipped_in, step_of_made, state_next, can_go_on, ◌++◌}
+use proofs.Words.{by_bool, Completes, answer_of_step, noticed_by, false-true}
+use proofs.Words.{failed_by, Phase}
+use Rattle.std.specs.Prelude.{IfOk, Bool, ◌&&◌}
+use Rattle.crx_filter.specs.DirectionParts.{EngineParts, IsAfterLines, ComesAfter}
 use Rattle.crx_filter.specs.EngineLaws.{GoesLineByLine, IsLawfulDirection}
 use Rattle.crx_filter.specs.{EngineLines.HasTaken, EngineSteps.out_of_memory}
 use Rattle.crx_filter.specs.EngineState.{EngineGoes, KnowsAfter, TakesEnd, TakesLine}
@@ -21,6 +21,7 @@ use Rattle.crx_filter.specs.{Laws.{Fed, is_ready}, LineByLine.{Answer, Failed, s
 use Rattle.crx_filter.specs.declared.direction.Direction.{Ghosts}
 use Rattle.crx_runs.specs.Engines.{Awaited, IsAwaited, awaited_notices, EngineAnswers}
 use Rattle.crx_runs.specs.{declared.engine.Step.{Step, TheVariants.Warned}, meaning.Filters.Filter}
+use Rattle.crx_filter.specs.{LineByLine.noticed_again, Memory.may_reserve}
 use proofs.Pending.{again-lines, quiet-next, taken-either}
 use proofs.steps.StepCounts.{steps-choices}
 use proofs.following.Following.{fed-once as feeds-once, fed-twice as feeds-twice, failed-ends, failed-skipped}
@@ -58,6 +59,15 @@ pub comes-again : {U O K : Type 0}
 comes-again direction before next line at handed_out e = again-by-made direction before next line at
     handed_out (made_in direction before.phase before.types before.kept line) e
 
+-- ---- a line at which memory may run out
+
+reserves-stay : {O : Type 0} (first next : Bool) (phase : Phase O) (line : ReadLine)
+    → may_reserve first next phase line ≡ true → (is_in_epoch phase && can_go_on line) ≡ false
+reserves-stay first next phase line may = grind (arith, common_steps)
+
+once-again : (answer : Answer) → is_again answer ≡ false → noticed_again answer ≡ []
+once-again answer e = grind (arith, common_steps)
+
 -- ---- one answer
 
 -- the warnings of a line that is fed twice, oldest first
@@ -70,9 +80,8 @@ failed-is : (result : Result Step At) (at : At) → answer_of_step result ≡ Fa
 failed-is result at is = grind (arith, common_steps)
 
 module _ {U O K : Type 0} {direction : Direction U O K} {closing_after : List InputLine → List (List ℕ)}
-    {state_after_lines : List ReadLine → RunState O K} {needs : List InputLine → InputLine → Bool}
-    {filter : Filter}
-    (goes : GoesLineByLine direction closing_after state_after_lines needs filter)
+    {state_after_lines : List ReadLine → RunState O K} {filter : Filter}
+    (goes : GoesLineByLine direction closing_after state_after_lines filter)
     (has_ended : List InputLine → Type 0) where
   -- ---- a line that is fed once, or comes a second time
 
@@ -157,27 +166,48 @@ module _ {U O K : Type 0} {direction : Direction U O K} {closing_after : List In
         | inr h ↦ rw h.1 (second-time lines line shows now ready showing h.0 before result h.2 e)
       ]
 
-  -- memory that ran out where the line needs more is one
+  quiet-there : (state : RunState O K) (line : ReadLine) (made : Made U O)
+      → (is_in_epoch state.phase && can_go_on line) ≡ false
+      → is_again (step_of_made direction state line made).answer ≡ false
+  quiet-there state line made e = grind (arith, common_steps)
+
+  -- a line at which memory may run out doesn't come a second time
+  reserves-once : (first next : Bool) (before : RunState O K) (line : ReadLine) → may_reserve first next before.phase
+      line ≡ true → noticed_again (state_next direction before line).answer ≡ []
+  reserves-once first next before line may = once-again (state_next direction before line).answer
+      (quiet-there before line (made_in direction before.phase before.types before.kept line)
+      (reserves-stay first next before.phase line may))
+
+  -- memory that ran out is one
   answers-lost : (shows : List InputLine → List Awaited → Type 0) (before now : RunState O K)
       (lines : List InputLine) (notices : List Awaited) (line : InputLine) (ready : List (List ℕ))
       (result : Result Step At) → HasTaken direction state_after_lines before lines notices
-      → IsAwaited notices line → needs lines line ≡ true → takes_memory direction before (as_read line) ≡ true
+      → IsAwaited notices line → may_reserve direction.reserves_first direction.reserves_next before.phase (as_read line) ≡ true
       → step_made result ready now ≡ out_of_memory direction before
       → EngineAnswers filter shows has_ended ready lines notices (Some line) result
-  answers-lost shows before now lines notices line ready result taken awaited needed allowed made =
+  answers-lost shows before now lines notices line ready result taken awaited allowed made =
       let is = failed-is result _ (ap (λ (s : LineStep O K). s.answer) made) in
       elim (taken-either direction state_after_lines before lines notices line taken awaited) as
       (λ _. EngineAnswers filter shows has_ended ready lines notices (Some line) result) [
         | inl h ↦
-            let allows =
-            subst (λ (s : RunState O K). takes_memory direction s (as_read line) ≡ true) h.1 allowed in
             let same = ap (λ (s : RunState O K). s.number) h.1 ∙ goes.number lines in
-            rw (h.0, is) (inl (refl, ap (λ n. n + 1) same, goes.memory_first lines line needed allows))
+            rw (h.0, is) (inl (
+              refl,
+              ap (λ n. n + 1) same,
+              goes.cut lines line ∙ ap Some (reserves-once _ _ _ (as_read line)
+                  (subst (λ (s : RunState O K). may_reserve direction.reserves_first direction.reserves_next s.phase
+                  (as_read line) ≡ true) h.1 allowed)),
+            ))
         | inr h ↦
             let again = comes-again direction (state_after_lines (map as_read lines)) before _ h.0 [] h.2 in
             let same = again.number ∙ goes.number lines in
             rw (h.1, is)
-            (inl (refl, ap (λ n. n + 1) same, goes.memory_again lines line before h.0 needed h.2 allowed))
+            (inl (
+              refl,
+              ap (λ n. n + 1) same,
+              goes.cut lines line
+                  ∙ ap (λ (s : LineStep O K). Some (noticed_again s.answer)) (sym h.2),
+            ))
       ]
 
   -- ---- the end of the input
@@ -210,9 +240,8 @@ as-read-within line bytes h e = grind (arith, common_steps, as-read-short, short
 -- ---- an engine with its choices
 
 module _ {U O K : Type 0} {direction : Direction U O K} {closing_after : List InputLine → List (List ℕ)}
-    {state_after_lines : List ReadLine → RunState O K} {needs : List InputLine → InputLine → Bool}
-    {filter : Filter}
-    (goes : GoesLineByLine direction closing_after state_after_lines needs filter) where
+    {state_after_lines : List ReadLine → RunState O K} {filter : Filter}
+    (goes : GoesLineByLine direction closing_after state_after_lines filter) where
   -- the count of an engine that has taken some lines is that of the lines
   pub taken-lines : (now : RunState O K) (lines : List InputLine) (notices : List Awaited)
       → HasTaken direction state_after_lines now lines notices → now.number ≡ length lines
@@ -233,11 +262,9 @@ answers-known knows lines line filter shows has_ended ready notices result known
 
 -- an engine goes as its direction does
 pub goes-on : {D : Type 0} (d : Ghosts D) (e : EngineParts D) → d.chosen e.options ≡ e.options
-    → IsLawfulDirection d.by_line d.chosen d.closing_after d.state_after_lines d.needs_more d.filter
-    → HasEnough d.by_line d.chosen d.state_after_lines d.needs_more (d.parts e.direction) (d.notes
-    e.direction) (d.has_room e.direction) → EngineGoes d e
-goes-on d e chosen lawful enough =
-    record { chosen = chosen; lawful = lawful e.options chosen; enough = enough }
+    → IsLawfulDirection d.by_line d.chosen d.closing_after d.state_after_lines d.filter
+    → EngineGoes d e
+goes-on d e chosen lawful = record { chosen = chosen; lawful = lawful e.options chosen }
 
 module _ {D : Type 0} (d : Ghosts D) (before : EngineParts D) (goes : EngineGoes d before) where
   -- an engine that has taken some lines has come to them
@@ -251,7 +278,7 @@ module _ {D : Type 0} (d : Ghosts D) (before : EngineParts D) (goes : EngineGoes
       → ComesAfter d.by_line d.chosen d.state_after_lines before.options lines line (d.parts before.direction)
   given-line lines notices line took awaited = grind (arith, common_steps, taken-lines)
 
--- a line that an engine took is answered as its filter says: where memory runs out, the line needs more
+-- a line that an engine took is answered as its filter says, or memory ran out
 pub line-answered : {D : Type 0} (d : Ghosts D) (before after : EngineParts D) (has_ended : List InputLine →
     Type 0) {ready : List (List ℕ)} (line : InputLine) (read : ReadLine) (result : Result Step At) → as_read
     line ≡ read
@@ -270,27 +297,18 @@ line-answered d before after has_ended {ready = ready} line read result is takes
     same = steps-choices d.by_line (engine_state d before) (engine_state d after) read ready result
         takes.steps
 
-    answered : Steps d.by_line (engine_state d before) read (d.has_room before.direction line.content) result
+    answered : Steps d.by_line (engine_state d before) read result
         ready (engine_state d after) → EngineAnswers (d.filter before.options) (engine_seen d after) has_ended
         ready lines notices (Some line) result
     answered (inl made) = answers-step takes.goes.lawful has_ended (engine_seen d after) (engine_state d
         before) (engine_state d after) lines notices line ready result (λ ls ns then. subst (λ (c : Choices).
         HasTaken d.by_line (d.state_after_lines c) (engine_state d after) ls ns) (sym same) then) took.0
         awaited (made ∙ ap (state_next d.by_line (engine_state d before)) (sym is))
-    answered (inr (allowed, lacked, made)) =
-        let may : takes_memory d.by_line (engine_state d before) (as_read line) ≡ true = rw (is) allowed in
-        let needed : d.needs_more before.options lines line ≡ true = grind (
-          arith,
-          common_steps,
-          by_bool,
-          false≢true,
-          as-read-long,
-          given-line d before takes.goes lines notices line,
-          lacked,
-          takes.goes.enough,
-        ) in
+    answered (inr (allowed, made)) =
+        let may : may_reserve d.by_line.reserves_first d.by_line.reserves_next (engine_state d before).phase
+        (as_read line) ≡ true = rw (is) allowed in
         answers-lost takes.goes.lawful has_ended (engine_seen d after) (engine_state d before)
-        (engine_state d after) lines notices line ready result took.0 awaited needed may made
+        (engine_state d after) lines notices line ready result took.0 awaited may made
 
 -- and so is the end of the input
 pub end-answered : {D : Type 0} (d : Ghosts D) (before after : EngineParts D)

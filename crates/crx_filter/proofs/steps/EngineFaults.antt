@@ -6,7 +6,7 @@ use Words.{Ok, Err, Content, Overlong, At, Fault, LineTooLong}
 use Words.{OutOfMemory, Count, Choices, RunState, Direction}
 use Words.{Rejects, made_in, is_skipped_in, may_skip, is_skippable, failed_step, state_next}
 use Words.{begins_epoch, step_made, is_held, phase_of_stage, Stage, false≢true, InputLine}
-use Words.{ReadLine, Steps, as_read, length, LINE_LIMIT, ◌≤◌, refl}
+use Words.{ReadLine, Steps, as_read, length, LINE_LIMIT, ◌≤◌, refl, sym, ap, ◌∙◌, inl, inr, step_of_made}
 use specs.DirectionParts.{DirectionParts, state_by, Reads, AnswersToFault, handed_out_by}
 use specs.{DirectionParts.{EngineParts, KnowsStill}, EngineState.{EngineGoes, TakesLine}}
 use specs.{EngineState.{engine_ready, engine_state}, declared.direction.Direction.Ghosts}
@@ -26,12 +26,12 @@ after-error result is = grind (arith, common_steps)
 module _ {U O K : Type 0} (direction : Direction U O K) where
   -- a line was taken that hands something out, or nothing
   pub handed-line : (serves : Choices → Type 0) (choices : Choices) (last : ℕ)
-      (before parts : DirectionParts O K) (line : List ℕ) (room : Type 0) (out : HandedOut)
+      (before parts : DirectionParts O K) (line : List ℕ) (out : HandedOut)
       (stored : Result Step At) (ready : List (List ℕ)) → serves choices
-      → Reads direction serves before line room (hands_out (Ok out)) (handed_out_by (Ok out) line ready) parts
-      → Steps direction (state_by choices last before) (Content line) room (answer_given (Some out) stored)
+      → Reads direction serves before line (hands_out (Ok out)) (handed_out_by (Ok out) line ready) parts
+      → Steps direction (state_by choices last before) (Content line) (answer_given (Some out) stored)
       (lines_handed_out (Some out) line ready) (state_by choices (last + 1) parts)
-  handed-line serves choices last before parts line room out stored ready chosen reads =
+  handed-line serves choices last before parts line out stored ready chosen reads =
       grind (arith, common_steps, reads.takes choices last chosen)
 
   never-skipped : (state : RunState O K) → is_skipped_in state OutOfMemory ≡ false
@@ -44,13 +44,21 @@ module _ {U O K : Type 0} (direction : Direction U O K) where
 
   -- a line was refused: with its fault, or because memory ran out
   refused-line : (choices : Choices) (last : ℕ) (fault : Fault) (serves : Choices → Type 0)
-      (before parts : DirectionParts O K) (line : List ℕ) (room : Type 0) (result : Result Step At)
+      (before parts : DirectionParts O K) (line : List ℕ) (result : Result Step At)
       (given ready : List (List ℕ)) (after : RunState O K) → step_made result ready after
       ≡ failed_step direction (state_by choices last before) (Content line) fault
-      → Reads direction serves before line room (Err fault) given parts
-      → Steps direction (state_by choices last before) (Content line) room result ready after
-  refused-line choices last fault serves before parts line room result given ready after stopped reads =
-      grind (arith, common_steps, failed-ends, never-skipped)
+      → Reads direction serves before line (Err fault) given parts
+      → Steps direction (state_by choices last before) (Content line) result ready after
+  refused-line choices last fault serves before parts line result given ready after stopped reads =
+      let state : RunState O K = state_by choices last before in
+      elim reads.refuses [
+        | inl made ↦ inl (stopped ∙ sym (ap (step_of_made direction state (Content line)) made))
+        | inr out ↦ inr (
+          out.1,
+          stopped ∙ ap (failed_step direction state (Content line)) out.0
+              ∙ failed-ends direction state (Content line) OutOfMemory (never-skipped state),
+        )
+      ]
 
   -- a line that is too long is a fault wherever lines are read
   made-too_long : ((types : List Count) (kept : K) → direction.begins types kept Overlong ≡ Rejects
@@ -120,8 +128,7 @@ module _ {D : Type 0} (d : Ghosts D) (before after : EngineParts D) (line : Inpu
   pub refused-takes : (fault : Fault) (read : ReadLine) (result : Result Step At) (ready : List (List ℕ))
       → step_made result ready (engine_state d after) ≡ failed_step d.by_line (engine_state d before) read
       fault
-      → as_read line ≡ read → Steps d.by_line (engine_state d before) read (d.has_room before.direction
-      line.content) result ready (engine_state d after) → TakesLine d before line read result ready after
+      → as_read line ≡ read → Steps d.by_line (engine_state d before) read result ready (engine_state d after) → TakesLine d before line read result ready after
   refused-takes fault read result ready stopped is steps = record {
     goes = goes;
     steps = steps;
@@ -136,8 +143,7 @@ module _ {D : Type 0} (d : Ghosts D) (before after : EngineParts D) (line : Inpu
       → AnswersToFault d.by_line before.options (before.number + 1) stage fault goes_on parts after.answer
       (engine_ready d after) (engine_state d after) → (d.parts before.direction).stage ≡ stage
       → is_held stage (d.parts before.direction).begun ≡ true → begins_epoch line.content ≡ goes_on
-      → Reads d.by_line serves (d.parts before.direction) line.content
-      (d.has_room before.direction line.content) (Err fault) given parts
+      → Reads d.by_line serves (d.parts before.direction) line.content (Err fault) given parts
       → TakesLine d before line (Content line.content) after.answer (engine_ready d after) after
   refused-read {fault = fault} short fails was held goes_on reads =
       let stopped = fails (d.parts before.direction) (Content line.content) before.number
@@ -145,4 +151,4 @@ module _ {D : Type 0} (d : Ghosts D) (before after : EngineParts D) (line : Inpu
       in
       refused-takes fault _ _ _ stopped (as-read-within line line.content short refl)
       (refused-line d.by_line before.options before.number fault _ (d.parts before.direction) _
-      line.content _ _ _ _ _ stopped reads)
+      line.content _ _ _ _ stopped reads)

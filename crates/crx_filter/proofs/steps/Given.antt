@@ -2,14 +2,11 @@
 -- seen
 -- then.
 use Rattle.crx_filter.proofs
-use proofs.Words.{common_steps, arith, ◌≡◌, ◌⊎◌, inl, inr, true, List, [], map, length, Option}
-use proofs.Words.{InputLine}
-use proofs.Words.{ReadLine, as_read, Choices, Item, Reading, types_in_force, RunState, Direction, phase_of}
-use proofs.Words.{phase_of_stage}
+use proofs.Words.{◌≡◌, ◌⊎◌, inl, inr, List, [], map, length, InputLine, ReadLine, as_read, Choices, RunState}
+use proofs.Words.{Direction}
 use Rattle.crx_filter.specs.DirectionParts.{DirectionParts, ComesAfter, state_by}
-use Rattle.crx_filter.specs.{Rooms.do_types_count, meaning.Memory.are_types_awaited}
 use proofs.Pending.{taken-either}
-use proofs.steps.{EngineAnswers.{ComesAgain, comes-again}, Enough.{types-awaited}}
+use proofs.steps.EngineAnswers.{ComesAgain, comes-again}
 
 module _ {U O K : Type 0} (direction : Direction U O K) {chosen : Choices → Choices}
     (state_after : Choices → List ReadLine → RunState O K) (choices : Choices) (lines : List InputLine)
@@ -28,16 +25,3 @@ module _ {U O K : Type 0} (direction : Direction U O K) {chosen : Choices → Ch
         | inl h ↦ inl h.1
         | inr h ↦ inr (comes-again direction before seen (as_read line) h.0 [] h.2)
       ]
-
-  -- the types in force are the same
-  pub types-there : parts.types ≡ before.types
-  types-there = grind (arith, common_steps, given-either)
-
-  -- where types lines count and there are none, the first one is awaited
-  pub counts-there : {E : Type 0} (open_with : List (Item E) → List ReadLine → Option O) (r : Reading E)
-      → before.types ≡ types_in_force r.items → (do_types_count parts.stage ≡ true
-      → phase_of_stage parts.begun parts.stage ≡ before.phase
-      → phase_of_stage parts.begun parts.stage ≡ phase_of open_with r)
-      → do_types_count parts.stage ≡ true → parts.types ≡ [] → are_types_awaited r.items ≡ true
-  counts-there open_with r types phase counts none =
-      grind (arith, common_steps, given-either, types-awaited, types-there)

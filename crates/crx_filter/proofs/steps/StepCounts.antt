@@ -27,27 +27,26 @@ module _ {U O K : Type 0} (direction : Direction U O K) (before now : RunState O
   made-choices made step = grind (arith, common_steps)
 
   -- how many lines were taken after a line
-  pub steps-counted : {room : Type 0} → Steps direction before line room result ready now
+  pub steps-counted : Steps direction before line result ready now
       → IfOk result (λ s. now.number ≡ taken_after s before.number)
   steps-counted (inl step) = made-counted (made_in direction before.phase before.types before.kept line) step
   steps-counted (inr out) = grind (arith, common_steps, taken_after)
 
   -- the choices stay
-  pub steps-choices : {room : Type 0} → Steps direction before line room result ready now
+  pub steps-choices : Steps direction before line result ready now
       → now.choices ≡ before.choices
   steps-choices (inl step) = made-choices (made_in direction before.phase before.types before.kept line) step
   steps-choices (inr out) = grind (arith, common_steps)
 
   -- lines are borrowed only where they are said to be ready
-  steps-drained : {room : Type 0} → Steps direction before line room result ready now
+  steps-drained : Steps direction before line result ready now
       → IfOk result (λ s. IsDrainedAfter s ready) × OnErr result (ready ≡ [])
   steps-drained (inl step) =
       drained-where ready result (quiet-next direction before line (step_made result ready now) step)
   steps-drained (inr out) = grind (arith, common_steps)
 
   -- so an engine has stepped by its filter
-  pub has-stepped : {room : Type 0} (filter : Choices → Filter) → Steps direction before line room result
-      ready now
+  pub has-stepped : (filter : Choices → Filter) → Steps direction before line result ready now
       → HasStepped (filter before.choices) (filter now.choices) ready result
   has-stepped filter steps =
       let drained = steps-drained steps in

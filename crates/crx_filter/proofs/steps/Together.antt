@@ -1,17 +1,16 @@
 -- How the parts of a compaction belong together after a line, and what is said of a row that it takes.
 use Rattle.crx_filter.proofs.Words
 use Words.{common_steps, arith, ◌≡◌, ◌++◌, ◌∷◌, [], ℕ, Bool, true, false, not, List}
-use Words.{Fault, OutOfMemory, None, Ok, sym, ap, subst, ◌∙◌, true≢false, false≢true}
+use Words.{Fault, OutOfMemory, None, Ok, sym, ap, ◌∙◌, true≢false, false≢true}
 use Words.{length, begins_epoch, has_satellite, ObservationEpoch, OpenEpoch}
 use Words.{row_of, Written, made_at, CompletedEpoch, IsSameReader, MovesReader, TakesRow, Made}
 use Words.{is_open_stage, RinexReader, Stage, Row as ObservationRow}
-use Rattle.crx_compact.specs.{Encoding.{EncoderState, forgotten}, Placing.{HasRoom, HaveRoom, KeepsRooms}}
+use Rattle.crx_compact.specs.Encoding.{EncoderState, forgotten}
 use Rattle.crx_filter.proofs.steps.RowSteps.{taken-from}
-use Rattle.std.proofs.lemmas.List.Elements.{All-nil, All-push}
 use Rattle.crx_base.specs.declared.limits.TheConstants.{SATELLITES_LIMIT}
 use Rattle.crx_filter.specs.CompactionParts.{BelongTogether, HasRefusedRow, HasWholeEpoch, HasWrittenRow}
 use Rattle.crx_filter.specs.{CompactionParts.is_full_where_due, RinexReaders.{BeginsEpoch, RefusesRinexLine}}
-use Rattle.crx_filter.specs.{Rooms.HasRoomForRow, RinexStages.rows_open}
+use Rattle.crx_filter.specs.{RinexStages.rows_open}
 use Rattle.std.{specs.Prelude.{◌<◌, ◌+◌}}
 
 -- ---- by the stage
@@ -40,9 +39,8 @@ closed-together reader encoder closed ended none = grind (arith, common_steps, t
 
 -- an epoch is open
 open-together : (reader : RinexReader) (encoder : EncoderState) → is_open_stage reader.stage ≡ true
-    → encoder.is_open ≡ true → encoder.rows ≡ reader.rows.rows → HaveRoom encoder.rows encoder.rooms
-    → BelongTogether reader encoder
-open-together reader encoder opened begun rows holds = grind (arith, common_steps, rows-opened)
+    → encoder.is_open ≡ true → encoder.rows ≡ reader.rows.rows → BelongTogether reader encoder
+open-together reader encoder opened begun rows = grind (arith, common_steps, rows-opened)
 
 -- the encoder has the rows that the reader has
 pub rows-there : (reader : RinexReader) (encoder : EncoderState) → BelongTogether reader encoder
@@ -76,42 +74,33 @@ module _ (before mid : RinexReader) (encoder new : EncoderState) (line : List �
     (together : BelongTogether before encoder) (same : IsSameReader before mid) where
   -- the row was written and taken
   pub row-written : (after : RinexReader) (is_last answer : Bool) (row : ObservationRow)
-      → HasRoom row.name (length row.values) new.rooms → KeepsRooms encoder.rooms new.rooms
       → is_open_stage before.stage ≡ true → row_of before.types line ≡ Ok mid.row → begins_epoch line ≡ false
       → row ≡ mid.row → answer ≡ not (has_satellite row.name encoder.rows) → answer ≡ true → new ≡ record
-      encoder { rows = encoder.rows ++ row ∷ []; rooms = new.rooms } → ((l : List ℕ) (kept : Written) → row_of
+      encoder { rows = encoder.rows ++ row ∷ [] } → ((l : List ℕ) (kept : Written) → row_of
       mid.types l ≡ Ok mid.row → begins_epoch l ≡ false → has_satellite mid.row.name mid.rows.rows ≡ false
       → TakesRow (made_at mid l kept) is_last mid after) → after.rows.rows ≡ mid.rows.rows ++ mid.row ∷ []
       → HasWrittenRow before encoder line is_last after new
-  row-written after is_last answer row taken kept opened read other same_row said fresh written takes added =
+  row-written after is_last answer row opened read other same_row said fresh written takes added =
       let there = rows-there before encoder together opened in
-      let holds = together.held (together.opened ∙ opened) in
       record {
         takes = λ kept. taken-from before mid after line kept is_last same (takes line kept
             (ap (λ ts. row_of ts line) same.types ∙ read) other (row-known answer row mid.row encoder.rows
             mid.rows.rows said same_row (there ∙ sym same.rows) ∙ ap not fresh));
         written = grind (arith, common_steps, there);
-        held = subst (λ (rs : List ObservationRow). HaveRoom rs new.rooms)
-            (sym (ap (λ (e : EncoderState). e.rows) written))
-            (All-push (λ (r : ObservationRow). HasRoom r.name (length r.values) new.rooms) encoder.rows row
-            (λ i d within. kept _ _ (holds i d within)) taken);
-        kept = kept;
       }
 
   -- nothing has changed
   pub row-refused : (fault : Fault) → new ≡ encoder → encoder.pending ≡ []
-      → ((kept : Written) → RefusesRinexLine (made_at before line kept) before line
-      (HasRoomForRow before.types line encoder.rooms → ⊥) fault)
+      → ((kept : Written) → RefusesRinexLine (made_at before line kept) before line fault)
       → HasRefusedRow before encoder line fault mid new
   row-refused fault is none refuses = grind (arith, common_steps, same-together)
 
   -- everything was forgotten
-  pub row-lost : (after : RinexReader) → KeepsRooms encoder.rooms new.rooms
-      → new ≡ record (forgotten encoder []) { rooms = new.rooms } → after.types
+  pub row-lost : (after : RinexReader) → new ≡ forgotten encoder [] → after.types
       ≡ mid.types → is_open_stage after.stage ≡ false → ((kept : Written) → RefusesRinexLine (made_at before
-      line kept) before line (HasRoomForRow before.types line encoder.rooms → ⊥) OutOfMemory)
+      line kept) before line OutOfMemory)
       → HasRefusedRow before encoder line OutOfMemory after new
-  row-lost after kept is typed closed refuses =
+  row-lost after is typed closed refuses =
       grind (arith, common_steps, closed-together, forgotten, served-closed)
 
 -- ---- a row that was taken and written
@@ -131,7 +120,7 @@ module _ {before after : RinexReader} {encoder new : EncoderState} {line : List 
 
     pub row-together : is_last ≡ false → BelongTogether after new
     row-together is = open-together after new (row-moves (record { index = 0; tail = None }) is).1 still-open
-        (ap (λ (e : EncoderState). e.rows) row.written) row.held
+        (ap (λ (e : EncoderState). e.rows) row.written)
 
     -- what the epoch's end asks for
     pub row-asked : is_last ≡ true → HasWholeEpoch after new
@@ -154,11 +143,8 @@ module _ {made : Made ObservationEpoch OpenEpoch} {before after : RinexReader} (
   pub begun-rows : new.rows ≡ after.rows.rows
   begun-rows = ap (λ (e : EncoderState). e.rows) begun ∙ sym begins.0
 
-  pub begun-holds : HaveRoom new.rows new.rooms
-  begun-holds = rw begun (All-nil (λ (r : ObservationRow). HasRoom r.name (length r.values) encoder.rooms))
-
   pub begun-together : is_open_stage after.stage ≡ true → BelongTogether after new
-  begun-together opened = grind (arith, common_steps, open-together, begun-rows, begun-holds)
+  begun-together opened = grind (arith, common_steps, open-together, begun-rows)
 
   pub begun-asked : is_open_stage after.stage ≡ false → HasWholeEpoch after new
   begun-asked closed = grind (arith, common_steps, begun-whole, begun-rows)

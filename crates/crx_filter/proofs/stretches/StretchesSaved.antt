@@ -1,6 +1,6 @@
 -- What an expansion that skips faults writes and reports of a text that is damaged in stretches.
 use Rattle.crx_filter.proofs
-use proofs.Words.{ℕ, ◌≡◌, ◌+◌, true, List, [], ◌++◌, map, reverse, None, refl, arith}
+use proofs.Words.{ℕ, ◌≡◌, true, List, [], ◌++◌, map, reverse, None, refl, arith}
 use proofs.Words.{append-nil, lines_of, lines_text, ReadLine, Content, as_read, Epoch, FileUnit, ReadEpoch}
 use proofs.Words.{Choices, Item, Reading, reading_from, ended_reading, compact_place, expanded, common_steps}
 use proofs.Words.{whole_compact, printed_items, warnings_in}

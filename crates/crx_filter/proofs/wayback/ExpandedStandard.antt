@@ -4,14 +4,14 @@ use Rattle.crx_filter.proofs
 use proofs.Words.{common_steps, [], ℕ, ◌≡◌, Bool, true, List, ◌∷◌, ◌++◌, None}
 use proofs.Words.{refl, ap, ◌∙◌, arith, AllByRecursion, and_parts, not-true}
 use proofs.Words.{lines_text, ReadLine, Epoch}
-use proofs.Words.{Observation, printed_unit, ReadEpoch, Choices}
+use proofs.Words.{printed_unit, ReadEpoch, Choices}
 use proofs.Words.{compact_place, whole_compact, expanded_unit, Item}
 use proofs.Words.{Accepted, Warned, is_at_start, header_has_ended, records_left, records_count_types}
 use proofs.Words.{declaring_lines, WholeReading, printed_items}
 use proofs.Words.{HaveNoReturns, written_lines, ItemsAreRead}
 use proofs.{Words.{AreInPlace}, reading.Each.{all-parts}}
 use proofs.reading.{ForwardCompact.compact-forward}
-use proofs.accounts.OfText.{text-accounted}
+use proofs.accounts.{Copies.compact-copies, Told.text-told}
 use proofs.{reading.WhatWasRead.compact-whole_read}
 use proofs.wayback.{Converse.{lines-plain, all-plain}, Cut.{CanStand, OfContent, input-stands}}
 use proofs.wayback.{Cut.first-cut, ExpandedWhole.{AreGoodEpochs, compact-stands, epochs-good}}
@@ -20,7 +20,7 @@ use proofs.{wayback.First.{two-back, two-whole}}
 use proofs.wayback.Reading.{copied, of-copied, of-own}
 use proofs.wayback.{Standard.NoReturn, WayBack.{IsSettled, whole-closes}}
 use Rattle.crx_filter.specs.meaning.{Expanded.rinex_unit, WrittenStandard.{has_plain_lines, rinex_items}}
-use Rattle.crx_filter.specs.meaning.{Accounts.AreCleanLines, WrittenStandard.WhatIsExpandedIsStandard}
+use Rattle.crx_filter.specs.meaning.{WrittenStandard.WhatIsExpandedIsStandard}
 
 -- ---- the units of compact text, as units of RINEX, have the same header, events and types in force
 
@@ -64,14 +64,15 @@ pub read-settled : (skip : Bool) (lines : List ReadLine) → AllByRecursion (OfC
 read-settled skip lines h f =
     let items = (whole_compact skip lines).items in
     let read = compact-whole_read skip lines in
-    let (first, second, rest, is, own) = text-accounted skip lines f in
+    let (first, second, rest, is, kept, own) = text-told skip lines f in
     let two = two-back skip lines f in
     let whole = two-whole skip lines two in
     let closed = whole-closes compact_place compact-forward skip 3 two.rest (rw whole at f) in
     record {
       in_place = items-placed items read (epochs-good items read);
       copied = of-copied CanStand (rinex_items items)
-          (rw copied-read (of-own AreCleanLines CanStand items rest own (rw is at h).1.1));
+          (rw copied-read (of-own compact_place compact-copies CanStand 3 items rest kept own
+          (rw is at h).1.1));
       header = (read-as items).header ∙ rw whole closed.0;
       none = (read-as items).left ∙ rw whole closed.1;
     }

@@ -5,12 +5,12 @@ use Words.{[], ◌∷◌, ℕ, ◌≡◌, ◌≤◌, Bool, List, Option, AllByRe
 use Words.{Epoch, Item, HeaderLine}
 use Words.{EventLine, EventRecord, Observation, Accepted, Warned}
 use Words.{arith, common_steps}
-use Words.{None, whole_rinex, written_lines}
+use Words.{None, whole_rinex, written_lines, Place, FileUnit, WholeReading, rinex_place}
 use Rattle.crx_filter.proofs.{Words.OfCopiedLines, reading.{Each.all-parts}}
-use Rattle.crx_filter.proofs.accounts.OfFile.{file-accounted}
+use Rattle.crx_filter.proofs.accounts.{Copies.{CopiesLines, rinex-copies}, Told.file-told}
 use Rattle.crx_filter.proofs.wayback.{Cut.OfContent, Items.body_unit}
 use Rattle.crx_filter.proofs.wayback.{Returns.{returns_in, returns_read, read-append}}
-use Rattle.crx_filter.specs.meaning.Accounts.{AreLinesOfItems, AreRinexLines}
+use Rattle.crx_filter.specs.meaning.Fate.{OwnInOrder}
 
 -- ---- the lines written for the units, read again
 
@@ -28,21 +28,46 @@ copied (Accepted (EventRecord line) ∷ before) = line ∷ copied before
 copied (Accepted (Observation epoch) ∷ before) = copied before
 copied (Warned at ∷ before) = copied before
 
--- items own their lines: what holds of each line's content holds of each line that is copied
-pub of-own : {E : Type 0} (OfEpoch : E → List ReadLine → Type 0) (P : List ℕ → Type 0) (items : List (Item E))
-    (lines : List ReadLine) → AreLinesOfItems OfEpoch items lines → AllByRecursion (OfContent P) lines
+-- what holds of each line's content holds of each line that is copied
+pub of-own : {E : Type 0} (place : List (Item E) → List ReadLine → Place (FileUnit E)) → CopiesLines place
+    → (P : List ℕ → Type 0) (number : ℕ) (items : List (Item E)) (lines kept : List ReadLine)
+    → OwnInOrder place number items lines kept → AllByRecursion (OfContent P) lines
     → AllByRecursion P (copied items)
-of-own OfEpoch P [] lines h all = tt
-of-own OfEpoch P (item ∷ before) lines (front, own, is, mine, others) all =
-    grind (arith, common_steps, all-parts (OfContent P) front own, of-own OfEpoch P before front others)
+of-own place copies P number [] lines kept h all = tt
+of-own place copies P number (Accepted unit ∷ before) lines kept
+    (front, own, others, is, left, mine, rest) all =
+    grind (
+      arith,
+      common_steps,
+      all-parts (OfContent P) front own,
+      copies before own unit mine,
+      of-own place copies P number before front others rest,
+    )
+of-own place copies P number (Warned at ∷ before) lines kept (front, own, others, is, left, mine, rest) all =
+    grind (
+      arith,
+      common_steps,
+      all-parts (OfContent P) front own,
+      of-own place copies P number before front others rest,
+    )
 
 -- and the lines that are copied have no more bytes 13
-pub own-counted : {E : Type 0} (OfEpoch : E → List ReadLine → Type 0) (items : List (Item E))
-    (lines : List ReadLine)
-    → AreLinesOfItems OfEpoch items lines → returns_in (copied items) ≤ returns_read lines
-own-counted OfEpoch [] lines h = omega arith
-own-counted OfEpoch (item ∷ before) lines (front, own, is, mine, others) =
-    grind (arith, common_steps, read-append, own-counted OfEpoch before front others)
+pub own-counted : {E : Type 0} (place : List (Item E) → List ReadLine → Place (FileUnit E))
+    → CopiesLines place
+    → (number : ℕ) (items : List (Item E)) (lines kept : List ReadLine)
+    → OwnInOrder place number items lines kept → returns_in (copied items) ≤ returns_read lines
+own-counted place copies number [] lines kept h = omega arith
+own-counted place copies number (Accepted unit ∷ before) lines kept
+    (front, own, others, is, left, mine, rest) =
+    grind (
+      arith,
+      common_steps,
+      read-append,
+      copies before own unit mine,
+      own-counted place copies number before front others rest,
+    )
+own-counted place copies number (Warned at ∷ before) lines kept (front, own, others, is, left, mine, rest) =
+    grind (arith, common_steps, read-append, own-counted place copies number before front others rest)
 
 -- ---- of RINEX
 
@@ -55,4 +80,6 @@ pub whole-copied : (P : List ℕ → Type 0) (skip : Bool) (lines : List ReadLin
     → (whole_rinex skip lines).fault ≡ None
     → AllByRecursion (OfContent P) lines → OfCopiedLines P (whole_rinex skip lines).items
 whole-copied P skip lines f all =
-    grind (arith, common_steps, of-copied P, of-own AreRinexLines P, file-accounted skip lines f)
+    let (kept, own) = file-told skip lines f in
+    let items = WholeReading.items (whole_rinex skip lines) in
+    of-copied P items (of-own rinex_place rinex-copies P 1 items lines kept own all)

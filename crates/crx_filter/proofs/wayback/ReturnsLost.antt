@@ -8,16 +8,16 @@ use proofs.Words.{Observation, ReadEpoch, LinesCanStand, IsGood}
 use proofs.Words.{Choices, is_date, Item, Accepted, Warned, types_in_force, WholeReading}
 use proofs.Words.{compact_lines, version_line, program_line, compact_place}
 use proofs.Words.{first_lines, whole_compact, expanded_lines, AreInPlace}
-use proofs.Words.{HaveNoReturns, compact_unit, false, reading_from, whole_of, ap}
-use proofs.reading.{Each.{all-from}, Resuming.by_place, WhatWasRead.{compact-whole_read, of-ended}}
+use proofs.Words.{HaveNoReturns, compact_unit, false, reading_from, whole_of, ap, rinex_place}
+use proofs.reading.{Each.{all-from}, ForwardCompact.compact-forward, Resuming.by_place}
+use proofs.reading.WhatWasRead.{compact-whole_read, of-ended}
 use proofs.{anywriter.ComesBack.standard-where_kept, wayback.{Converse.epoch-printable, Items.epoch-stands}}
 use proofs.wayback.{Standard.same-reading, ExpandedWhole.{AreGoodEpochs, epochs-good}}
 use proofs.wayback.{WayBack.{IsSettled, whole-settled, lines-same, lines-hold}, Cut.{CanStand}}
 use proofs.wayback.Returns.{returns, returns-kept, returns-fewer, returns_in, read-append, total-append}
 use proofs.wayback.Returns.{in-printable, returns_read, returns_left, left-kept, read-written, in-text}
 use proofs.wayback.{Carried.started, Returns.{read-input, read-cut}, Reading.{copied, own-counted}}
-use proofs.accounts.{Reached.first-accounted, OfFile.file-accounted, OfText.owns-unit}
-use Rattle.crx_filter.specs.meaning.Accounts.{AreRinexLines, AreCleanLines}
+use proofs.accounts.{Fates.told, Told.file-told, Copies.{rinex-copies, compact-copies}}
 use proofs.wayback.First.{program-printable, program-clean, version-clean}
 use Rattle.{crx_filter.specs.WayBack.IsStandardWhereSame}
 use Rattle.{crx_header.specs.meaning.CompactHeader.lines_before_header}
@@ -84,13 +84,12 @@ compact-within : (skip : Bool) (lines : List ReadLine)
     → returns_in (copied (WholeReading.items (whole_compact skip lines))) ≤ returns_read lines
 compact-within skip lines = by_place (first_lines lines) (λ two count e. rw (e, whole_compact) (
     let r = reading_from compact_place skip [] (count + 1) (drop count lines) in
-    let (left, (front, is, own)) =
-    first-accounted AreCleanLines compact_place owns-unit skip (count + 1) (drop count lines) in
+    let (number, left, far, stops) = told compact_place compact-forward skip (count + 1) (drop count lines) in
     let few : returns_in (copied r.items) ≤ returns_read lines = omega (
       arith,
-      own-counted AreCleanLines r.items front own,
-      ap returns_read is,
-      read-append front left,
+      own-counted compact_place compact-copies (count + 1) r.items far.front far.kept far.own,
+      ap returns_read far.all_is,
+      read-append far.front left,
       read-cut count lines,
     ) in
     of-ended (λ items. returns_in (copied items) ≤ returns_read lines) skip r.items r.stop few
@@ -101,7 +100,8 @@ pub standard-where_same : (input : List ℕ) (compacting expanding : Choices)
     → IsStandardWhereSame input compacting expanding
 standard-where_same input compacting expanding dated good same =
     let lines = map as_read (lines_of input) in
-    let within = own-counted AreRinexLines (whole_of input).items lines (file-accounted false lines good) in
+    let (kept, own) = file-told false lines good in
+    let within = own-counted rinex_place rinex-copies 1 (whole_of input).items lines kept own in
     grind (
       arith,
       same-reading,

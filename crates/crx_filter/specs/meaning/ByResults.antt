@@ -7,6 +7,7 @@ use Rattle.crx_rinex.specs.meaning.Observations.{Epoch}
 use Rattle.crx_rinex.specs.meaning.Units.{Unit as FileUnit}
 use Rattle.crx_filter.specs.meaning.Accounts.{AccountsForFile, AccountsForText, HasShortBlocks}
 use Rattle.crx_filter.specs.meaning.CompactText.{IsCompactText, ReadsAnyText}
+use Rattle.crx_filter.specs.meaning.Fate.{LeavesLinesOut}
 use Rattle.crx_filter.specs.meaning.Compacted.{compacted}
 use Rattle.crx_filter.specs.meaning.Lossless.{SaysThatItComesBack}
 use Rattle.crx_filter.specs.meaning.Standard.{IsStandard, checked, normal_form, whole_of}
@@ -36,6 +37,8 @@ pub record CompactionKeeps (holds : FilterResult → Type 0) (choices : Choices)
       → normal_form other ≡ normal_form file → holds (compacted other choices)
   -- no line was lost in silence
   pub accounted : HasResult (AccountsForFile choices file) holds
+  -- to skip faults is to leave lines out
+  pub left_out : HasResult (LeavesLinesOut choices file) holds
   -- blocks are short
   pub blocks : HasResult (HasShortBlocks choices file) holds
 
@@ -55,7 +58,7 @@ pub record ExpansionKeeps (holds : FilterResult → Type 0) (skip : Bool) (text 
   -- what is written is a standard file, unless a line of it ends in CR
   pub standard : HasResult
       (λ result. result.fault ≡ None → has_plain_lines result.output ≡ true → IsStandard result.output) holds
-  -- no line was lost in silence, and no noise is in the lines of an epoch
+  -- no line was lost in silence
   pub accounted : HasResult (AccountsForText skip text) holds
 
 -- what a check of a file promises by its status

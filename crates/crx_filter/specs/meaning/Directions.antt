@@ -1,21 +1,21 @@
 -- Both directions and the check as filters: what is written and reported for the lines so far, and for all lines of an
--- input; and at which lines memory may run out. Lists of items have the newest first.
-use Rattle.std.specs.Prelude.{List, ℕ, ◌+◌, Bool, false, [], drop, map, reverse, Option, Some, None, if◌then◌else◌}
+-- input. Lists of items have the newest first.
+use Rattle.std.specs.Prelude.{List, ℕ, ◌+◌, Bool, false, [], drop, map, reverse, Option, Some, None}
 use Rattle.crx_base.specs.meaning.AsRead.{ReadLine, as_read}
 use Rattle.crx_base.specs.declared.fault.At.{At}
 use Rattle.crx_rinex.specs.meaning.Observations.{Epoch}
-use Rattle.crx_rinex.specs.meaning.Places.{Done, Fails, NeedsMore}
+use Rattle.crx_rinex.specs.meaning.Places.{Place, Done, Fails, NeedsMore}
 use Rattle.crx_rinex.specs.meaning.Units.{Unit}
 use Rattle.crx_compact.specs.meaning.CompactPlaces.{ReadEpoch}
 use Rattle.crx_base.specs.meaning.Choices.{Choices}
 use Rattle.crx_filter.specs.meaning.Items.{Item}
-use Rattle.crx_filter.specs.meaning.Reading.{Reading, AtFault, AtLines, fault_of_stop, reading_from}
+use Rattle.crx_filter.specs.meaning.Reading.{Reading, AtFault, AtLines, Looking, fault_of_stop, reading_from}
+use Rattle.crx_filter.specs.meaning.Reading.{is_skipped, can_go_on}
+use Rattle.std.specs.Prelude.{◌&&◌, ◌∷◌, ◌++◌, nat_lt, if◌then◌else◌}
 use Rattle.crx_runs.specs.meaning.Results.{Course}
 use Rattle.crx_filter.specs.meaning.Written.{written_lines, whole_course}
 use Rattle.crx_base.specs.meaning.Lines.{lines_text}
 use Rattle.crx_filter.specs.meaning.Written.{warnings_in}
-use Rattle.crx_filter.specs.meaning.Memory.{check_takes, compaction_outgrows, compaction_takes, expansion_outgrows}
-use Rattle.crx_filter.specs.meaning.Memory.{expansion_takes, memory_allowed}
 use Rattle.crx_filter.specs.meaning.Standard.{Findings, findings_of, report_lines, whole_reading_of}
 use Rattle.crx_base.specs.meaning.Lines.{InputLine}
 use Rattle.crx_runs.specs.meaning.Filters.{Filter}
@@ -44,9 +44,21 @@ course_so_far unit_lines r = record {
   fault = fault_of_stop r.stop;
 }
 
--- memory may run out only where a line needs more than the lines before it did
-abbrev pub memory_where_needed : Bool → Option (List At) → Option (List At)
-memory_where_needed needs allowed = if needs then allowed else None
+-- the warning of an epoch that a line cuts off, by what is at the lines up to it: it comes before all else of that line
+abbrev pub warned_first : {E : Type 0} → Bool → List (Item E) → ℕ → ReadLine → Place (Unit E) → List At
+warned_first skip items number line (Fails offset fault) =
+    if is_skipped skip items fault && (nat_lt 0 offset && can_go_on line)
+    then record { line = number + offset; fault = fault } ∷ [] else []
+warned_first skip items number line here = []
+
+abbrev pub cut_off_by : {E : Type 0} → (List (Item E) → List ReadLine → Place (Unit E)) → Bool → Reading E → ReadLine
+    → List At
+cut_off_by place skip r line =
+    elim (r.stop) [
+      | AtFault at ↦ []
+      | AtLines number before ↦ warned_first skip r.items number line (place r.items (before ++ line ∷ []))
+      | Looking number ↦ []
+    ]
 
 -- compaction
 abbrev pub compaction_filter : Choices → Filter
@@ -54,28 +66,16 @@ compaction_filter choices = record {
   so_far = λ lines. course_so_far (compact_unit choices) (rinex_reading choices.skip (map as_read lines));
   whole = λ lines. whole_course (compact_unit choices) (whole_rinex choices.skip (map as_read lines));
   memory_after = λ lines line.
-      let before : Reading Epoch = rinex_reading choices.skip (map as_read lines) in
-      memory_where_needed (compaction_outgrows before (as_read line))
-      (memory_allowed rinex_place compaction_takes choices.skip before (as_read line));
+      Some (cut_off_by rinex_place choices.skip (rinex_reading choices.skip (map as_read lines)) (as_read line));
 }
-
--- the warnings of a line of compact text after which memory may run out at it, where it may at all: none may before the
--- first two lines are read
-abbrev pub compact_memory : Bool → List ReadLine → ReadLine → Option (List At)
-compact_memory skip lines line =
-    elim (first_lines lines) [
-      | Done two count ↦ memory_allowed compact_place expansion_takes skip (compact_reading skip lines) line
-      | Fails offset fault ↦ None
-      | NeedsMore ↦ None
-    ]
 
 -- expansion
 abbrev pub expansion_filter : Choices → Filter
 expansion_filter choices = record {
   so_far = λ lines. course_so_far expanded_unit (compact_reading choices.skip (map as_read lines));
   whole = λ lines. whole_course expanded_unit (whole_compact choices.skip (map as_read lines));
-  memory_after = λ lines line. memory_where_needed (expansion_outgrows (compact_reading choices.skip (map as_read lines))
-      (as_read line)) (compact_memory choices.skip (map as_read lines) (as_read line));
+  memory_after = λ lines line.
+      Some (cut_off_by compact_place choices.skip (compact_reading choices.skip (map as_read lines)) (as_read line));
 }
 
 -- ---- a check
@@ -97,6 +97,5 @@ check_filter = record {
     warnings = [];
     fault = (whole_reading_of lines).fault;
   };
-  memory_after = λ lines line.
-      memory_allowed rinex_place check_takes false (rinex_reading false (map as_read lines)) (as_read line);
+  memory_after = λ lines line. Some [];
 }

@@ -71,8 +71,3 @@ declaring_lines (Warned at ∷ before) = declaring_lines before
 -- the observation types in force
 abbrev pub types_in_force : {E : Type 0} → List (Item E) → List Count
 types_in_force items = types_of (declaring_lines items)
-
--- whether no system has types
-abbrev pub are_lacking : List Count → Bool
-are_lacking [] = true
-are_lacking (count ∷ types) = false

@@ -16,8 +16,8 @@ use Rattle.crx_filter.proofs.wayback.Cut.{IsClean, OfContent}
 use Rattle.crx_filter.proofs.wayback.First.{program-clean, version-clean}
 use Rattle.crx_filter.proofs.wayback.Items.{marked_now, whole-next}
 use Rattle.crx_filter.proofs.wayback.Reading.{of-copied, of-own}
-use Rattle.crx_filter.proofs.{accounts.{Reached.first-accounted, OfFile.owns-unit}, reading.Each.all-parts}
-use Rattle.crx_filter.specs.meaning.Accounts.{AreRinexLines}
+use Rattle.crx_filter.proofs.accounts.{Copies.rinex-copies, Fates.told}
+use Rattle.crx_filter.proofs.reading.{Each.all-parts, Forward.rinex-forward}
 
 abbrev pub IsShort : List ℕ → Type 0
 IsShort line = length line ≤ LINE_LIMIT
@@ -75,8 +75,9 @@ pub compact-ready_to_hand_out : (choices : Choices) (lines : List ReadLine)
     → CompactIsReadyToHandOut choices lines
 compact-ready_to_hand_out choices lines dated short =
     let items = (rinex_reading choices.skip lines).items in
-    let (rest, (front, is, own)) = first-accounted AreRinexLines rinex_place owns-unit choices.skip 1 lines in
-    let all = (all-parts (OfContent IsShort) front rest (rw is at (contents-short lines short))).0 in
+    let (number, rest, far, stops) = told rinex_place rinex-forward choices.skip 1 lines in
+    let all = (all-parts (OfContent IsShort) far.front rest
+    (rw far.all_is at (contents-short lines short))).0 in
     units-ready_to_hand_out choices items dated
     (items-in_place items (items-read rinex_place choices.skip 1 lines))
-    (of-copied IsShort items (of-own AreRinexLines IsShort items front own all))
+    (of-copied IsShort items (of-own rinex_place rinex-copies IsShort 1 items far.front far.kept far.own all))

@@ -1,5 +1,5 @@
 -- Lines that are written one after another, each with LF.
-use Rattle.std.proofs.Common.{◌≡◌, ℕ, ◌+◌, List, [], ◌∷◌, ◌++◌, take, drop, Some, sym, ap, ◌∙◌}
+use Rattle.std.proofs.Common.{◌≡◌, ℕ, List, [], ◌∷◌, ◌++◌, take, drop, Some, sym, ap, ◌∙◌}
 use Rattle.std.proofs.{Common.{arith, append_assoc, length-append}, Math.Seq.take-append-add}
 use Rattle.std.{proofs.lemmas.List.take-append-le, specs.Prelude.slice_get}
 use Rattle.crx_base.specs.meaning.Lines.{lines_text}

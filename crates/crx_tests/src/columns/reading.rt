@@ -7,7 +7,7 @@ ghost use Rattle.crx_header.specs.meaning.EpochColumns.{is_event_line};
 
 use super::cases::{Table, both_forms, both_ways, read_alone};
 use super::*;
-use crate::expecting::{expect, expect_at};
+use crate::expecting::expect_at;
 use crx_base::limits::LINE_LIMIT;
 use crx_laws::read_back::read_back;
 use crx_rinex::{Printed, is_event_line};
@@ -96,64 +96,4 @@ fn epochs_read(rt: HostRuntime) -> Result<(), Fail> {
         expect_read(&rt, rt.alloc(), &types.value, table);
     }
     Ok(())
-}
-
-/// Two types with indicators, then one of them, and then both again: the line that declares the types, the
-/// compact lines of an epoch, and its RINEX lines. Past the count of a line, what was kept of cells and
-/// indicators is dropped.
-const OTHER_COUNTS: &[(&[u8], &str, &str)] = &[
-    (
-        TWO_TYPES,
-        "> 2024 01 01 00 00  0.0000000  0  1      G01||3&1000 3&2000 1234",
-        "> 2024 01 01 00 00  0.0000000  0  1|G01         1.00012         2.00034",
-    ),
-    (
-        ONE_TYPE,
-        "                    1||500",
-        "> 2024 01 01 00 00  1.0000000  0  1|G01         1.50012",
-    ),
-    (
-        TWO_TYPES,
-        "                    2||500 3&7000",
-        "> 2024 01 01 00 00  2.0000000  0  1|G01         2.50012         7.000",
-    ),
-    (
-        ONE_TYPE,
-        "                    3||",
-        "> 2024 01 01 00 00  3.0000000  0  1|G01              12",
-    ),
-];
-
-/// Whether compact lines are read as an epoch, with the types that a line declares.
-fn is_read_with(
-    alloc: Global,
-    columns: &mut Columns,
-    line: &[u8],
-    compact: &str,
-    rinex: &str,
-) -> bool {
-    match types_of(alloc, line) {
-        Ok(types) => is_read(columns, &types.value, compact, rinex),
-        Err(_) => false,
-    }
-}
-
-/// Whether compact lines are refused with two types, since an arc isn't begun.
-fn is_without_arc(alloc: Global, columns: &mut Columns, compact: &str) -> bool {
-    match types_of(alloc, TWO_TYPES) {
-        Ok(types) => matches!(take_all(columns, &types.value, compact), Err(Fault::NoArc)),
-        Err(_) => false,
-    }
-}
-
-#[test]
-fn other_counts_of_types(rt: HostRuntime) {
-    let mut owner = no_columns(rt.alloc());
-    for (line, compact, rinex) in OTHER_COUNTS {
-        let is_so = is_read_with(rt.alloc(), &mut owner.value, line, compact, rinex);
-        expect(&rt, is_so, rinex);
-    }
-    let past = "                    4||3&1 5000";
-    let is_so = is_without_arc(rt.alloc(), &mut owner.value, past);
-    expect(&rt, is_so, "an arc past the count of the line before");
 }

@@ -98,7 +98,7 @@ fn has_ends(alloc: Global, text: &[u8], place: usize, byte: u8) -> Result<bool, 
 }
 
 /// The bytes that are put in place of others.
-const BYTES: &[u8] = &[0, 31, b'&', b'>', 127, 255];
+const BYTES: &[u8] = &[0, b'&', b'>', 255];
 
 #[test]
 fn each_byte_is_replaced(rt: HostRuntime) -> Result<(), Fail> {

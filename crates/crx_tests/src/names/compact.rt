@@ -59,7 +59,7 @@ fn is_between_epochs(columns: &Columns) -> bool {
 
 fn encode(columns: &mut Columns, epoch: Epoch, full: bool) -> Result<Coded, (Epoch, Fault)>
     requires whole { is_full_epoch epoch ≡ true }
-    requires idle { is_idle columns.old.state ≡ true }
+    requires idle { is_idle columns.old ≡ true }
 {
     columns.encode(epoch, full)
 }
@@ -69,7 +69,7 @@ fn next_line(coded: &mut Coded) -> Option<&[u8]> {
 }
 
 fn begin(columns: &mut Columns, types: &Types, line: &[u8]) -> Result<(), Fault>
-    requires idle { is_idle columns.old.state ≡ true }
+    requires idle { is_idle columns.old ≡ true }
     requires short { length line.now ≤ LINE_LIMIT }
     requires no_event { is_event_line line.now ≡ false }
 {
@@ -77,7 +77,7 @@ fn begin(columns: &mut Columns, types: &Types, line: &[u8]) -> Result<(), Fault>
 }
 
 fn feed(columns: &mut Columns, line: &[u8]) -> Result<Option<Epoch>, Fault>
-    requires open { is_idle columns.old.state ≡ false }
+    requires open { is_idle columns.old ≡ false }
     requires short { length line.now ≤ LINE_LIMIT }
 {
     columns.feed(line)

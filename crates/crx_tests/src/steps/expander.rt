@@ -59,25 +59,7 @@ fn feed_one(
     }
 }
 
-/// Feeds a line that ends the run: no line is ready then, and the fault is answered again.
-fn feed_last(rt: &impl Abort, engine: &mut Expander, line: Line<'_>, taken: u64, name: &str, at: At)
-    requires drained { expander_ready engine.old ≡ [] }
-    requires counted { (expander_state engine.old).number ≡ taken }
-{
-    let place = line.number() as usize;
-    expect_at(rt, taken < 1000, name, place);
-    expect_at(rt, line.number() == taken + 1, name, place);
-    let found = engine.feed(line);
-    expect_at(rt, found == Err(at), name, place);
-    let is_none = engine.next_line().is_none();
-    expect_at(rt, engine.is_drained(), name, place);
-    let is_first = engine.end() == Err(at);
-    let is_second = engine.end() == Err(at);
-    expect_at(rt, is_none && is_first && is_second, name, place);
-}
-
-/// Feeds the lines of an input, to an engine that has taken none; where a fault is given, the line after
-/// those with answers ends the run with it.
+/// Feeds the lines of an input to an engine that has taken none, and ends the run.
 fn feed_all(
     rt: &impl Abort,
     engine: &mut Expander,
@@ -99,14 +81,9 @@ fn feed_all(
             taken = feed_one(rt, engine, line, taken, run.name, second, 0);
         }
     }
-    match (lines.next_line(reader), run.fault) {
-        (Ok(Some(line)), Some(at)) => feed_last(rt, engine, line, taken, run.name, at),
-        (Ok(None), None) => {
-            let is_quiet = engine.end() == Ok(Step::Quiet);
-            expect_at(rt, is_quiet, run.name, taken as usize);
-        }
-        _ => expect_at(rt, false, run.name, taken as usize),
-    }
+    let is_last = matches!(lines.next_line(reader), Ok(None));
+    let is_quiet = engine.end() == Ok(Step::Quiet);
+    expect_at(rt, is_last && is_quiet, run.name, taken as usize);
 }
 
 /// Expects that an engine gives the answers of a run to the lines of its text.
@@ -129,24 +106,12 @@ const RUNS: &[Run] = &[
             QUIET, QUIET, ONE, ONE, ONE, QUIET, QUIET, TWO, QUIET, QUIET, TWO, QUIET, QUIET, TWO,
             QUIET, QUIET, TWO, QUIET, QUIET, TWO,
         ],
-        fault: None,
     },
     Run {
         name: "epochs without satellites",
         skip: false,
         lines: "K|H|> 2024 01 01 00 00  0.0000000  0  0|||",
         answers: &[QUIET, QUIET, ONE, ONE, ONE, QUIET, ONE, QUIET, ONE],
-        fault: None,
-    },
-    Run {
-        name: "a fault",
-        skip: false,
-        lines: "K|H|> 2024 01 01 00 00  0.0000000  0  1      G01||5",
-        answers: &[QUIET, QUIET, ONE, ONE, ONE, QUIET, QUIET],
-        fault: Some(At {
-            line: 8,
-            fault: Fault::NoArc,
-        }),
     },
 ];
 

@@ -34,8 +34,8 @@ returns-in-DisplayHelp c =
           c.in-Err.error Help c.in-Err.ensures.kinds (ap by_kind (sym kind)) (λ e. cc);
     }
 
-pub returns-in_default-kind : goal.returns-in_default-kind
-returns-in_default-kind c = record {
+pub returns-in_default : goal.returns-in_default
+returns-in_default c = record {
   value = answered _ _ _ c.in_ok-command.ensures (ap (map string_bytes) c.as_slice.ensures.value)
       c.in-Err.error (Refused Parse) c.in-Err.ensures.kinds (search rules) (search rules);
 }
@@ -50,11 +50,10 @@ returns-in_default-subcommand c =
 
 pub returns : goal.returns
 returns c =
-    let whole = both_halves _ _ _ _ _ c.in-Some-subcommand.ensures.name c.in-Some-subcommand.ensures.rows in
+    let whole = both_halves _ _ _ _ _ c.in-Some.ensures.name c.in-Some.ensures.rows in
     let is = accepted _ _ _ c.in_ok-command.ensures (ap (map string_bytes) c.as_slice.ensures.value)
     c.in-Ok.matches c.in-Ok.ensures.kinds c.in-Ok.ensures.matches in
-    let tool = c.unwrap_or-tool.ensures ∙ c.tool_named-2.ensures.value in
     record {
-      value = rw (ap₂ decide tool c.arguments_of.ensures ∙ (ap of_subcommand whole ∙ is))
-          at c.decide_for-2.ensures;
+      value = rw (ap₂ decide c.tool_named.ensures c.arguments_of.ensures ∙ (ap of_subcommand whole ∙ is))
+          at c.decide_for.ensures;
     }

@@ -4,7 +4,7 @@ use Rattle.std.proofs.{lemmas.List.{length-set, get_or-take, take_more_set}, Mat
 use Rattle.crx_compact.proofs.arcs.Running.{advance-step, advanced-all, difference-fits, first-fits}
 use Rattle.crx_compact.proofs.arcs.Running.{highest-last, same-bits}
 use Rattle.crx_compact.proofs.arc.go_on.Goals as goal
-use Rattle.crx_compact.proofs.{AlikeFrom.alike-after, Words.{common_steps, drop-set-lt}}
+use Rattle.crx_compact.proofs.Words.{common_steps}
 
 -- the difference at an index below the order
 before : (order index : ℕ) (ds : List ℤ) → index < order
@@ -26,7 +26,7 @@ loop-index-preserved c =
     let here : index < length (take order ds) = omega (arith, many, less) in
     let same = before order index ds less in
     let step = advance-step index _ (take order ds) _ here made in
-    search (rules, same-bits, take-set-lt, length-set, difference-fits, drop-set-lt)
+    search (rules, same-bits, take-set-lt, length-set, difference-fits)
 
 pub returns-clause-after : goal.returns-clause-after
 returns-clause-after c =
@@ -35,7 +35,3 @@ returns-clause-after c =
 pub returns-clause-highest : goal.returns-clause-highest
 returns-clause-highest c =
     grind (arith, common_steps, highest-last, advanced-all, same-bits, length-take-le)
-
-pub returns-clause-rest : goal.returns-clause-rest
-returns-clause-rest c =
-    alike-after c.loop-index.differences c.args.differences.now c.args.order _ c.loop-index.invariant.rest

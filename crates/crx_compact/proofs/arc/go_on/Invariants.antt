@@ -1,4 +1,4 @@
-use Rattle.std.proofs.Common.{◌≡◌, drop, length, take}
+use Rattle.std.proofs.Common.{◌≡◌, length, take}
 use Rattle.crx_compact.specs.ArcSteps.{differences_after}
 use Rattle.crx_compact.proofs.arcs.Running.{Advanced}
 use Rattle.crx_compact.proofs.arc.go_on.Given as goal
@@ -8,6 +8,5 @@ abbrev pub invariant-loop-index : goal.invariant-loop-index
 invariant-loop-index l = record {
   made : Advanced l.index (differences_after l.fn.value (take l.order l.initial.differences))
       (take l.order l.differences) l.next;
-  rest : drop l.order l.differences ≡ drop l.order l.initial.differences;
   long : length l.differences ≡ length l.initial.differences;
 }

@@ -1,19 +1,18 @@
 use Rattle.crx_compact.proofs.Words.{rules, ◌≡◌, ap, ◌+◌, ◌-◌, ◌*◌, ◌++◌, ◌∷◌, [], Bool, not, true, false}
-use Rattle.crx_compact.proofs.Words.{sym, inl, arith, subst, ◌⊎◌, inr, ℕ, List, Err, map}
-use Rattle.crx_compact.proofs.Words.{err_from_is_err_and, is_ok, columns, is_among}
-use Rattle.crx_compact.proofs.Words.{IsAwaitedSatellite, BadSatellite, RepeatedSatellite}
-use Rattle.crx_compact.proofs.Words.{Satellite, names_in, satellites_named, HasRoom, KeepsRooms}
+use Rattle.crx_compact.proofs.Words.{sym, arith, ℕ, List, Err, map}
+use Rattle.crx_compact.proofs.Words.{columns, is_among}
+use Rattle.crx_compact.proofs.Words.{IsAwaitedSatellite, BadSatellite}
+use Rattle.crx_compact.proofs.Words.{Satellite, names_in, satellites_named}
 use Rattle.crx_compact.proofs.{Words.{padded_among, RowTail}}
 use Rattle.crx_compact.proofs.placing.SteppedRows.{IsLastStored, come-stored, last-within}
 use Rattle.std.proofs.lemmas.List.{Elements.All-push}
 use Rattle.crx_compact.proofs.Naming.{named-bad, named-twice, named-more, named-all, next-name}
 use Rattle.crx_compact.proofs.NamesCome.{HasNameCome, among-rows, awaited-one}
-use Rattle.crx_compact.proofs.NamesCome.{name-comes, refused-by, unasked}
+use Rattle.crx_compact.proofs.NamesCome.{name-comes}
 use Rattle.crx_text.proofs.EachPlace.{drop_all-each_place}
 use Rattle.crx_compact.specs.Placing.{HasCome, IsPlaced}
 use Rattle.crx_compact.proofs.{Results.from_some, placing.Placed.placed-asked}
-use Rattle.crx_compact.proofs.history.read_names.Goals.{After-unwrap, Joined-place, in-Some-place}
-use Rattle.crx_compact.proofs.history.read_names.Goals.{in-None+in_ok-prepare_names-in-None}
+use Rattle.crx_compact.proofs.history.read_names.Goals.{After-unwrap, Joined-place}
 use Rattle.crx_compact.proofs.history.read_names.Goals as goal
 use Rattle.std.proofs.lemmas.Grind.{common_steps}
 
@@ -30,48 +29,13 @@ bad c = grind (arith, common_steps, named-bad, next-name)
 
 pub returns-in_default : goal.returns-in_default
 returns-in_default c =
-    search (rules, refused-by, bad, unasked, c.loop-index.invariant.7, c.loop-index.invariant.5)
+    search (rules, bad)
 
-pub returns-in_err-prepare_names-in-None : goal.returns-in_err-prepare_names-in-None
-returns-in_err-prepare_names-in-None c =
-    let p = err_from_is_err_and c.from_residual.result c.from_residual.ensures.1 in
-    let refused = c.in_err-prepare_names-in-None.ensures.err in
-    let found = c.loop-index.invariant in
-    let asked : KeepsRooms c.args.satellites.now.rooms c.place.new.self.rooms =
-    λ name count has. subst (HasRoom name count) (sym c.place.ensures.rooms) (found.5 name count has) in
-    rw (p.1, p.2) (record {
-      ok = search rules;
-      err = record {
-        answer = refused.answer;
-        unasked = λ other name count has. elim refused.answer.answered [
-          | inl is ↦ unasked _ _ is found.7 name count
-              (subst (HasRoom name count) c.place.ensures.rooms (refused.unasked other name count has))
-          | inr out ↦ absurd (other out)
-        ];
-        wanting = λ named is has. refused.wanting named is (λ i d within. asked _ _ (has i d within));
-      };
-      rooms = λ name count has. c.prepare_names.ensures.asked.asked.rooms name count (asked name count has);
-    })
-
--- the satellite has come, or had come already, where none of the text has a fault or no room was asked for
+-- the satellite has come, or had come already
 placed : (c : Joined-place)
     → IsPlaced c.identifier-name.result c.in-Some.cells c.loop-index.satellites c.match-place.satellites
     c.match-place.is_new
-    × ((is_ok (satellites_named c.args.types.now [] (names_in c.args.text.now c.args.count)) ≡ true)
-    ⊎ KeepsRooms c.match-place.satellites.rooms c.loop-index.satellites.rooms)
-    × KeepsRooms c.loop-index.satellites.rooms c.match-place.satellites.rooms
-placed c = elim c.match-place.branch [
-  | in-Some-place w ↦ rw (w.is_new-is, w.satellites-is) (
-    w.in-Some-place.ensures.placed,
-    inr (λ name count. subst (HasRoom name count) c.place.ensures.rooms),
-    λ name count. subst (HasRoom name count) (sym c.place.ensures.rooms),
-  )
-  | in-None+in_ok-prepare_names-in-None w ↦ rw (w.is_new-is, w.satellites-is) (
-    search (rules, placed-asked, from_some, w.prepare_names.ensures.asked.asked),
-    inl w.in_ok-prepare_names-in-None.ensures.good,
-    λ name count has. grind (arith, common_steps),
-  )
-]
+placed c = search (rules, placed-asked, from_some)
 
 pub returns-then-not-is_new : goal.returns-then-not-is_new
 returns-then-not-is_new c =
@@ -80,8 +44,8 @@ returns-then-not-is_new c =
     let twice = named-twice c.args.types.now (names_in c.args.text.now c.args.count) c.loop-index.index
     found.0 found.1 c.identifier-name.result (search (rules, next-name))
     (sym c.in-Some.ensures.value) (come-already c.args.satellites.now.rest c.loop-index.satellites.rows
-    found.0 c.identifier-name.result c.match-place.is_new false found.2 come.0.answer c.if-not-is_new.true) in
-    grind (arith, common_steps, found, come, twice, refused-by RepeatedSatellite, unasked)
+    found.0 c.identifier-name.result c.match-place.is_new false found.2 come.answer c.if-not-is_new.true) in
+    grind (arith, common_steps, found, come, twice)
 
 -- what is stored of the satellite that has come
 stored : (c : After-unwrap) → HasCome c.identifier-name.result c.loop-index.satellites
@@ -98,19 +62,11 @@ entry_mut-requires c = grind (arith, common_steps, last-within)
 pub resize-requires : goal.resize-requires
 resize-requires c =
     let at = goal.at.resize-requires c in
-    let placed = (placed at.Joined-place).0 in
+    let placed = placed at.Joined-place in
     record {
       room = (stored at.After-unwrap (placed.come c.if-not-is_new.false)).room _ (placed.room
           c.if-not-is_new.false);
     }
-
-kept-back : {A : Type 0} (one two three four : List (List ℕ × ℕ)) → A ⊎ KeepsRooms two one
-    → A ⊎ KeepsRooms three two
-    → KeepsRooms four three → A ⊎ KeepsRooms four one
-kept-back one two three four (inl good) q r = inl good
-kept-back one two three four (inr p) (inl good) r = inl good
-kept-back one two three four (inr p) (inr q) r = inr (λ name count has. p name count (q name count
-    (r name count has)))
 
 pub loop-index-preserved : goal.loop-index-preserved
 loop-index-preserved c =
@@ -121,30 +77,20 @@ loop-index-preserved c =
     let at = goal.at.loop-index-preserved c in
     let placed = placed at.Joined-place in
     let fresh = come-already c.args.satellites.now.rest c.loop-index.satellites.rows found.0 name
-    c.match-place.is_new true found.2 placed.0.answer c.if-not-is_new.false in
+    c.match-place.is_new true found.2 placed.answer c.if-not-is_new.false in
     let after = c.entry_mut.follows.lender c.resize.new.self in
     let come : HasNameCome c.args.satellites.now.rest (found.0 ++ satellite ∷ []) c.match-place.satellites
     after = name-comes
     c.args.satellites.now.rest found.0 name c.in-Some.cells _ c.loop-index.satellites
-    c.match-place.satellites after c.unwrap.result.now c.resize.new.self found.2 found.3 fresh (placed.0.come
-    c.if-not-is_new.false) (stored at.After-unwrap (placed.0.come c.if-not-is_new.false))
-    (rw (c.unwrap.ensures) at c.entry_mut.follows.holds c.resize.new.self) c.resize.ensures.resized in
-    let same = sym come.rooms in
-    let kept : KeepsRooms c.loop-index.satellites.rooms after.rooms = λ other count has.
-    subst (HasRoom other count) same (placed.2 other count has) in (
+    c.match-place.satellites after c.unwrap.result.now c.resize.new.self found.2 found.3 fresh (placed.come
+    c.if-not-is_new.false) (stored at.After-unwrap (placed.come c.if-not-is_new.false))
+    (rw (c.unwrap.ensures) at c.entry_mut.follows.holds c.resize.new.self) c.resize.ensures.resized in (
       found.0 ++ satellite ∷ [],
       grind (arith, common_steps, found, place, name, fresh, named-more, next-name),
       come.rows,
       come.awaited,
       All-push IsAwaitedSatellite found.0 satellite found.4 (awaited-one name c.args.text.now (42 + 3 * place)
           c.in-Some.cells c.identifier-name.ensures.value c.in-Some.ensures.named c.in-Some.ensures.allowed),
-      λ other count has. kept other count (found.5 other count has),
-      All-push (λ (s : Satellite). HasRoom s.name s.count after.rooms) found.0 satellite
-          (λ i d within. kept _ _ (found.6 i d within))
-          (subst (HasRoom name c.in-Some.cells) same (placed.0.room c.if-not-is_new.false)),
-      kept-back c.args.satellites.now.rooms c.loop-index.satellites.rooms c.match-place.satellites.rooms
-          after.rooms
-          found.7 placed.1 (λ other count. subst (HasRoom other count) come.rooms),
     )
 
 pub returns : goal.returns

@@ -1,4 +1,4 @@
-use Rattle.crx_compact.proofs.Words.{err_from_is_err_and, inl}
+use Rattle.crx_compact.proofs.{Words.{err_from_is_err_and, is_ok}, Results.by_ok}
 use Rattle.std.proofs.Common.{rules, ap, sym, subst, arith}
 use Rattle.std.proofs.lemmas.List.{length-append}
 use Rattle.indexmap.proofs.CallerLemmas.{insert_entry-new}
@@ -7,26 +7,23 @@ use Rattle.crx_compact.proofs.placing.{Found.{found-added, none-there, not-found
 use Rattle.crx_compact.proofs.satellites.find_or_add.Goals as goal
 use Rattle.std.proofs.lemmas.Grind.{common_steps}
 
-pub returns-in-Ok-clause-found : goal.returns-in-Ok-clause-found
-returns-in-Ok-clause-found c =
+pub returns-clause-found : goal.returns-clause-found
+returns-clause-found c =
     subst (λ found. IsFound c.args.name found c.args.map.now.entries c.insert.new.self.entries)
     (sym c.len-count.ensures.len)
     (found-added c.args.name c.new.result c.args.map.now.entries c.insert.new.self.entries
-    (search (rules, c.in-Ok.ensures.entries, insert_entry-new, none-there, c.in_default.ensures.unknown))
+    (search (rules, insert_entry-new, none-there, c.in_default.ensures.unknown, by_ok, is_ok))
     (ap (λ (s : SatelliteTail). s.room) c.new.ensures.empty))
 
-pub returns-in-Ok-clause-order : goal.returns-in-Ok-clause-order
-returns-in-Ok-clause-order c = grind (arith, common_steps, none-there, length-append, more-ordered)
+pub returns-clause-order : goal.returns-clause-order
+returns-clause-order c = grind (arith, common_steps, none-there, length-append, more-ordered)
 
--- it wasn't there, nothing changed, and there was no room for one more
+-- it wasn't there, and nothing changed
 pub returns-in_err-reserve-clause-unknown : goal.returns-in_err-reserve-clause-unknown
-returns-in_err-reserve-clause-unknown c = grind (arith, common_steps, err_from_is_err_and, not-found, inl)
+returns-in_err-reserve-clause-unknown c = grind (arith, common_steps, err_from_is_err_and, not-found)
 
 pub returns-in_err-reserve-2-clause-unknown : goal.returns-in_err-reserve-2-clause-unknown
 returns-in_err-reserve-2-clause-unknown c = grind (arith, common_steps, err_from_is_err_and, not-found)
 
-pub returns-in_err-keep_spare-clause-unknown : goal.returns-in_err-keep_spare-clause-unknown
-returns-in_err-keep_spare-clause-unknown c = grind (arith, common_steps, err_from_is_err_and, not-found, inl)
-
-pub returns-clause-unknown : goal.returns-clause-unknown
-returns-clause-unknown c = grind (arith, common_steps, not-found, inl)
+pub returns-in_err-reserve_entries-clause-unknown : goal.returns-in_err-reserve_entries-clause-unknown
+returns-in_err-reserve_entries-clause-unknown c = grind (arith, common_steps, err_from_is_err_and, not-found)

@@ -1,4 +1,4 @@
-use Rattle.crx_filter.proofs.{Words.{common_steps, arith, inl, inr, refl, ap, not, ◌∙◌, false≢true}}
+use Rattle.crx_filter.proofs.{Words.{common_steps, arith, inl, refl}}
 use Rattle.crx_filter.proofs.{steps.Together.{row-lost, rows-few}}
 use Rattle.crx_filter.proofs.steps.Together.{row-known, row-refused, row-written, rows-there}
 use Rattle.crx_filter.proofs.compaction.compact_row.Goals as goal
@@ -21,6 +21,6 @@ returns-in-Ok-true-clause-written c =
     let encoded = c.in-Ok-true.ensures in
     let took = c.take_row.ensures in
     row-written _ _ _ _ _ c.requires.together read.same _ _ _ _
-    (encoded.known.room c.in-Ok-true.field-0-test) encoded.known.rooms c.requires.open read.ok read.row
+    c.requires.open read.ok read.row
     refl encoded.answer c.in-Ok-true.field-0-test (encoded.written c.in-Ok-true.field-0-test)
     took.takes took.rows

@@ -29,6 +29,7 @@ returns g c =
       canonical = kept ran (λ file is. (keeps file is).canonical);
       written = kept ran (λ file is. is.output);
       accounted = kept ran (λ file is. (keeps file is).accounted);
+      left_out = kept ran (λ file is. (keeps file is).left_out);
       blocks = kept ran (λ file is. (keeps file is).blocks);
     }
 

@@ -10,8 +10,8 @@ use Rattle.crx_laws.proofs.read_back.read_coded.Goals as goal
 
 pub loop-line-init : goal.loop-line-init
 loop-line-init c =
-    midway-begun c.args.types.now (tail_held c.args.columns.now.state) c.args.coded.now.lines
-    _ c.in-Some.first.now c.begin.new.self.state c.in-Some.ensures.value c.in_ok-begin.ensures.made
+    midway-begun c.args.types.now (tail_held c.args.columns.now) c.args.coded.now.lines
+    _ c.in-Some.first.now c.begin.new.self c.in-Some.ensures.value c.in_ok-begin.ensures.made
     (ap (λ (q : CodedEpoch). q.lines) c.next_line.follows.holds-at-none)
 
 pub feed-requires-clause-open : goal.feed-requires-clause-open
@@ -20,18 +20,18 @@ feed-requires-clause-open c = midway-idle _ _ _ _ c.loop-line.invariant
 pub returns-in-Some-2-clause-given : goal.returns-in-Some-2-clause-given
 returns-in-Some-2-clause-given c =
     let P : Option Epoch → Type 0 =
-    λ given. HasMade (step_in c.loop-line.columns.state (Content c.in-Some-next_line.line.now))
-    c.feed.new.self.state given in
-    midway-whole _ c.loop-line.columns.state c.feed.new.self.state _ c.loop-line.coded.lines
+    λ given. HasMade (step_in c.loop-line.columns (Content c.in-Some-next_line.line.now))
+    c.feed.new.self given in
+    midway-whole _ c.loop-line.columns c.feed.new.self _ c.loop-line.coded.lines
     c.in-Some-next_line.line.now c.in-Some-2.epoch c.loop-line.invariant c.in-Some-next_line.ensures.value
     (subst P c.in-Some-2.is c.in_ok-epoch.ensures.made)
 
 pub loop-line-preserved : goal.loop-line-preserved
 loop-line-preserved c =
     let P : Option Epoch → Type 0 =
-    λ given. HasMade (step_in c.loop-line.columns.state (Content c.in-Some-next_line.line.now))
-    c.feed.new.self.state given in
-    midway-more _ c.loop-line.columns.state c.feed.new.self.state
+    λ given. HasMade (step_in c.loop-line.columns (Content c.in-Some-next_line.line.now))
+    c.feed.new.self given in
+    midway-more _ c.loop-line.columns c.feed.new.self
     _ c.loop-line.coded.lines _ c.in-Some-next_line.line.now c.loop-line.invariant
     c.in-Some-next_line.ensures.value
     (subst P c.in_default-2.is c.in_ok-epoch.ensures.made)
@@ -41,7 +41,7 @@ pub returns-in_err-epoch-clause-refused : goal.returns-in_err-epoch-clause-refus
 returns-in_err-epoch-clause-refused c = λ h.
     let p = err_from_is_err_and c.from_residual-in_err-epoch.result c.from_residual-in_err-epoch.ensures.1 in
     rw (p.1, p.2) (
-    midway-stands _ c.loop-line.columns.state _ c.loop-line.coded.lines c.in-Some-next_line.line.now
+    midway-stands _ c.loop-line.columns _ c.loop-line.coded.lines c.in-Some-next_line.line.now
     _ c.loop-line.invariant c.in-Some-next_line.ensures.value c.in_err-epoch.ensures.refused)
 
 pub returns-clause-given : goal.returns-clause-given

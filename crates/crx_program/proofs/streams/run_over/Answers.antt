@@ -5,8 +5,8 @@ use Rattle.crx_command.specs.meaning.Planning.{Run, plan_of}
 use Rattle.crx_lines.specs.declared.device.Std.{Std}
 use Rattle.crx_lines.specs.declared.uninterrupted.Uninterrupted.{Uninterrupted}
 use Rattle.crx_runs.specs.declared.until_failure.UntilFailure.{UntilFailure}
-use Rattle.crx_program.specs.LateWriters.{late_contents}
-use Rattle.crx_program.proofs.{KeptLemmas.kept-of_exact, StreamLemmas.{fresh, run_over}}
+use Rattle.crx_program.specs.{declared.log.Logged.Logged, LateWriters.late_contents}
+use Rattle.crx_program.proofs.{KeptLemmas.kept-of_exact, StreamLemmas.{by_plan, fresh, run_over}}
 use Rattle.crx_program.proofs.streams.run_over.Goals as goal
 
 pub returns : goal.returns
@@ -27,6 +27,10 @@ returns g c =
     c.new-3.ensures.inner c.new-3.ensures.failures c.new-3.ensures.ends c.new-3.ensures.flushes
     c.new-3.ensures.broken in
     let ended = c.run_with_files-ended.ensures in
+    let may_wait = λ (d : Logged (Std (Uninterrupted g.row.I.Denot))). d.inner.may_wait in
+    let first : may_wait c.new-input.result ≡ c.args.may_wait =
+    ap (λ (d : Std (Uninterrupted g.row.I.Denot)). d.may_wait)
+        (c.new-input.ensures.inner ∙ c.waiting.ensures.whole) in
     let run = λ (job : Job) (e : plan_of (map string_bytes c.args.words.items) ≡ Run job). run_over
     (λ (r : Uninterrupted g.row.H-File.Denot). g.H.File.Read.remaining r.inner)
     (writer_contents (late_contents (λ (w : UntilFailure (Uninterrupted g.row.H-File.Denot)).
@@ -77,4 +81,8 @@ returns g c =
               target = _;
             }) well (run.0 well);
           };
+      waits = by_plan (plan_of (map string_bytes c.args.words.items))
+          (λ e. ap may_wait (ended.help e).1 ∙ first)
+          (λ refusal e. ap may_wait (ended.refused refusal e).1 ∙ first)
+          (λ job e. (run job e).3 ∙ first);
     }

@@ -8,5 +8,5 @@ returns-clause-shown g c = (
       c.new-messages.ensures.log
       c.new.ensures.inner c.new.ensures.failures c.new.ensures.ends c.new.ensures.flushes
       c.new.ensures.broken,
-  c.report_at_start-status.ensures.shown,
+  c.report_no_memory-status.ensures.shown,
 )

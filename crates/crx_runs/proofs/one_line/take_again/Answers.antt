@@ -1,7 +1,6 @@
 use Rattle.std.proofs.lemmas.{Grind.common_steps, Result.err_from_is_err_and}
 use Rattle.std.proofs.Common.{◌≡◌, [], ◌∷◌, true, false, List, Ok, Err, Some, arith, refl, sym, ap, ◌∙◌}
 use Rattle.std.specs.Prelude.{⊤}
-use Rattle.crx_base.specs.Padded.{line_in}
 use Rattle.crx_base.specs.meaning.Lines.{InputLine}
 use Rattle.crx_lines.specs.Reading.{line_shown}
 use Rattle.crx_runs.proofs.{DeviceSpans.{joins-idle, span-joins}}
@@ -19,7 +18,7 @@ is-again = grind (arith, common_steps)
 
 -- The line, and the warning after which it comes a second time.
 abbrev line : (g : Over) → After-take g → InputLine
-line g c = record { content = line_in c.args.content; is_plain = c.args.is_plain }
+line g c = line_shown c.args.line
 
 abbrev first : (g : Over) → After-take g → Awaited
 first g c = record { notice = c.in-Warned-default-true.notice; line = line g c }
@@ -38,7 +37,7 @@ second : (g : Over) (c : After-take g) (lines : List InputLine)
     (g.E.Engine.answer c.args.engine.now)
     → EngineAnswers (g.E.Engine.filter c.args.engine.now) (g.E.Engine.shows c.take.new.self)
     (g.E.Engine.has_ended c.take.new.self) (lines_handed_out
-    c.take.result (line_shown c.of-line.result).content (g.E.Engine.ready c.take.new.self)) lines
+    c.take.result (line g c).content (g.E.Engine.ready c.take.new.self)) lines
     (first g c ∷ []) (Some (line g c)) (answer_given c.take.result (g.E.Engine.answer c.take.new.self))
 second g c lines a = grind (arith, common_steps, is-again)
 

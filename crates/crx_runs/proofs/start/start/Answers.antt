@@ -5,7 +5,7 @@ use Rattle.crx_runs.specs.Endings.{Finishes}
 use Rattle.crx_runs.specs.declared.one_line.Halt.{TheVariants.Fault as Stopped}
 use Rattle.crx_runs.specs.meaning.Spans.{Device}
 use Rattle.crx_runs.proofs.{Conclusions.runs-nothing, DeviceSpans.span-joins}
-use Rattle.crx_runs.specs.meaning.{Filters.Filter, Spans.{reader_span, span}}
+use Rattle.crx_runs.specs.meaning.{Filters.Filter, Spans.{reader_span}}
 use Rattle.crx_runs.proofs.start.start.Goals as goal
 use Rattle.std.proofs.lemmas.Grind.{common_steps}
 
@@ -19,8 +19,15 @@ stays-fault : (writer messages : Device) (status : ℕ) (fault : Option At) (at 
     → Finishes writer messages 0 false (Some (Stopped at)) status fault → is_some fault ≡ true
 stays-fault writer messages status fault at h = grind arith
 
-pub returns-in-Ok : goal.returns-in-Ok
-returns-in-Ok = grind arith
+pub returns-in-Err-open-clause-runs : goal.returns-in-Err-open-clause-runs
+returns-in-Err-open-clause-runs g c =
+    λ (filter : Filter) lawful same.
+    let r = c.args.reader.now in
+    let ran = runs-nothing filter lawful (reader_span g.R.Source r r)
+    (span-joins g.W.Sink g.met.W.Sink.took_both) (span-joins g.M.Sink g.met.M.Sink.took_both) (λ lines. ⊤)
+    c.finish_without_memory.result.status c.finish_without_memory.result.fault (g.met.R.Source.gave_none r) refl
+    (g.met.W.Sink.took_none _, refl) (g.met.M.Sink.took_none _, refl) c.finish_without_memory.ensures in
+    (ran.0, ran.1, ran.2)
 
 pub returns-in-Err : goal.returns-in-Err
 returns-in-Err g c = record {
@@ -28,8 +35,8 @@ returns-in-Err g c = record {
       let r = c.args.reader.now in
       let ran = runs-nothing filter lawful (reader_span g.R.Source r r)
       (span-joins g.W.Sink g.met.W.Sink.took_both) (span-joins g.M.Sink g.met.M.Sink.took_both) (λ lines. ⊤)
-      c.finish.result.status c.finish.result.fault (g.met.R.Source.gave_none r) refl
-      (g.met.W.Sink.took_none _, refl) (g.met.M.Sink.took_none _, refl) c.finish.ensures in
+      c.finish_without_memory-in-Err.result.status c.finish_without_memory-in-Err.result.fault (g.met.R.Source.gave_none r) refl
+      (g.met.W.Sink.took_none _, refl) (g.met.M.Sink.took_none _, refl) c.finish_without_memory-in-Err.ensures in
       (ran.0, ran.1, ran.2);
   memory = grind (arith, common_steps, after-error, stays-fault);
 }

@@ -5,7 +5,12 @@ use Rattle.crx_program.specs.meaning.Jobs.{NoMemory, calls_of}
 use Rattle.rnxcmp.proofs.host.run_streams.Goals as goal
 
 pub returns-in-Ok : goal.returns-in-Ok
-returns-in-Ok c = rw c.in-Ok.ensures.words at c.run_over.ensures
+returns-in-Ok c =
+    let e = rw c.in-Ok.ensures.words at c.run_over.ensures in
+    record { refused = e.refused; help = e.help; done = e.done; does = e.does; waits = inl e.waits }
+
+pub returns-in-Err-clause-waits : goal.returns-in-Err-clause-waits
+returns-in-Err-clause-waits c = inr c.without_memory.ensures.input
 
 pub returns-in-Err-clause-refused : goal.returns-in-Err-clause-refused
 returns-in-Err-clause-refused c = λ refusal e.

@@ -6,7 +6,7 @@ pub returns-in-Err-Unwritten-clause-stops : goal.returns-in-Err-Unwritten-clause
 returns-in-Err-Unwritten-clause-stops c =
     inr (
       search rules,
-      refl,
+      c.no_memory_at.ensures,
       (
         record c.args.held.now { left = c.saturating_sub-held.result },
         record { same = refl; left = grind (arith, common_steps) },

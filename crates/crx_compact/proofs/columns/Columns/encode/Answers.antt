@@ -22,7 +22,7 @@ means c = search rules
 -- the tail that an epoch is written after, by what idle columns store
 after : (c : After-encode)
     → (if c.if-full.in_full then no_tail else tail_of_history c.self.inside.history)
-    ≡ tail_written_after c.args.full (tail_held c.args.self.now.state)
+    ≡ tail_written_after c.args.full (tail_held c.args.self.now)
 after c =
     search (rules, no_tail, tail_of_history, means, in-full, tail_written_after, tail-idle, c.self.view_is)
 
@@ -39,4 +39,4 @@ returns-in-Ok-encode-clause-left c = λ epochs h.
 pub returns-in-Ok-encode-clause-lines : goal.returns-in-Ok-encode-clause-lines
 returns-in-Ok-encode-clause-lines c = λ epochs h.
     ap (λ (q : CodedEpoch). q.lines) (returns-in-Ok-encode-clause-coded c)
-    ∙ lines-coded c.args.full c.args.epoch (tail_held c.args.self.now.state) epochs c.is_full.ensures.sound h
+    ∙ lines-coded c.args.full c.args.epoch (tail_held c.args.self.now) epochs c.is_full.ensures.sound h

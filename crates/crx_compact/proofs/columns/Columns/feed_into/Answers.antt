@@ -1,6 +1,6 @@
 use Rattle.crx_compact.proofs.Words.{rules, refl, ◌≡◌, ◌∙◌, sym, arith}
-use Rattle.crx_compact.proofs.Words.{ap, subst, length, None, eqb-true, Content}
-use Rattle.crx_compact.proofs.Words.{HasMade, HeldColumns, step_in}
+use Rattle.crx_compact.proofs.Words.{subst, length, None, eqb-true, Content}
+use Rattle.crx_compact.proofs.Words.{HasMade, step_in}
 use Rattle.crx_compact.proofs.Words.{tail_of_history}
 use Rattle.crx_compact.proofs.PrintedBlocks.{idle-unprinted, printed-before, rows-printed}
 use Rattle.crx_compact.proofs.reading.Stages.{state-rows, step-by-stage}
@@ -13,7 +13,7 @@ pub returns-then-not-is_whole-clause-made : goal.returns-then-not-is_whole-claus
 returns-then-not-is_whole-clause-made c =
     let new = c.take_line.new in
     let rows = c.in-Ok.ensures.ok in
-    subst (λ s. HasMade (step_in c.args.self.now.state (Content (line_in c.args.line))) s None)
+    subst (λ s. HasMade (step_in c.args.self.now (Content (line_in c.args.line))) s None)
     (sym (state-rows c.self.inside.is_kept new.expected new.count new.history rows.rows))
     (made-more _ (tail_of_history
     new.history) new.count (search (rules, step-by-stage, c.self.view_is, c.in-Ok.ensures.ok))
@@ -36,8 +36,8 @@ print-requires-clause-before c = λ some.
     let inside = c.self.inside in
     let new = c.take_line.new in
     printed-before inside.is_kept inside.expected new.expected inside.count new.count inside.history
-    new.history (line_in c.args.line) c.in-Ok.is_whole c.args.self.now.state c.args.lines.now
-    (ap (λ (held : HeldColumns). held.state) c.self.view_is)
+    new.history (line_in c.args.line) c.in-Ok.is_whole c.args.self.now c.args.lines.now
+    c.self.view_is
     c.requires.printed c.in-Ok.ensures.ok some
 
 pub returns-then-not-is_whole-clause-printed : goal.returns-then-not-is_whole-clause-printed

@@ -20,11 +20,11 @@ loop-wanting-preserved c =
     let index : ℕ = c.loop-wanting.prepared in
     let rooms = c.prepare.new.self.rooms in
     let roomy : HasRoom row.name (length row.values) rooms =
-    rw (c.name.ensures.value, c.values.ensures.value) at c.in_ok-prepare.ensures.asked.room in
+    rw (c.name.ensures.value, c.values.ensures.value) at c.in_ok-prepare.ensures.room in
     record {
-      asked = asked-more c.loop-wanting.invariant.asked c.prepare.ensures.asked.asked;
+      asked = asked-more c.loop-wanting.invariant.asked c.prepare.ensures.asked;
       room = all-next (λ (r : Row). HasRoom r.name (length r.values) rooms) rows index row
-          (λ i d within. c.prepare.ensures.asked.asked.rooms _ _ (c.loop-wanting.invariant.room i d within))
+          (λ i d within. c.prepare.ensures.asked.rooms _ _ (c.loop-wanting.invariant.room i d within))
           (sym c.in-Some.ensures.value) roomy;
     }
 

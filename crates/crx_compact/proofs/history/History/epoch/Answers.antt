@@ -22,8 +22,8 @@ row-requires c =
     record { named = sound.named; allowed = sound.counted }
 
 -- no identifier is there twice, so a row is refused for want of memory alone
-pub unreachable-requires : goal.unreachable-requires
-unreachable-requires c =
+pub returns-in-Err-clause-memory : goal.returns-in-Err-clause-memory
+returns-in-Err-clause-memory c =
     let index = c.loop-index.index in
     let at = row-shown c.args.self.now index _ c.requires.announced
     (ap (λ (h : OpenHistory). slice_get h.satellites.rows index) (sym c.self.view_is)

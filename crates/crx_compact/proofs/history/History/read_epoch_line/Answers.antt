@@ -1,13 +1,12 @@
-use Rattle.crx_compact.proofs.Words.{◌≡◌, List, ℕ, Result}
-use Rattle.crx_compact.proofs.Words.{map, ap, subst, sym, arith, length, ◌≤◌}
+use Rattle.crx_compact.proofs.Words.{◌≡◌, List, ℕ}
+use Rattle.crx_compact.proofs.Words.{map, ap, arith, length, ◌≤◌}
 use Rattle.crx_compact.proofs.Words.{◌∙◌, rules, err_from_is_err_and}
-use Rattle.crx_compact.proofs.Words.{Fault, patched, past_of_tail}
-use Rattle.crx_compact.proofs.Words.{satellites_of_line, satellites_of_text, Satellite, HasRoom}
-use Rattle.crx_compact.proofs.Words.{HaveTypesRoom, OpenHistory, PlacedRows, padded_among, tail_of_history}
+use Rattle.crx_compact.proofs.Words.{patched, past_of_tail}
+use Rattle.crx_compact.proofs.Words.{satellites_of_line, satellites_of_text}
+use Rattle.crx_compact.proofs.Words.{OpenHistory, PlacedRows, padded_among, tail_of_history}
 use Rattle.crx_compact.proofs.{Words.{RowTail, and_parts, satellite_of}, Results.{by_ok}}
 use Rattle.crx_compact.proofs.{NamedAgain.named-kept, AnnouncedRows.announced-rows, EpochLines.text-few}
 use Rattle.crx_compact.proofs.history.History.read_epoch_line.Goals.{After-bytes-text}
-use Rattle.crx_compact.specs.{Refusals.AnswersRefusal}
 use Rattle.crx_compact.proofs.history.History.read_epoch_line.Goals as goal
 use Rattle.std.proofs.lemmas.Grind.{common_steps}
 
@@ -43,37 +42,17 @@ read_satellites-requires-clause-named c both =
     let at = (goal.at.read_satellites-requires-clause-named c).After-bytes-text in
     rw (text at, awaited at) (search (rules, named-kept, map, satellite_of, and_parts, c.requires.named))
 
--- the satellites have the room that they had
-rooms-before : (c : After-bytes-text) → c.begin.new.self.rooms ≡ c.args.self.now.satellites.rooms
-rooms-before c = ap (λ (p : PlacedRows). p.rooms) c.begin.ensures.begun
-    ∙ ap (λ (h : OpenHistory). h.satellites.rooms) c.self.view_is
-
 pub returns-in_err-read_satellites : goal.returns-in_err-read_satellites
 returns-in_err-read_satellites c =
     let p = err_from_is_err_and c.from_residual.result c.from_residual.ensures.1 in
-    let refused = c.in_err-read_satellites.ensures.err in
     let at = (goal.at.returns-in_err-read_satellites c).After-bytes-text in
-    let before = rooms-before at in
-    rw (p.1, p.2) (record {
-      ok = search rules;
-      err = record {
-        answer = subst (λ (made : Result (List Satellite) Fault). AnswersRefusal made
-            c.in_err-read_satellites.field-0.0) (sym (same at)) refused.answer;
-        unasked =
-            λ other name count has. subst (HasRoom name count) before (refused.unasked other name count has);
-        wanting = λ satellites is has. refused.wanting satellites (sym (same at) ∙ is)
-            (subst (HaveTypesRoom satellites) (sym before) has);
-      };
-      rooms = λ name count has.
-          c.read_satellites.ensures.rooms name count (subst (HasRoom name count) (sym before) has);
-    })
+    rw (p.1, p.2) (search (rules, same at))
 
 pub returns : goal.returns
 returns c =
     let at = (goal.at.returns c).After-bytes-text in
     let found = c.in_ok-read_satellites.ensures.ok in
     let put = c.put_first.ensures in
-    let before = rooms-before at in
     let rows = found.rows
     ∙ ap (λ (rest : List RowTail). map (padded_among rest) found.satellites)
     (awaited at) in
@@ -86,9 +65,6 @@ returns c =
         clock = ap (λ (h : OpenHistory). h.clock) c.self.view_is;
         announced = announced-rows c.args.types.now (tail_of_history c.args.self.now) c.args.line.now
             found.satellites _ (same at ∙ found.read) (put ∙ text at) rows found.awaited;
-        room = found.room;
       };
       err = search rules;
-      rooms = λ name count has.
-          c.read_satellites.ensures.rooms name count (subst (HasRoom name count) (sym before) has);
     }

@@ -26,8 +26,6 @@ invariant_of-self c =
       kept.2,
       (kept.3.0, omega (arith, kept.3.1), kept.3.2),
       kept.4,
-      kept.5,
-      kept.6,
     )
 
 pub returns : goal.returns

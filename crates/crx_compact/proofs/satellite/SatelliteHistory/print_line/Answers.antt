@@ -1,21 +1,19 @@
-use Rattle.crx_compact.proofs.Words.{rules, ◌≡◌, ◌≤◌, ◌<◌, ◌+◌, ◌*◌, ◌++◌}
-use Rattle.crx_compact.proofs.Words.{List, None, ℕ, ap, sym, ◌∙◌, arith, []}
+use Rattle.crx_compact.proofs.Words.{rules, ◌≡◌, ◌≤◌, ◌+◌, ◌*◌, ◌++◌}
+use Rattle.crx_compact.proofs.Words.{List, ℕ, ap, sym, ◌∙◌, arith}
 use Rattle.crx_compact.proofs.Words.{common_steps, length, length-each_place, length-map, length-take-le, map}
 use Rattle.crx_compact.proofs.satellite.SatelliteHistory.print_line.Goals.{After-self, then-arcs-count}
 use Rattle.crx_compact.proofs.satellite.SatelliteHistory.print_line.Goals.{else-arcs-count}
-use Rattle.crx_compact.proofs.{Words.{take, columns, get_or, shown_value}, SoundTexts.columns-trimmed}
-use Rattle.crx_compact.proofs.{CellsFor.{value-there, values-past}, PlaceByPlace.print-on}
-use Rattle.std.proofs.{lemmas.Grind.get_or_default_zero, lemmas.List.{drop_all, get_or_default}}
+use Rattle.crx_compact.proofs.{Words.{take, columns, shown_value}, SoundTexts.columns-trimmed}
+use Rattle.crx_compact.proofs.{CellsFor.{values-past}}
+use Rattle.std.proofs.{lemmas.List.{drop_all}}
 use Rattle.crx_text.proofs.WrittenTexts.{line-written}
 use Rattle.crx_text.specs.meaning.PrintedCells.{printed_cells}
 use Rattle.crx_compact.specs.Placing.{SatelliteTail, cells_for}
-use Rattle.crx_compact.specs.Arcs.{NearArc, whole_arc, whole_arcs}
-use Rattle.crx_compact.proofs.arcs.Parts.{arc-there, length-arcs}
 use Rattle.crx_compact.proofs.satellite.SatelliteHistory.print_line.Goals as goal
 
 -- its cells are those of its arcs, and the others
 cells : (c : After-self) → c.args.self.now.cells ≡ cells_for c.self.inside.count
-    (whole_arcs c.self.inside.near.items c.self.inside.far.items)
+    c.self.inside.arcs.items
 cells c = sym (ap (λ (t : SatelliteTail). t.cells) c.self.view_is)
 
 pub print_cells-requires-clause-room : goal.print_cells-requires-clause-room
@@ -36,15 +34,14 @@ returns c =
     let flags : List ℕ = take (2 * count) c.deref.result.now in
     let own = cells (goal.at.returns c).After-self in
     let many : length c.args.self.now.cells ≡ count = ap length own ∙ length-each_place _ _ in
-    let long' = length-arcs c.self.inside.near.items c.self.inside.far.items in
-    let same : c.as_slice-arcs.result.now ≡ c.self.inside.near.items = grind (arith, common_steps) in
+    let same : c.as_slice-arcs.result.now ≡ c.self.inside.arcs.items = grind (arith, common_steps) in
     let all : length c.as_slice-arcs.result.now
-    ≡ length (whole_arcs c.self.inside.near.items c.self.inside.far.items) =
-    ap length same ∙ sym long' in
+    ≡ length c.self.inside.arcs.items =
+    ap length same in
     let paired : length flags ≡ 2 * count = grind (arith, common_steps, length-take-le) in
     let few : length c.as_slice-arcs.result.now ≤ count = rw same c.self.invariant.1 in
-    let made = c.print_cells.ensures.put c.self.inside.far.items count paired few in
-    let past = values-past (whole_arcs c.self.inside.near.items c.self.inside.far.items) count in
+    let made = c.print_cells.ensures.put count paired few in
+    let past = values-past c.self.inside.arcs.items count in
     let printed : take (c.args.at + 3 + 16 * count) c.if-arcs-count.bytes ≡ take (c.args.at + 3)
     c.put_identifier.new.bytes ++ printed_cells (map shown_value c.args.self.now.cells)
     (columns flags 1 (2 * count)) =

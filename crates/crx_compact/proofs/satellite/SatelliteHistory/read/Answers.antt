@@ -4,7 +4,6 @@ use Rattle.crx_compact.proofs.{SatelliteLines.stored-read, Marks.{none-there, on
 use Rattle.crx_compact.proofs.Words.{length-each_place}
 use Rattle.std.proofs.{lemmas.Result.IfErr-weaker, lemmas.List.take_rest}
 use Rattle.crx_base.specs.Padded.{line_in}
-use Rattle.crx_compact.specs.Arcs.{whole_arcs}
 use Rattle.crx_compact.proofs.satellite.SatelliteHistory.read.Goals as goal
 
 pub returns-in_err-at : goal.returns-in_err-at
@@ -12,8 +11,7 @@ returns-in_err-at c =
     let p = err_from_is_err_and c.from_residual.result c.from_residual.ensures.1 in
     rw (p.1, p.2, ← c.self.view_is) (record {
       ok = tt;
-      err = cells-refused c.self.inside.indicators.items (whole_arcs c.self.inside.near.items
-          c.self.inside.far.items)
+      err = cells-refused c.self.inside.indicators.items c.self.inside.arcs.items
           c.self.inside.count (line_in c.args.line) c.requires.other c.in_err-at.ensures.err;
       sized = search (rules, length-each_place);
       room = grind (arith, common_steps);
@@ -33,7 +31,7 @@ returns c =
       ok = search (rules, take_rest, take_at, on-both, stored-read);
       err = rw (← c.self.view_is) (
           IfErr-weaker c.patch_indicators.result _ _ (λ fault. flags-refused c.self.inside.indicators.items
-          (whole_arcs c.self.inside.near.items c.self.inside.far.items) c.self.inside.count
+          c.self.inside.arcs.items c.self.inside.count
           (line_in c.args.line)
           c.requires.other c.in_ok-at.ensures.ok) refused);
       sized = search (rules, length-each_place);

@@ -1,13 +1,11 @@
-use Rattle.crx_compact.proofs.Words.{rules, length, ◌≤◌, ◌≡◌, ◌++◌, arith}
+use Rattle.crx_compact.proofs.Words.{rules, ◌≡◌, ◌++◌, arith}
 use Rattle.crx_compact.proofs.Words.{common_steps, ◌*◌, ◌-◌, take, replicate}
 use Rattle.crx_compact.proofs.Resizing.{fewer-held, fewer-types, more-held, more-types}
 use Rattle.crx_compact.proofs.satellite.SatelliteHistory.resize.Goals.{After-put_blanks}
 use borrow.Rule.Slice.PartMut.{put_mid}
-use Rattle.crx_compact.proofs.{CellsFor.blanks-put, Words.take_at}
+use Rattle.crx_compact.proofs.{CellsFor.{blanks-put, cells-cut}, Words.take_at}
 use Rattle.std.proofs.lemmas.List.{length-take}
 use Rattle.std.specs.Prelude.{vec_capacity}
-use Rattle.crx_compact.specs.Arcs.{whole_arcs}
-use Rattle.crx_compact.proofs.arcs.Parts.{arcs-first, length-arcs}
 use Rattle.crx_compact.proofs.satellite.SatelliteHistory.resize.Goals as goal
 
 pub invariant_of-self : goal.invariant_of-self
@@ -20,11 +18,9 @@ invariant_of-self c =
 pub returns-then-count-from : goal.returns-then-count-from
 returns-then-count-from c =
     let i = c.self.inside in
-    let few : length (whole_arcs i.near.items i.far.items) ≤ i.count =
-    rw (length-arcs i.near.items i.far.items) c.self.invariant.1 in
-    let fewer = fewer-types i.indicators.items (whole_arcs i.near.items i.far.items)
-    (whole_arcs c.truncate.new.self.items i.far.items) i.count c.args.count _ _
-    (omega arith) few (rw (c.truncate.ensures.items) (arcs-first i.near.items i.far.items c.args.count)) in
+    let fewer = fewer-types i.indicators.items i.arcs.items
+    c.truncate.new.self.items i.count c.args.count _
+    (omega arith) c.self.invariant.1 (rw (c.truncate.ensures.items) (cells-cut i.arcs.items c.args.count)) in
     record { resized = rw (← c.self.view_is, c.truncate.ensures.capacity) fewer }
 
 -- the new indicators are blank
@@ -49,9 +45,7 @@ pub returns : goal.returns
 returns c =
     let i = c.self.inside in
     let put = put (goal.at.returns c).After-put_blanks in
-    let few : length (whole_arcs i.near.items i.far.items) ≤ i.count =
-    rw (length-arcs i.near.items i.far.items) c.self.invariant.1 in
-    let more = more-types i.indicators.items _ (whole_arcs i.near.items i.far.items) i.count c.args.count
-    (vec_capacity i.near) (vec_capacity i.far)
-    (omega arith) few put in
+    let more = more-types i.indicators.items _ i.arcs.items i.count c.args.count
+    (vec_capacity i.arcs)
+    (omega arith) c.self.invariant.1 put in
     search (rules, take_at, more)

@@ -1,11 +1,10 @@
-use Rattle.std.proofs.Common.{◌≡◌, ℕ, length, length-append, arith, ap, ◌∙◌, None, get_or, []}
-use Rattle.std.proofs.{lemmas.List.{length-map, length-take-le, length-replicate}, lemmas.Grind.common_steps}
+use Rattle.std.proofs.Common.{◌≡◌, ℕ, length, length-append, arith, ap, ◌∙◌, None, get_or}
+use Rattle.std.proofs.{lemmas.List.{length-map, length-take-le, length-replicate, get_or_default}, lemmas.Grind.common_steps}
 use Rattle.std.proofs.lemmas.Option.{slice_get-get_or}
 use Rattle.crx_rinex.specs.SatelliteLines.{with_value}
 use Rattle.crx_compact.proofs.{CellsFor.{cell-there, length-cells}, ShownRows.{row-all, row-more}}
 use Rattle.crx_compact.proofs.{SoundTexts.columns-trimmed, Words.length-each_place}
 use Rattle.crx_compact.specs.ArcSteps.{shown_value}
-use Rattle.crx_compact.proofs.arcs.Parts.{arc-there, length-arcs}
 use Rattle.crx_compact.proofs.satellite.SatelliteHistory.row.Goals as goal
 use Rattle.crx_compact.proofs.satellite.SatelliteHistory.row.Goals.{in-Some, in-None}
 
@@ -28,10 +27,10 @@ loop-index-preserved c =
         arith,
         common_steps,
         cell-there,
-        arc-there c.deref.result.now c.self.inside.far.items place w.in-Some.arc.now,
-        w.value-value.ensures.value (get_or c.self.inside.far.items place []),
+        get_or_default,
+        w.value-value.ensures.value,
       )
-      | in-None w ↦ grind (arith, common_steps, cell-there, length-arcs)
+      | in-None w ↦ grind (arith, common_steps, cell-there)
     ] in
     c.set.ensures.value ∙ ap (with_value c.loop-index.row place) value ∙ row-more _ _
     c.args.self.now.cells c.self.inside.count place c.loop-index.row _ c.loop-index.invariant

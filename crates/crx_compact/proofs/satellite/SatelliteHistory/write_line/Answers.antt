@@ -5,12 +5,11 @@ use Rattle.crx_compact.proofs.placing.SteppedRows.{arcs-marked, codes-marked}
 use Rattle.crx_compact.specs.Placing.{SatelliteTail, cells_for}
 use Rattle.crx_compact.specs.Cells.{codes_of_cells}
 use Rattle.crx_text.proofs.WrittenTexts.{line-written}
-use Rattle.crx_compact.specs.Arcs.{whole_arcs}
 use Rattle.crx_compact.proofs.satellite.SatelliteHistory.write_line.Goals as goal
 
 -- it has as many types as the row
 marked : (c : After-self) → (cells_for (length c.args.values.now)
-    (whole_arcs c.self.inside.near.items c.self.inside.far.items)
+    c.self.inside.arcs.items
     ≡ cells_for (length c.args.values.now) c.args.self.now.cells)
     × (c.self.inside.count ≡ length c.args.values.now)
 marked c =

@@ -5,7 +5,7 @@ use Rattle.crx_filter.proofs.steps.CompactionKnows.{compaction_of, copied-takes}
 use Rattle.crx_filter.proofs.steps.CompactionKnows.{ended-takes, kept_in, moved-takes}
 use Rattle.crx_filter.proofs.steps.CompactionKnows.{refused-takes}
 use Rattle.crx_filter.proofs.steps.CompactionSteps.{copied-closed, is_copied, is_first_line}
-use Rattle.crx_filter.proofs.steps.Together.{begun-asked, begun-holds, begun-open, begun-rows}
+use Rattle.crx_filter.proofs.steps.Together.{begun-asked, begun-open, begun-rows}
 use Rattle.crx_filter.proofs.steps.Together.{begun-together, begun-whole, closed-together, none-there}
 use Rattle.crx_filter.proofs.steps.Together.{same-together, served-closed, served-open}
 use Rattle.{crx_filter.proofs.compaction.CompactionDirection.take_elsewhere.Goals.{After-begin, After-reset}}
@@ -35,10 +35,10 @@ returns-in_err-take c =
     let drained = rw (← c.self.view_is) at c.requires.asked.drained in
     let closed = rw (← c.self.view_is, ← read.same.stage) at c.requires.closed in
     rw (← c.self.view_is, p.1, p.2) (record {
-      takes = refused-takes _ _ (compaction_of was.index was.reader was.encoder)
+      takes = refused-takes _ (compaction_of was.index was.reader was.encoder)
           (compaction_of was.index c.take.new.self was.encoder) (line_shown c.args.line) _
           (read.refuses (kept_in was))
-          (λ lacks room. room.types lacks.0 lacks.1) read.same.types refl (λ name count has. has)
+          read.same.types refl
           (λ choices chosen. served-closed _ _ _ closed) drained;
     })
 
@@ -54,9 +54,9 @@ returns-in-Nothing c =
     rw (c.in-Nothing.is, c.bytes.ensures.content) at (c.in_ok-take.ensures.reads.takes (kept_in was)) in
     let drained = rw (← c.self.view_is) at c.requires.asked.drained in
     rw (← c.self.view_is) (record {
-      takes = moved-takes _ _ (compaction_of was.index was.reader was.encoder)
-          (compaction_of was.index c.take.new.self was.encoder) (line_shown c.args.line) _ c.args.line.short
-          (λ name count has. has) takes.0 refl (λ choices chosen. served-closed _ _ _ takes.1) drained;
+      takes = moved-takes _ (compaction_of was.index was.reader was.encoder)
+          (compaction_of was.index c.take.new.self was.encoder) (line_shown c.args.line) _
+          takes.0 refl (λ choices chosen. served-closed _ _ _ takes.1) drained;
     })
 
 pub invariant_of-self-then-is_in_epoch : goal.invariant_of-self-then-is_in_epoch
@@ -71,10 +71,10 @@ returns-then-is_in_epoch c =
     let begun = c.begin.ensures.begun in
     let opened = sym c.is_in_epoch.ensures.value ∙ c.if-is_in_epoch.true in
     rw (← c.self.view_is) (record {
-      takes = moved-takes _ _ (compaction_of was.index was.reader was.encoder)
+      takes = moved-takes _ (compaction_of was.index was.reader was.encoder)
           (compaction_of was.index c.take.new.self c.begin.new.self)
-          (line_shown c.args.line) _ c.args.line.short
-          (rw begun (λ name count has. has)) (begun-open _ _ _ takes opened) (rw begun refl)
+          (line_shown c.args.line) _
+          (begun-open _ _ _ takes opened) (rw begun refl)
           (λ choices chosen.
           served-open _ _ _ (due (goal.at.returns-then-is_in_epoch c).After-begin choices chosen))
           (ap (λ (e : EncoderState). e.pending) begun);
@@ -104,12 +104,12 @@ returns-else-is_in_epoch c =
     let done = begun-whole _ _ _ takes (sym c.is_in_epoch.ensures.value ∙ c.if-is_in_epoch.false) in
     let ends = c.end_epoch.ensures.ends done.head done.held in
     rw (← c.self.view_is) (record {
-      takes = ended-takes _ _ (compaction_of was.index was.reader was.encoder)
+      takes = ended-takes _ (compaction_of was.index was.reader was.encoder)
           (compaction_of (was.index + 1) c.take.new.self c.end_epoch.new.encoder) (line_shown c.args.line) _
-          c.args.line.short (rw (ends.rooms, begun) (λ name count has. has)) done
+          done
           c.begin.new.self (due (goal.at.returns-else-is_in_epoch c).After-begin)
           (ap (λ (e : EncoderState). e.before) begun) (begun-rows was.encoder takes begun)
-          (begun-holds was.encoder takes begun) ends refl;
+          ends refl;
     })
 
 pub invariant_of-self-then-this : goal.invariant_of-self-then-this
@@ -122,9 +122,8 @@ returns-in-Header-true c =
     let takes = rw (c.in-Header-true.is, c.bytes.ensures.content)
     at (c.in_ok-take.ensures.reads.takes (kept_in was)) in
     rw (← c.self.view_is) (record {
-      takes = copied-takes _ _ (compaction_of was.index was.reader was.encoder)
+      takes = copied-takes _ (compaction_of was.index was.reader was.encoder)
           (compaction_of was.index c.take.new.self c.put_first_lines.new.self) (line_shown c.args.line) _
-          c.args.line.short (rw c.put_first_lines.ensures.put (λ name count has. has))
           (Header c.in-Header-true.is_first)
           c.date.result.now refl takes (λ choices chosen. rw chosen (sym c.date.ensures.value))
           (rw (c.in-Header-true.is_first-test, c.put_first_lines.ensures.put) refl) refl;
@@ -151,9 +150,9 @@ returns-in_default c =
     let copied = is-copied (goal.at.returns-in_default c).After-reset in
     let takes = rw c.bytes.ensures.content at (c.in_ok-take.ensures.reads.takes (kept_in was)) in
     rw (← c.self.view_is) (record {
-      takes = copied-takes _ _ (compaction_of was.index was.reader was.encoder)
+      takes = copied-takes _ (compaction_of was.index was.reader was.encoder)
           (compaction_of was.index c.take.new.self c.reset.new.self) (line_shown c.args.line) _
-          c.args.line.short (rw c.reset.ensures.emptied (λ name count has. has)) _
+          _
           c.args.options.now.date copied.0 takes (λ choices chosen. rw chosen refl)
           (rw (copied.1, c.reset.ensures.emptied) refl) refl;
     })

@@ -11,13 +11,12 @@ pub returns-in_err-is_last : goal.returns-in_err-is_last
 returns-in_err-is_last c =
     let p = err_from_is_err_and c.from_residual.result c.from_residual.ensures.1 in
     let was = c.self.inside in
-    let opened = rw (← c.self.view_is) at c.requires.open in
     let row = rw c.padded.ensures.content at c.in_err-is_last.ensures.refused in
     rw (← c.self.view_is, p.1, p.2) (record {
-      takes = refused-takes _ _ (compaction_of was.index was.reader was.encoder)
+      takes = refused-takes _ (compaction_of was.index was.reader was.encoder)
           (compaction_of was.index c.compact_row.new.reader c.compact_row.new.encoder)
           (line_shown c.args.line) _
-          (row.refuses (kept_in was)) (λ lacks room. lacks (room.row opened)) row.types refl row.kept
+          (row.refuses (kept_in was)) row.types refl
           (λ choices chosen. row.full _ chosen) row.nothing;
     })
 
@@ -34,10 +33,10 @@ returns-then-not-is_last c =
     let row = rw c.padded.ensures.content at c.in_ok-is_last.ensures.written in
     let moves = row-moves row (kept_in was) c.if-not-is_last.true in
     rw (← c.self.view_is) (record {
-      takes = moved-takes _ _ (compaction_of was.index was.reader was.encoder)
+      takes = moved-takes _ (compaction_of was.index was.reader was.encoder)
           (compaction_of was.index c.compact_row.new.reader c.compact_row.new.encoder)
           (line_shown c.args.line) _
-          c.args.line.short row.kept moves.0
+          moves.0
           (ap (λ (e : EncoderState). record { index = was.index; tail = e.before }) row.written)
           (λ choices chosen. served-open _ _ _ (ap (λ (e : EncoderState). e.in_full) row.written
           ∙ due-there _ _ _ opened chosen))
@@ -66,11 +65,11 @@ returns c =
     let done = row-ends row (kept_in was) c.if-not-is_last.false in
     let ends = c.end_epoch.ensures.ends done.head done.held in
     rw (← c.self.view_is) (record {
-      takes = ended-takes _ _ (compaction_of was.index was.reader was.encoder)
+      takes = ended-takes _ (compaction_of was.index was.reader was.encoder)
           (compaction_of (was.index + 1) c.compact_row.new.reader c.end_epoch.new.encoder)
           (line_shown c.args.line) _
-          c.args.line.short (rw ends.rooms row.kept) done c.compact_row.new.encoder
+          done c.compact_row.new.encoder
           (λ choices chosen. ap (λ (e : EncoderState). e.in_full) row.written ∙ due-there _ _ _ opened chosen)
           (ap (λ (e : EncoderState). e.before) row.written) (ap (λ (e : EncoderState). e.rows) row.written)
-          row.held ends refl;
+          ends refl;
     })

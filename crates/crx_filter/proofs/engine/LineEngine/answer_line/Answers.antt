@@ -9,7 +9,7 @@ returns-in-Err g c =
     let taken = c.in-Err.ensures.takes in
     rw (← c.self.view_is) (record {
       takes = refused-read g.D.Direction _ c.fail.new.self (line_shown c.args.line)
-          (goes-on g.D.Direction _ c.self.invariant.3 now.lawful now.enough) now.passes
+          (goes-on g.D.Direction _ c.self.invariant.3 now.lawful) now.passes
           (λ choices lines known. c.fail.ensures.stays choices lines (taken.stays choices lines known))
           c.args.line.short (c.fail.ensures.fails Open refl refl) (sym now.value) now.held
           (sym (c.begins_epoch.ensures.value ∙ ap begins_epoch c.bytes.ensures.content)) taken.reads;

@@ -4,7 +4,7 @@ use Rattle.crx_filter.proofs.steps.EngineFaults.{ends-failed, ends-skipped, ends
 use Rattle.crx_filter.proofs.engine.LineEngine.end.{Given.Over, Goals.{After-conclude, After-stage-stage}}
 use Rattle.crx_filter.specs.DirectionParts.{DirectionParts, EngineParts, answer_for}
 use Rattle.crx_filter.specs.EngineSteps.{answer_of_step}
-use Rattle.crx_filter.specs.{EngineState.{EngineGoes, TakesEnd, engine_state}, LineByLine.state_end_with}
+use Rattle.crx_filter.specs.{EngineState.{EngineGoes, TakesEnd}}
 use Rattle.crx_filter.specs.declared.engine.LineEngine.TheInside.{Inside}
 use Rattle.crx_runs.specs.declared.engine.Step.{Step}
 use Rattle.crx_runs.specs.declared.engine.Step.TheVariants as Steps
@@ -16,7 +16,6 @@ engine e = record { options = e.options; number = e.number; direction = e.direct
 
 goes : (g : Over) (c : After-stage-stage g) → EngineGoes g.D.Direction (engine c.self.inside)
 goes g c = goes-on g.D.Direction _ c.self.invariant.3 c.stage-stage.ensures.lawful
-    c.stage-stage.ensures.enough
 
 -- a good end
 concluded : (g : Over) (c : After-conclude g) (step : Step) → EngineGoes g.D.Direction (engine c.self.inside)

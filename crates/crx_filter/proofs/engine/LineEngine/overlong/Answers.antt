@@ -37,7 +37,7 @@ returns-in_default g c =
       steps = made ∙ sym next;
       drained = drained;
       takes = λ line long. refused-takes d was then line
-          (goes-on d was c.self.invariant.3 now.lawful now.enough) now.passes c.fail.ensures.stays LineTooLong
+          (goes-on d was c.self.invariant.3 now.lawful) now.passes c.fail.ensures.stays LineTooLong
           Overlong _ [] made (as-read-long line long) (inl (made ∙ sym next));
       once = c.fail.ensures.once refl;
     })

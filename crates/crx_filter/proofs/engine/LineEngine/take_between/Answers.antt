@@ -9,8 +9,7 @@ returns-in-Err g c =
     let content = ap (λ (l : InputLine). l.content) c.of-line.ensures.shown in
     rw (← c.self.view_is, ← c.of-line.ensures.shown, ← content) (record {
       takes = refused-read g.D.Direction _ c.fail.new.self (line_shown c.of-line.result)
-          (goes-on g.D.Direction _ c.self.invariant.3 c.stage-stage.ensures.lawful
-          c.stage-stage.ensures.enough) c.stage-stage.ensures.passes
+          (goes-on g.D.Direction _ c.self.invariant.3 c.stage-stage.ensures.lawful) c.stage-stage.ensures.passes
           (λ choices lines known. c.fail.ensures.stays choices lines (taken.stays choices lines known))
           c.of-line.result.short
           (c.fail.ensures.fails _ c.may_skip.ensures.value c.is_in_epoch-is_open.ensures.value)
@@ -27,9 +26,9 @@ returns-in-Ok g c =
     let next = rw (← c.self.view_is) at c.requires.next in
     rw (← c.self.view_is, ← c.of-line.ensures.shown, ← content) (record {
       takes = record {
-        goes = goes-on d _ c.self.invariant.3 c.stage-stage.ensures.lawful c.stage-stage.ensures.enough;
+        goes = goes-on d _ c.self.invariant.3 c.stage-stage.ensures.lawful;
         steps = handed-line d.by_line _ c.self.inside.options c.self.inside.number
-            (d.parts c.self.inside.direction) (d.parts c.take_elsewhere-taken.new.self) _ _ out _ _ refl
+            (d.parts c.self.inside.direction) (d.parts c.take_elsewhere-taken.new.self) _ out _ _ refl
             c.in-Ok.ensures.takes.reads;
         ended = grind (arith, common_steps);
         notes = grind (arith, common_steps, next);

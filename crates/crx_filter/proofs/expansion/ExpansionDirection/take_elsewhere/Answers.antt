@@ -25,16 +25,14 @@ returns-in_err-read_between c = grind (arith, common_steps, err_from_is_err_and,
 pub returns-then-branch : goal.returns-then-branch
 returns-then-branch c =
     rw (← c.self.view_is, none (goal.at.returns-then-branch c).After-read_between) (record {
-      takes = reader-takes c.self.inside.reader c.read_between.new.self c.self.inside.lines _
-          (line_shown c.args.line) _ _ c.args.line.short
-          (rw (c.if-branch.true, c.bytes.ensures.content) at c.in_ok-read_between.ensures.reads)
-          c.read_between.ensures.kept;
+      takes = reader-takes c.self.inside.reader c.read_between.new.self _
+          (line_shown c.args.line) _ _
+          (rw (c.if-branch.true, c.bytes.ensures.content) at c.in_ok-read_between.ensures.reads);
     })
 
 pub returns : goal.returns
 returns c = rw (← c.self.view_is, none (goal.at.returns c).After-read_between) (record {
-  takes = reader-takes c.self.inside.reader c.read_between.new.self c.self.inside.lines _
-      (line_shown c.args.line) _ _ c.args.line.short
-      (rw (c.if-branch.false, c.bytes.ensures.content) at c.in_ok-read_between.ensures.reads)
-      c.read_between.ensures.kept;
+  takes = reader-takes c.self.inside.reader c.read_between.new.self _
+      (line_shown c.args.line) _ _
+      (rw (c.if-branch.false, c.bytes.ensures.content) at c.in_ok-read_between.ensures.reads);
 })

@@ -6,7 +6,6 @@ pub returns : goal.returns
 returns c =
     let read = rw c.padded.ensures.content at c.go_on.ensures.reads in
     rw (← c.self.view_is) (record {
-      takes = reader-takes c.self.inside.reader c.go_on.new.self
-          c.self.inside.lines _
-          (line_shown c.args.line) c.go_on.result _ c.args.line.short read c.go_on.ensures.kept;
+      takes = reader-takes c.self.inside.reader c.go_on.new.self _
+          (line_shown c.args.line) c.go_on.result _ read;
     })

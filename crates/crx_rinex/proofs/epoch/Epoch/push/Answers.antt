@@ -6,7 +6,7 @@ use Rattle.crx_header.specs.meaning.EpochColumns.{satellites_of}
 use Rattle.crx_rinex.proofs.{Rows.{among-names, parts-more}, epoch.Epoch.push.Goals.After-contains}
 use Rattle.crx_rinex.specs.{Epochs.{AreEpochParts, is_full_epoch}, meaning.Epochs.has_satellite}
 use Rattle.crx_rinex.specs.meaning.Observations.{Epoch}
-use Rattle.crx_rinex.proofs.epoch.Epoch.push.Goals.{then-is_empty+else-is_err+else-is_err-2, else-is_empty}
+use Rattle.crx_rinex.proofs.epoch.Epoch.push.Goals.{then-is_empty+in_default+in_default-reserve_keys, else-is_empty}
 use Rattle.crx_rinex.proofs.epoch.Epoch.push.Goals as goal
 
 -- whether the epoch has the satellite
@@ -30,7 +30,7 @@ invariant_of-self-2 c =
     let ready : (made.head ≡ head) × (made.rows.items ≡ rows) × (made.names.keys ≡ names)
     × (satellites_of head.head ≤ vec_capacity made.rows)
     × (satellites_of head.head ≤ length rows + spare made.names) = elim c.if-is_empty.branch [
-      | then-is_empty+else-is_err+else-is_err-2 w ↦ rw w.self-inside-is (
+      | then-is_empty+in_default+in_default-reserve_keys w ↦ rw w.self-inside-is (
         refl,
         search rules,
         search rules,
