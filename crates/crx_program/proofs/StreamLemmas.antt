@@ -237,7 +237,7 @@ module _ {F G I O E : Type 0} (file : F → Option (List ℕ)) (made : G → Opt
           inl (front_of begun.0 begun.1 place),
           (calls_of job, [], begun.2, append-nil (calls_of job)),
           from-waits file made stdin first last job.source source job.target job.force target job.tool begun.0
-          output messages status same_input begun.3,
+              output messages status same_input begun.3,
         )
     run_over (inr not_begun) = (
       λ well. absurd (well not_begun.status_is),

@@ -30,7 +30,7 @@ returns g c =
     let may_wait = λ (d : Logged (Std (Uninterrupted g.row.I.Denot))). d.inner.may_wait in
     let first : may_wait c.new-input.result ≡ c.args.may_wait =
     ap (λ (d : Std (Uninterrupted g.row.I.Denot)). d.may_wait)
-        (c.new-input.ensures.inner ∙ c.waiting.ensures.whole) in
+    (c.new-input.ensures.inner ∙ c.waiting.ensures.whole) in
     let run = λ (job : Job) (e : plan_of (map string_bytes c.args.words.items) ≡ Run job). run_over
     (λ (r : Uninterrupted g.row.H-File.Denot). g.H.File.Read.remaining r.inner)
     (writer_contents (late_contents (λ (w : UntilFailure (Uninterrupted g.row.H-File.Denot)).
