@@ -1,5 +1,5 @@
-//! Arcs: Hatanaka's Compact RINEX 3.0, data arcs. An arc's values become codes and come back from them by
-//! running differences: an arc is stored as its order and its latest differences of order 0, 1, .. up to it.
+//! Arcs (Hatanaka's Compact RINEX 3.0, data arcs): values to coded values and back. An arc is stored as its
+//! order and its latest differences of order 0, 1, .. up to it.
 
 ghost use Rattle.std.specs.Prelude.{◌≡◌, ◌≤◌, ◌<◌, ◌+◌, ◌*◌, ◌^◌, ◌∷◌, [], ℤ, List, Option, None, Some, Ok, Err, length, take, IfSome, OnSome, IfNone, OnOk, OnErr, IsTrue, ◌↔◌};
 ghost use Rattle.crx_text.specs.Codes.{IsPrintable, IsShort};
@@ -22,11 +22,11 @@ use crx_base::limits::{CLOCK_WIDTH, OBSERVATION_WIDTH, ORDER_LIMIT, WRITTEN_ORDE
 use crx_text::Code;
 use std::marker::Model;
 
-/// The most differences that an arc stores: those of order 0 to [`ORDER_LIMIT`].
+/// The greatest number of differences that an arc stores: those of order 0 to [`ORDER_LIMIT`].
 const KEPT_LIMIT: usize = ORDER_LIMIT as usize + 1;
 
-/// The order 3 and a count of four differences, as two bytes of one number: nearly all arcs have these from
-/// their fourth value on.
+/// Order 3 and four differences, as two bytes of one number. Nearly every arc has these from its fourth
+/// value on.
 const THIRD: u16 = 0x0403;
 
 /// The arc of an observation, in thousandths of its unit.
@@ -35,12 +35,12 @@ pub type ObsArc = Arc<OBSERVATION_WIDTH>;
 /// The arc of the receiver clock offset, in units of 10^-12 seconds.
 pub type ClockArc = Arc<CLOCK_WIDTH>;
 
-/// An arc of values that fit a field of so many columns: its order, and its latest differences of order 0, 1,
-/// .. up to it or as far as its values go. It takes no memory elsewhere.
+/// An arc of values that fit a field of `WIDTH` columns: its order, and its latest differences of order 0,
+/// 1, .. up to it or as far as its values go. It allocates nothing.
 #[derive(Drop)]
 pub struct Arc<const WIDTH: usize> {
-    // These two are compared as one number (`THIRD`). They are before the differences, so that most arcs are
-    // read and written in their first 40 bytes of 88.
+    // Both are compared as one number (`THIRD`). They precede the differences, so that most arcs are read
+    // and written in the first half of their bytes.
     order: u8,
     count: u8,
     differences: [i64; KEPT_LIMIT],
@@ -58,8 +58,8 @@ impl<const WIDTH: usize> Model for Arc<WIDTH> {
     ghost invariant = { λ arc. IsArcInRange WIDTH arc.order arc.count (take arc.count arc.differences) };
 }
 
-/// Puts the differences at a next value in place of those at the value before it, of order 0 up to the given
-/// one, and gives the difference of that order.
+/// Replaces the differences of order 0 to `order`, which are those at the previous value, by those at
+/// `value`. Returns the one of order `order`.
 fn go_on(differences: &mut [i64; KEPT_LIMIT], order: usize, value: i64) -> i64
     requires few { order ≤ ORDER_LIMIT }
     requires below { AreBelow value_bound (take order differences.old) }
@@ -77,7 +77,7 @@ fn go_on(differences: &mut [i64; KEPT_LIMIT], order: usize, value: i64) -> i64
     next
 }
 
-/// Puts the differences of order 0 to 3 in place of others.
+/// Replaces the first four differences, which have order 0 to 3.
 #[inline(always)]
 fn put_four(differences: &mut [i64], value: i64, first: i64, second: i64, third: i64)
     requires { 3 < length differences.old }
@@ -89,8 +89,8 @@ fn put_four(differences: &mut [i64], value: i64, first: i64, second: i64, third:
     differences[3] = third;
 }
 
-/// The value after the one that some differences of order 0, 1, .. are at, by the difference of the next
-/// order.
+/// Returns the value after the one that `differences`, of order 0, 1, .., belong to. `number`: its
+/// difference of the next order.
 fn value_after(differences: &[i64], number: i64) -> i64
     requires few { length differences.now ≤ ORDER_LIMIT }
     requires below { AreBelow value_bound differences.now }
@@ -105,7 +105,7 @@ fn value_after(differences: &[i64], number: i64) -> i64
 }
 
 impl<const WIDTH: usize> Arc<WIDTH> {
-    /// An arc without values.
+    /// Returns an arc without values.
     pub fn new() -> Self
         requires { WIDTH ≤ CLOCK_WIDTH }
         ensures empty { result ≡ None }
@@ -117,17 +117,16 @@ impl<const WIDTH: usize> Arc<WIDTH> {
         }
     }
 
-    /// The code of a next value, after which the arc goes on: `Missing` where there is none, and then the arc
-    /// is over; of a first value the value itself and the order [`WRITTEN_ORDER`]; else the next difference
-    /// of the arc's order, or of a lower one while it has too few values. It asks for a value that fits the
-    /// columns.
+    /// Returns the coded value of `value`, which the arc then contains. If `value` is missing, this is
+    /// `Missing`, and the arc ends. A first value is coded as itself, with the order [`WRITTEN_ORDER`]; any
+    /// other as the next difference of the arc's order, or of a lower one while the arc has too few values.
     #[inline(always)]
     pub fn push(&mut self, value: Option<i64>) -> Code
         requires { IsMissingOrWithin WIDTH value }
         ensures code { result ≡ code_of_value value self.old }
         ensures printable { IsPrintable result }
         ensures arc { self.new ≡ arc_of_value value self.old }
-        // After any values at all, missing ones too, the code is the one of the arc that they leave.
+        // `values`: any earlier values, missing ones included, newest first.
         ensures every { (values : List (Option ℤ)) → self.old ≡ arc_of_values values
             → (result ≡ code_at WRITTEN_ORDER (stretch (value ∷ values)))
             × (self.new ≡ arc_of_values (value ∷ values)) }
@@ -151,10 +150,9 @@ impl<const WIDTH: usize> Arc<WIDTH> {
         Code::Step(highest)
     }
 
-    /// Does what [`Arc::push`] does where the code is a difference of order 3, as that of most values is, and
-    /// gives that difference: no other code has to be tried, three differences are made without a loop, and
-    /// the order and the count, which stay, aren't written. `None` comes where the arc has another order or
-    /// fewer values, and then it is as it was.
+    /// Codes `value` like [`Arc::push`] if its coded value is a difference of order 3, and returns that
+    /// difference: no loop, no other coded value to try, and the order and the count aren't written.
+    /// Returns `None` if the arc has another order or fewer values; then it is unchanged.
     #[inline(always)]
     pub(crate) fn push_third(&mut self, value: i64) -> Option<i64>
         requires { IsWithin WIDTH value }
@@ -173,20 +171,18 @@ impl<const WIDTH: usize> Arc<WIDTH> {
         Some(third)
     }
 
-    /// The value that a next code gives, after which the arc goes on; `None` of `Missing`, and then the arc
-    /// is over. A start begins a new arc, also in the middle of one. It asks for an order and a number within
-    /// the limits.
+    /// Returns the value that `code` stands for, which the arc then contains; `None` for `Missing`, which
+    /// ends the arc. A start begins a new arc, even in the middle of one.
     ///
-    /// `NoArc` comes at a difference where no arc has begun, `OutOfRange` where the value doesn't fit the
-    /// columns. After either the arc is as it was.
+    /// Returns `NoArc` for a difference if no arc has begun, `OutOfRange` if the value doesn't fit the
+    /// columns. The arc is then unchanged.
     #[inline(always)]
     pub fn apply(&mut self, code: Code) -> Result<Option<i64>, Fault>
         requires { IsPrintable code }
         ensures value { result ≡ value_of_code WIDTH code self.old }
         ensures ok { OnOk result (self.new ≡ arc_of_code code self.old) }
         ensures err { OnErr result (self.new ≡ self.old) }
-        // After any codes at all, of which those that were refused don't count, the value is the one that
-        // they give.
+        // `codes`: any earlier coded values, newest first; refused ones have no effect.
         ensures every { (codes : List Code) → self.old ≡ arc_of_codes WIDTH codes
             → (result ≡ value_of WIDTH (code ∷ accepted WIDTH codes))
             × (self.new ≡ arc_of_codes WIDTH (code ∷ codes)) }
@@ -221,10 +217,9 @@ impl<const WIDTH: usize> Arc<WIDTH> {
         }
     }
 
-    /// Does what [`Arc::apply`] does at a difference of order 3, as most codes are, and gives the value:
-    /// three sums without a loop, and the order and the count, which stay, aren't written. `None` comes where
-    /// the arc has another order or fewer values, or where the value doesn't fit, and then the arc is as it
-    /// was.
+    /// Applies the difference `number` like [`Arc::apply`] if it is of order 3, and returns the value: no
+    /// loop, and the order and the count aren't written. Returns `None` if the arc has another order or
+    /// fewer values, or if the value doesn't fit the columns; then it is unchanged.
     #[inline(always)]
     pub(crate) fn apply_third(&mut self, number: i64) -> Option<i64>
         requires { IsShort number }
@@ -247,7 +242,7 @@ impl<const WIDTH: usize> Arc<WIDTH> {
         Some(value)
     }
 
-    /// The newest value; `None` where the arc has no values.
+    /// Returns the newest value; `None` if the arc has no values.
     #[inline(always)]
     pub fn value(&self) -> Option<i64>
         ensures value { result ≡ shown_value self.now }
@@ -259,7 +254,7 @@ impl<const WIDTH: usize> Arc<WIDTH> {
         Some(self.differences[0])
     }
 
-    /// Ends the arc: it is one without values.
+    /// Ends the arc, which then has no values.
     #[inline(always)]
     pub fn end(&mut self)
         ensures ended { self.new ≡ None }
@@ -268,7 +263,7 @@ impl<const WIDTH: usize> Arc<WIDTH> {
     }
 }
 
-/// Whether a value fits so many columns: the point takes one of them, and a minus another.
+/// Returns whether `value` fits `width` columns: the point takes one of them, and a minus sign another.
 #[inline(always)]
 fn is_within(width: usize, value: i64) -> bool
     requires { width ≤ CLOCK_WIDTH }

@@ -1,4 +1,5 @@
-//! The lines of an epoch, made one after another and borrowed in that order, one by one or as one text.
+//! A buffer for the lines of an epoch. They are added one after another and borrowed in that order, one by
+//! one or as one text.
 
 ghost use Rattle.std.specs.Prelude.{◌≡◌, ◌≤◌, ◌<◌, ◌+◌, ◌-◌, ◌*◌, ◌++◌, ◌∷◌, ◌↔◌, [], IfOk, IsTrue, drop, length, slice_get, vec_capacity};
 ghost use Rattle.std.specs.Borrow.{sem};
@@ -24,35 +25,35 @@ use std::alloc::Global;
 use std::marker::Model;
 use std::mem;
 
-/// How many lines of an epoch come before its rows, in compact text: they are known once its last row has
-/// come.
+/// The number of lines before an epoch's rows in compact text. They are known only after its last row.
 pub(crate) const FIRST_LINES: usize = 2;
 
-/// How many lines may come behind these: a row for each satellite, and in RINEX the first line before them.
+/// The greatest number of lines after these: a row for each satellite, and in RINEX the epoch line before
+/// the rows.
 pub(crate) const LINES_LIMIT: usize = SATELLITES_LIMIT + 1;
 
-/// How many bytes a line takes at most, with its LF: the compact line of a row of as many types as a system
-/// may have. No printed line is longer.
+/// The most bytes of a line, with its LF: the compact line of a row with the most types that a system may
+/// have. No printed line is longer.
 pub(crate) const LINE_ROOM: usize = CELL_ROOM * TYPES_LIMIT + 2 * TYPES_LIMIT + 1;
 
-/// How many bytes are left for the first lines: each is as long as the text of an epoch at most.
+/// The bytes reserved for the first lines, each at most as long as an epoch text.
 pub(crate) const FRONT: usize = FIRST_LINES * (EPOCH_TEXT_LIMIT + 1);
 
-/// The lines of an epoch that are pending, each followed by LF. Memory for the longest epoch that there is is
-/// asked for once; only what is written of it comes into use.
+/// The pending lines of an epoch, each followed by LF. Memory for the longest epoch is reserved once, and
+/// used only as far as lines are written.
 #[derive(Drop)]
 pub struct Block {
-    /// The lines; the bytes after them are of earlier, longer texts, and mean nothing.
+    /// The lines. The bytes after them are left over from longer texts.
     bytes: Vec<u8>,
-    /// The length of each line; those after the lines are of earlier ones, and mean nothing.
+    /// The length of each line. The items after these are left over from earlier lines.
     lengths: Vec<u16>,
-    /// How many of the bytes are lines, the room in front of them among these.
+    /// The number of bytes in use, with the space in front of the lines.
     filled: usize,
-    /// How many lines there are, with those for which room is left in front.
+    /// The number of lines, with those for which space is left in front.
     count: usize,
     handed_out: usize,
     handed_out_bytes: usize,
-    /// How many lines can be put in front of those that are pending.
+    /// The number of lines that can be put in front of the pending ones.
     front: usize,
 }
 
@@ -75,7 +76,8 @@ impl Model for Block {
 }
 
 impl Block {
-    /// No lines. This is the one call that asks for memory.
+    /// Returns a buffer without lines; no later call reserves memory. Returns `Refused` if memory is
+    /// refused.
     pub fn new(alloc: Global) -> Result<Block, Refused>
         ensures empty { IfOk result (λ block. block ≡ no_lines) }
     {
@@ -107,7 +109,7 @@ impl Block {
         self.front = FIRST_LINES;
     }
 
-    /// Puts a line in front of the others, which is no longer than the text of an epoch.
+    /// Puts `line` in front of the other lines.
     pub(crate) fn put_front(&mut self, line: &[u8])
         requires front { 0 < self.old.front }
         requires short { length line.now ≤ EPOCH_TEXT_LIMIT }
@@ -123,7 +125,7 @@ impl Block {
         self.front -= 1;
     }
 
-    /// Puts a line after the others.
+    /// Appends `line`.
     pub(crate) fn put(&mut self, line: &[u8])
         requires left { 0 < self.old.left }
         requires short { length line.now ≤ LINE_LIMIT }
@@ -137,8 +139,8 @@ impl Block {
         self.filled += line.len() + 1;
     }
 
-    /// Puts the compact line of a row after the others. What is stored of the row's satellite, which has room
-    /// for the row, is that after the row.
+    /// Appends the compact line of a row, coded after `satellite`, which then includes the row. Only the
+    /// first `filled` of `values` may be present.
     #[inline(always)]
     pub(crate) fn put_row(
         &mut self,
@@ -156,8 +158,7 @@ impl Block {
         ensures taken { HasTakenLine self.old self.new }
     {
         use_bytes(&mut self.bytes, self.filled, LINE_ROOM);
-        // The place of the bytes and the index are read once: after the line is written they would be read
-        // again, by 4 instructions.
+        // Both are read before the line is written: no second load.
         let start = self.filled;
         let bytes = self.bytes.as_mut_slice();
         let length = satellite.write_line(values, filled, flags, scratch, bytes, start);
@@ -167,7 +168,7 @@ impl Block {
         self.filled = start + (length + 1);
     }
 
-    /// Puts the printed line of the row that a satellite shows, of this identifier, after the others.
+    /// Appends the RINEX line of the newest row of `satellite`, whose identifier is `name`.
     #[inline(always)]
     pub(crate) fn put_printed(&mut self, name: &[u8; NAME_WIDTH], satellite: &SatelliteHistory)
         requires left { 0 < self.old.left }
@@ -186,14 +187,14 @@ impl Block {
         self.filled = filled + (length + 1);
     }
 
-    /// Whether no line is pending.
+    /// Returns whether no line is pending.
     pub fn is_drained(&self) -> bool
         ensures value { IsTrue result ↔ (self.now.lines ≡ []) }
     {
         self.handed_out == self.count
     }
 
-    /// Borrows the next pending line, without its line end; `None` once none is pending.
+    /// Borrows the next pending line, without its line end; returns `None` if none is pending.
     pub fn next_line(&mut self) -> Option<&[u8]>
         ensures value { option_copied result ≡ slice_get self.old.lines 0 }
         ensures* after_borrow { sem 𝓛 (Rests the_row self.entry (λ new.
@@ -209,7 +210,7 @@ impl Block {
         Some(&self.bytes[start..end])
     }
 
-    /// Borrows the text of all lines that are pending, each followed by LF. From then on none is pending.
+    /// Borrows the text of all pending lines, each followed by LF. After this call none is pending.
     pub fn take_text(&mut self) -> &[u8]
         ensures value { result.now ≡ lines_text self.old.lines }
         ensures* after_borrow { sem 𝓛 (Rests the_row self.entry (λ new.
@@ -222,7 +223,7 @@ impl Block {
     }
 }
 
-/// Brings so many bytes into use behind the first ones, for which there is memory.
+/// Lengthens the list, if necessary, so that `room` bytes follow its first `filled`.
 #[inline(always)]
 fn use_bytes(bytes: &mut Vec<u8>, filled: usize, room: usize)
     requires memory { filled + room ≤ vec_capacity bytes.old }
@@ -234,8 +235,8 @@ fn use_bytes(bytes: &mut Vec<u8>, filled: usize, room: usize)
     }
 }
 
-/// Makes a list have so many items, for which it has memory, by items that are all the same. As a value the
-/// list is filled by one call of the C library; behind a reference an item would take five instructions.
+/// Lengthens a list to `count` items by copies of `item`. It has the memory. Meanwhile the list is held as
+/// a value, because then one call of the C library fills it.
 #[cold]
 #[inline(never)]
 fn lengthen<T: Copy>(items: &mut Vec<T>, count: usize, item: T)

@@ -1,4 +1,4 @@
-//! The cells of a satellite line: values to codes and back, each after its arc.
+//! The cells of a satellite line: values to coded values and back, each by its arc.
 
 ghost use Rattle.std.specs.Prelude.{All, ◌≡◌, ◌≤◌, ◌<◌, ◌+◌, ◌*◌, [], max, None, Ok, Err, drop, take, length, slice_index_or, slice_set, IfOk, IfErr, IfSome, MatchOption, Some, Option, vec_capacity};
 ghost use Rattle.crx_text.specs.meaning.Numbers.{IsValue};
@@ -21,12 +21,12 @@ use crx_text::{
     Code, cell_length, code_before_blank, put_blanks, step_of_length, write_cell, write_difference,
 };
 
-/// The room for a cell in a satellite line: a code with its order, `&` and minus, and three bytes more, since
-/// digits are written four at a time. The cell's blank is one of the three.
+/// The bytes reserved for a cell in a satellite line: a coded value with its order, `&` and minus sign, and
+/// three more, because digits are written four at a time. The cell's blank is one of the three.
 pub const CELL_ROOM: usize = DIGITS_LIMIT + 6;
 
-/// Writes the code of an arc's next value and a blank from an index on, gives the index after them, and the
-/// arc goes on. It is called for the few values whose code isn't a difference of order 3.
+/// Writes the coded value of `value`, the next of `arc`, and a blank from `at` on, and returns the index
+/// after them. It is called for the few values whose coded value isn't a difference of order 3.
 #[cold]
 #[inline(never)]
 fn write_value(arc: &mut ObsArc, value: i64, bytes: &mut [u8], at: usize) -> usize
@@ -38,8 +38,7 @@ fn write_value(arc: &mut ObsArc, value: i64, bytes: &mut [u8], at: usize) -> usi
     write_cell(bytes, at, code)
 }
 
-/// Has the arcs of the first so many types be there, for which there is memory: any others are over, and new
-/// ones have no values.
+/// Cuts or extends `arcs` to `count` items, for which there is memory; new arcs have no values.
 #[cold]
 #[inline(never)]
 fn keep_arcs(arcs: &mut Vec<ObsArc>, count: usize)
@@ -53,13 +52,12 @@ fn keep_arcs(arcs: &mut Vec<ObsArc>, count: usize)
     }
 }
 
-/// Writes the codes of the next values of some types, each followed by a blank, from an index on, gives the
-/// index after them, and the arcs go on. Each value fits its columns, the first `filled` may be there, all
-/// others are missing, and there are [`CELL_ROOM`] bytes for each. A type behind the arcs that are stored has
-/// one that is over. Part of its callers, as a call takes up to 23 instructions for each line.
+/// Writes the coded values of the next values of some types, each followed by a blank, from `at` on, adds
+/// the values to the arcs, and returns the index after the last blank. Only the first `filled` values may
+/// be present. A type without a stored arc has one without values. Inlined: no call per line.
 ///
-/// Most values are missing, or have a difference of order 3 as their code: these two are written without a
-/// call and without asking which code it is.
+/// Most values are missing, or coded as differences of order 3: these are written without a call and
+/// without a test of the coded value.
 #[inline(always)]
 pub(crate) fn write_cells(
     arcs: &mut Vec<ObsArc>,
@@ -102,11 +100,11 @@ pub(crate) fn write_cells(
     blanks
 }
 
-/// Reads the cell that a text begins with, whatever its code is: the arc at a place goes on by it. It gives
-/// the index after the cell and its blank, and is called for the few cells that [`read_cell_fast`] doesn't
-/// read.
+/// Reads the cell at the beginning of `text`, whatever its coded value, applies it to the arc at `index`,
+/// and returns the index after the cell and its blank. It is called for the few cells that
+/// [`read_cell_fast`] doesn't read.
 ///
-/// `BadField` comes where the cell is no code, `NoArc` and `OutOfRange` come as by [`ObsArc::apply`].
+/// Returns `BadField` if the cell is no coded value, `NoArc` and `OutOfRange` like [`ObsArc::apply`].
 #[inline(never)]
 fn read_cell(arcs: &mut [ObsArc], index: usize, text: &[u8]) -> Result<usize, Fault>
     requires within { index < length arcs.old }
@@ -119,10 +117,9 @@ fn read_cell(arcs: &mut [ObsArc], index: usize, text: &[u8]) -> Result<usize, Fa
     Ok(length)
 }
 
-/// The value that a difference gives, after which the arc goes on. `None` comes where the value has a fault;
-/// after it the arc is as it was. It is called for the few differences that aren't of order 3, or whose value
-/// doesn't fit. In the loop over the cells the place for the answer of [`ObsArc::apply`] would be cleared for
-/// each cell.
+/// Applies the difference `number` and returns its value. Returns `None` if the value has a fault; then the
+/// arc is unchanged. It is called for the few differences that aren't of order 3 or whose value doesn't
+/// fit, and keeps the `Result` of [`ObsArc::apply`] out of the loop over the cells.
 #[inline(never)]
 fn apply_step(arc: &mut ObsArc, number: i64) -> Option<i64>
     requires { IsShort number }
@@ -136,14 +133,12 @@ fn apply_step(arc: &mut ObsArc, number: i64) -> Option<i64>
     }
 }
 
-/// Reads the cell at a place of a line, where it has no code or a difference, as most cells do, and gives how
-/// much of the line it takes with its blank. `None` comes where it has another code, more than six digits, or
-/// a fault, and then the arcs are as they were. Most differences are of order 3, for which there is a form of
-/// its own.
+/// Reads the cell at `at` if it is empty or a difference, as most cells are, and returns how much of the
+/// line it takes with its blank. Returns `None` if it has another coded value, more than six digits, or a
+/// fault; then the arcs are unchanged. Differences of order 3 have a form of their own, because most are.
 ///
-/// Where the cell ends is known before its number is read, so that the next cell needn't wait for the number.
-/// The blank behind the line makes the last cell one like the others. This saves some 7 percent of the time
-/// of expanding lines of four types, and two mispredicted branches a line.
+/// The end of the cell is known before its number is read, so that the next cell needn't wait for the
+/// number. The blank after the line makes the last cell like the others: no branch per line.
 #[inline(always)]
 fn read_cell_fast(arcs: &mut [ObsArc], index: usize, line: Padded<'_>, at: usize) -> Option<usize>
     requires within { index < length arcs.old }
@@ -153,7 +148,7 @@ fn read_cell_fast(arcs: &mut [ObsArc], index: usize, line: Padded<'_>, at: usize
     let characters = cell_length(line, at);
     let taken = characters + usize::from(at + characters < line.len());
     let arc = &mut arcs[index];
-    // Most cells aren't empty, so that is asked of the others alone: two instructions less for each.
+    // Most cells aren't empty: only the others are tested.
     let Some(number) = step_of_length(line, at, characters) else {
         if characters == 0 {
             arc.end();
@@ -168,15 +163,15 @@ fn read_cell_fast(arcs: &mut [ObsArc], index: usize, line: Padded<'_>, at: usize
     Some(taken)
 }
 
-/// Reads a cell of a line for each of so many types, whose arcs go on by them, and gives the index at which
-/// the marks begin. A type behind the arcs that are stored has one that is over. No more arcs are stored
-/// after the line than it has bytes, since each cell takes one, but for empty ones at its end.
+/// Reads a cell of `line` for each of `count` types, applies it to the type's arc, and returns the index at
+/// which the marks begin. A type without a stored arc has one without values. After the line no more arcs
+/// are stored than it has bytes, because each cell takes one, except empty ones at its end.
 ///
-/// The first cell with a fault decides: `BadField` where its text is no code, then `NoArc` and `OutOfRange`
-/// as by [`ObsArc::apply`]. The arcs before it have gone on then.
+/// The first cell with a fault decides: returns `BadField` if its text is no coded value, then `NoArc` and
+/// `OutOfRange` like [`ObsArc::apply`]. The arcs before it have then changed.
 ///
-/// The calls for the few other cells are in the loop: a loop without calls, meant to keep all in registers,
-/// took more instructions (.2 a byte of RINEX, bench/README.md).
+/// The calls for the few other cells are in the loop, because a loop without calls was slower
+/// (bench/README.md).
 #[inline(always)]
 pub(crate) fn read_cells(
     arcs: &mut Vec<ObsArc>,

@@ -1,4 +1,4 @@
-//! An epoch that was coded, and its compact lines.
+//! A coded epoch and its compact lines.
 
 ghost use Rattle.std.specs.Prelude.{◌≡◌, drop, slice_get};
 ghost use Rattle.std.specs.Borrow.{sem};
@@ -10,8 +10,7 @@ use crate::block::Block;
 use crx_rinex::Epoch;
 use std::marker::Model;
 
-/// An epoch and the compact lines of it that are pending: the epoch line, the clock line, and a line for each
-/// satellite.
+/// An epoch and its pending compact lines: the epoch line, the clock line, and a line for each satellite.
 #[derive(Drop)]
 pub struct Coded {
     pub(crate) epoch: Epoch,
@@ -27,7 +26,7 @@ impl Model for Coded {
 }
 
 impl Coded {
-    /// Borrows the next pending line, without its line end; `None` once none is pending.
+    /// Borrows the next pending line, without its line end; returns `None` if none is pending.
     pub fn next_line(&mut self) -> Option<&[u8]>
         ensures value { option_copied result ≡ slice_get self.old.lines 0 }
         ensures* after_borrow { sem 𝓛 (Rests the_row self.entry
@@ -36,7 +35,7 @@ impl Coded {
         self.lines.next_line()
     }
 
-    /// The epoch.
+    /// Returns the epoch.
     pub fn into_epoch(self) -> Epoch
         ensures epoch { result ≡ self.epoch }
     {

@@ -1,5 +1,4 @@
-//! Epochs to compact lines, and compact lines to epochs, by the history, which is what they need of earlier
-//! epochs: Hatanaka's Compact RINEX 3.0.
+//! Epochs to compact lines and back, by the history of the earlier epochs (Hatanaka's Compact RINEX 3.0).
 
 ghost use Rattle.std.specs.Prelude.{◌≡◌, ◌≤◌, ◌<◌, ◌∷◌, List, [], Some, None, true, false, length, IfOk, IfErr, OnOk, OnErr, Err};
 ghost use Rattle.crx_rinex.specs.Epochs.{is_full_epoch};
@@ -32,7 +31,7 @@ use crx_text::Text;
 use std::alloc::Global;
 use std::marker::Model;
 
-/// Which line is expected next.
+/// The line that is expected next.
 #[derive(Clone, Copy)]
 pub(crate) enum Expected {
     /// An epoch line: no epoch is open.
@@ -43,18 +42,18 @@ pub(crate) enum Expected {
     SatelliteLine,
 }
 
-/// The columns of an epoch's cells over the epochs before it: the history, which the next epoch's compact
-/// lines are made or read after, and how many lines of an epoch have come in part.
+/// The cells of epochs in columns: the history, by which the next epoch is coded or read, and how many
+/// lines of the open epoch have been read.
 #[derive(Drop)]
 pub struct Columns {
     history: History,
-    /// Whether an epoch came since everything was last forgotten.
+    /// Whether the history holds an epoch.
     is_kept: bool,
-    /// Whether it is known that the satellites of the history are those that its text names: an epoch line
-    /// was read last, and no epoch of RINEX was encoded since.
+    /// Whether the history's satellites are known to be those that its text names: an epoch line was read
+    /// last, and no RINEX epoch encoded after it.
     is_named: bool,
     expected: Expected,
-    /// How many satellite lines of the open epoch have come.
+    /// The number of satellite lines read in the open epoch.
     count: usize,
     scratch: Text,
     alloc: Global,
@@ -70,13 +69,13 @@ impl Model for Columns {
 
     ghost view = { λ columns. columns_state columns.is_kept columns.expected columns.count columns.history };
 
-    // Where an epoch is open, a line is awaited.
+    // An open epoch has a line that isn't read yet.
     ghost invariant = { λ columns. IsSoundState columns.expected columns.count columns.history
         × (columns.is_named ≡ true → IsAnnounced columns.history) };
 }
 
 impl Columns {
-    /// Columns without a history. Part of its callers, as a call copies its texts.
+    /// Returns columns without a history. Inlined, because a call copies its texts.
     #[inline(always)]
     pub fn new(alloc: Global) -> Columns
         ensures empty { result ≡ Idle None }
@@ -92,7 +91,7 @@ impl Columns {
         }
     }
 
-    /// Forgets every epoch, the one whose lines have come in part too.
+    /// Forgets every epoch, the open one included.
     pub fn reset(&mut self)
         // The memory is used again.
         ensures emptied { self.new ≡ Idle None }
@@ -100,17 +99,18 @@ impl Columns {
         forget(&mut self.is_kept, &mut self.is_named, &mut self.expected);
     }
 
-    /// Whether no epoch's lines have come in part.
+    /// Returns whether no epoch is open: none is read in part.
     pub fn is_idle(&self) -> bool
         ensures value { result ≡ is_idle self.now }
     {
         matches!(self.expected, Expected::EpochLine)
     }
 
-    /// Makes the compact lines of an epoch that has all its rows: in full, where that is asked for or there
-    /// is no history, else as differences from the epoch before.
+    /// Returns the compact lines of an epoch that has all its rows: full if `full` is set or there is no
+    /// history, otherwise as differences from the previous epoch.
     ///
-    /// `OutOfMemory` is its one refusal: it hands the epoch back, and the columns are as they were.
+    /// Returns `OutOfMemory` with the epoch if memory is refused; then the columns are unchanged. There is
+    /// no other error.
     pub fn encode(&mut self, epoch: Epoch, full: bool) -> Result<Coded, (Epoch, Fault)>
         requires whole { is_full_epoch epoch ≡ true }
         requires idle { is_idle self.old ≡ true }
@@ -123,7 +123,7 @@ impl Columns {
             ≡ Idle (Some (tail_after (tail_written_after full (tail_held self.old)) epoch))) }
         ensures refused { IfErr result (λ refused. (refused.0 ≡ epoch) × (refused.1 ≡ Fault.OutOfMemory)
             × (self.new ≡ self.old)) }
-        // By these two a file's compact text comes epoch by epoch: `epochs` are those so far, newest first.
+        // By these two a file's compact text is made epoch by epoch. `epochs`: those so far, newest first.
         ensures left { (epochs : List Marked) → tail_held self.old ≡ tail_or_nothing epochs
             → OnOk result (self.new ≡ Idle
             (tail_or_nothing (record { in_full = full; epoch = epoch } ∷ epochs))) }
@@ -150,12 +150,12 @@ impl Columns {
         }
     }
 
-    /// Begins an epoch with its epoch line, which is read after the epoch before; a line that begins with `>`
-    /// is read after nothing. The counts of types hold for all lines of the epoch.
+    /// Begins an epoch with its epoch line, which is read after the previous epoch, or after nothing if it
+    /// begins with `>`. The counts of types hold for all lines of the epoch.
     ///
-    /// `NotAnEpoch` comes where there is no history and the line doesn't begin with `>`; then `BadEpoch`,
-    /// `BadSatellite` and `RepeatedSatellite`; `OutOfMemory` where something can't grow and the line has no
-    /// fault. After a refusal everything is forgotten.
+    /// Returns `NotAnEpoch` if there is no history and the line doesn't begin with `>`; then `BadEpoch`,
+    /// `BadSatellite` and `RepeatedSatellite`; `OutOfMemory` if memory is refused and the line has no
+    /// fault. After an error every epoch is forgotten.
     pub fn begin(&mut self, types: &Types, line: &[u8]) -> Result<(), Fault>
         requires idle { is_idle self.old ≡ true }
         requires short { length line.now ≤ LINE_LIMIT }
@@ -165,13 +165,13 @@ impl Columns {
         ensures refused { IfErr result (λ fault. (first_step types.now (tail_held self.old) (Content line.now)
             ≡ Faulty fault) ⊎ (fault ≡ Fault.OutOfMemory)) }
         ensures emptied { OnErr result (self.new ≡ Idle None) }
-        // `older` are the epochs that were accepted since everything was last forgotten, newest first.
+        // `older`: the epochs accepted since every epoch was last forgotten, newest first.
         ensures block { (older : List RawEpoch) → tail_held self.old ≡ tail_left older
             → OnOk result (IsReading types.now older (Content line.now ∷ []) self.new) }
         ensures block_fault { (older : List RawEpoch) → tail_held self.old ≡ tail_left older
             → IfErr result (λ fault. (epoch_at types.now older (Content line.now ∷ []) ≡ Fails 0 fault)
             ⊎ (fault ≡ Fault.OutOfMemory)) }
-        // Whatever a block holds from the epoch before is dropped with this epoch's first printed line.
+        // The first printed line of this epoch replaces all lines of the previous one in a block.
         ensures unprinted { (block : PendingLines) → ArePrinted self.new block }
     {
         let is_full = begins_epoch(line);
@@ -198,13 +198,13 @@ impl Columns {
         }
     }
 
-    /// Takes the next line of the epoch that was begun: the clock line, then a line for each satellite. With
-    /// the last one it gives the epoch.
+    /// Reads the next line of the open epoch, which is the clock line, then a line for each satellite.
+    /// Returns the epoch with its last line, `None` before.
     ///
-    /// `Truncated` comes where the line begins with `>`; then `BadClock` for the clock line, `BadField` for a
-    /// satellite line, for both `NoArc` and `OutOfRange`, for a satellite line `BadFlags`; `OutOfMemory`
-    /// where the line is the last one and has no fault, and the epoch can't be made. After a refusal
-    /// everything is forgotten.
+    /// Returns `Truncated` if the line begins with `>`; then `BadClock` for the clock line, `BadField` for
+    /// a satellite line, for both `NoArc` and `OutOfRange`, for a satellite line `BadFlags`; `OutOfMemory`
+    /// if the line is the last one and has no fault, and memory for the epoch is refused. After an error
+    /// every epoch is forgotten.
     pub fn feed(&mut self, line: &[u8]) -> Result<Option<Epoch>, Fault>
         requires open { is_idle self.old ≡ false }
         requires short { length line.now ≤ LINE_LIMIT }
@@ -215,8 +215,8 @@ impl Columns {
             → (begins_epoch line.now ≡ false) × (awaits_row self.old ≡ true)
             × (makes_epoch (step_in self.old (Content line.now)) ≡ true)) }
         ensures emptied { OnErr result (self.new ≡ Idle None) }
-        // `older` are the epochs that were accepted since everything was last forgotten, newest first, and
-        // `lines` those of the open one so far.
+        // `older`: the epochs accepted since every epoch was last forgotten, newest first. `lines`: those
+        // of the open epoch so far.
         ensures block { (types : List Count) (older : List RawEpoch) (lines : List ReadLine)
             → IsReading types older lines self.old
             → AnswersLine types older lines (Content line.now) self.new result }
@@ -249,10 +249,12 @@ impl Columns {
         }
     }
 
-    /// Takes the next line of the epoch that was begun as [`Columns::feed`] does, with its refusals but
-    /// `OutOfMemory`, and `NotAnEpoch` where none was. Each row is printed as its line is read, behind those
-    /// of the epoch that are in the block already; after a refusal the block has no lines. `true` says that
-    /// it is the last one, and that the printed lines of the epoch are ready; no epoch is made of them.
+    /// Reads the next line of the open epoch like [`Columns::feed`], but appends its row to `lines`,
+    /// printed, instead of making an epoch. Returns whether the line is the epoch's last one; then its
+    /// printed lines are complete.
+    ///
+    /// Returns the errors of `feed` except `OutOfMemory`, and `NotAnEpoch` if no epoch is open. After an
+    /// error `lines` is empty.
     #[inline(always)]
     pub fn feed_into(&mut self, line: Padded<'_>, lines: &mut Block) -> Result<bool, Fault>
         requires short { length (line_in line) ≤ LINE_LIMIT }
@@ -291,7 +293,7 @@ impl Columns {
 }
 
 /// Forgets every epoch: none is kept, the satellites aren't known by their text, and an epoch line is
-/// expected. Its parameters are fields of [`Columns`], whose history may mean nothing after a fault.
+/// expected. The parameters are fields of [`Columns`], whose history may be inconsistent after a fault.
 fn forget(is_kept: &mut bool, is_named: &mut bool, expected: &mut Expected)
     ensures kept { is_kept.new ≡ false }
     ensures named { is_named.new ≡ false }
@@ -302,8 +304,9 @@ fn forget(is_kept: &mut bool, is_named: &mut bool, expected: &mut Expected)
     *expected = Expected::EpochLine;
 }
 
-/// Takes the next line of an open epoch: the clock line, then a line for each satellite. Gives whether all
-/// have come now; after a fault what is stored means nothing. `NotAnEpoch` comes where none is open.
+/// Reads the next line of an open epoch, which is the clock line, then a line for each satellite, and
+/// returns whether it is the last one. Returns `NotAnEpoch` if no epoch is open, and the faults of
+/// [`History::read_clock`] and [`History::read_row`]; then the parameters may be inconsistent.
 #[inline(always)]
 fn take_line(
     history: &mut History,

@@ -1,5 +1,5 @@
-//! Rows to compact lines, one at a time, by the history, which they change in place: Hatanaka's Compact RINEX
-//! 3.0.
+//! Rows to compact lines, one at a time, by a history that they change in place (Hatanaka's Compact RINEX
+//! 3.0).
 
 ghost use Rattle.std.specs.Prelude.{◌≡◌, ◌≤◌, ◌<◌, ◌+◌, ◌*◌, ◌++◌, ◌∷◌, ◌↔◌, [], None, true, false, not, length, drop, slice_get, IsTrue, IfOk, OnErr};
 ghost use Rattle.crx_base.specs.declared.limits.TheConstants.{DATE_LIMIT};
@@ -22,18 +22,18 @@ use crx_text::appending::append;
 use std::alloc::Global;
 use std::marker::Model;
 
-/// Makes the compact lines of epochs whose rows come one by one, and has them ready, as it has the two lines
-/// before the header. All memory but that of an epoch's satellites is taken at the beginning.
+/// An encoder for epochs whose rows arrive one by one. It holds the pending lines of an epoch, or the two
+/// lines before the header. All memory except for an epoch's satellites is reserved at the beginning.
 #[derive(Drop)]
 pub struct Encoder {
     history: Box<History>,
-    /// Whether an epoch came since everything was last forgotten.
+    /// Whether the history holds an epoch.
     is_kept: bool,
-    /// Whether the open epoch was asked for in full; it is in full also where nothing is kept.
+    /// Whether the open epoch was begun as full. It is full in any case if no epoch is kept.
     in_full: bool,
-    /// Whether an epoch is open; then no line is ready.
+    /// Whether an epoch is open; then no line is pending.
     is_open: bool,
-    /// The lines that are ready, or the compact lines of the open epoch so far.
+    /// The pending lines, or the compact lines of the open epoch so far.
     made: Block,
     scratch: Box<Text>,
     /// The tail of the epochs before the open one, whose rows change the history in place.
@@ -66,7 +66,8 @@ impl Encoder {
     ghost use Rattle.std.specs.Option.{option_copied};
     ghost use Rattle.crx_compact.specs.contracts.encoder.Encoder.{the_row};
 
-    /// Returns an encoder before the first line, with the memory for all lines.
+    /// Returns an encoder before the first line, with the memory for all lines. Returns `Refused` if memory
+    /// is refused.
     pub fn new(alloc: Global) -> Result<Encoder, Refused>
         ensures before { IfOk result (λ e. e.before ≡ None) }
         ensures closed { IfOk result (λ e. e.is_open ≡ false) }
@@ -89,7 +90,7 @@ impl Encoder {
         })
     }
 
-    /// Forgets every epoch, the open one too, and drops all lines.
+    /// Forgets every epoch, the open one included, and drops all lines.
     pub fn reset(&mut self)
         ensures emptied { self.new ≡ forgotten self.old [] }
     {
@@ -98,7 +99,7 @@ impl Encoder {
         self.made.clear();
     }
 
-    /// Makes the two lines before the header ready, in place of all others, and forgets every epoch.
+    /// Replaces all lines by the two lines before the header, and forgets every epoch.
     pub fn put_first_lines(&mut self, date: &[u8])
         requires dated { length date.now ≤ DATE_LIMIT }
         ensures put { self.new ≡ forgotten self.old (lines_before_header date.now true) }
@@ -114,8 +115,8 @@ impl Encoder {
         self.made.put_front(&CRINEX_VERSION_LINE);
     }
 
-    /// Begins an epoch, in place of all lines: in full, where that is asked for or there is no epoch before,
-    /// else as differences from the epoch before.
+    /// Begins an epoch and drops all lines: full if `full` is set or there is no earlier epoch, otherwise
+    /// as differences from the previous epoch.
     pub fn begin(&mut self, full: bool)
         requires closed { self.old.is_open ≡ false }
         ensures begun { self.new ≡ record self.old {
@@ -132,8 +133,9 @@ impl Encoder {
         self.made.clear();
     }
 
-    /// Makes the compact line of the next row of the open epoch. `false` comes where the epoch has a row of
-    /// the satellite already, and then nothing changes. After `Refused` everything is forgotten.
+    /// Adds the compact line of the next row of the open epoch, and returns `true`. Returns `false` and
+    /// changes nothing if the epoch has a row of the satellite already. Returns `Refused` if memory is
+    /// refused; then every epoch is forgotten.
     #[inline(always)]
     pub fn encode_row(&mut self, row: &RowBuffer) -> Result<bool, Refused>
         requires open { self.old.is_open ≡ true }
@@ -167,7 +169,7 @@ impl Encoder {
         }
     }
 
-    /// Ends the open epoch, whose rows have all come: its compact lines are ready.
+    /// Ends the open epoch, which has all its rows. Its compact lines are then pending.
     pub fn end(&mut self, head: &EpochLine)
         requires open { self.old.is_open ≡ true }
         requires counted { length self.old.rows ≡ head.now.count }
@@ -180,14 +182,14 @@ impl Encoder {
         self.is_open = false;
     }
 
-    /// Whether no line is pending.
+    /// Returns whether no line is pending.
     pub fn is_drained(&self) -> bool
         ensures value { IsTrue result ↔ (self.now.pending ≡ []) }
     {
         self.is_open || self.made.is_drained()
     }
 
-    /// Borrows the next of the lines that are ready, without its line end; `None` once none is pending.
+    /// Borrows the next pending line, without its line end; returns `None` if none is pending.
     pub fn next_line(&mut self) -> Option<&[u8]>
         ensures value { option_copied result ≡ slice_get self.old.pending 0 }
         ensures* after_borrow { sem 𝓛 (Rests the_row self.entry
@@ -199,7 +201,7 @@ impl Encoder {
         self.made.next_line()
     }
 
-    /// Borrows all lines that are ready as one text, each followed by LF, after which none is pending.
+    /// Borrows all pending lines as one text, each followed by LF. After this call none is pending.
     pub fn take_text(&mut self) -> &[u8]
         ensures value { result.now ≡ lines_text self.old.pending }
         ensures* after_borrow { sem 𝓛 (Rests the_row self.entry (λ new. new ≡ record self.old { pending = [] })) }

@@ -1,4 +1,4 @@
-//! The tail of the epochs before an open one, which contracts alone read.
+//! The tail of the epochs before an open one, which only contracts read.
 
 ghost use Rattle.std.specs.Prelude.{◌≡◌};
 ghost use Rattle.std.specs.Borrow.{ftrue};
@@ -21,7 +21,7 @@ impl Model for GhostTail {
 }
 
 impl GhostTail {
-    /// That of a history.
+    /// Returns the tail of a history.
     #[inline(always)]
     pub(crate) fn of(_history: &History) -> GhostTail
         ensures { result.tail ≡ tail_of_history _history.now }

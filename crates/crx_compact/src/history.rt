@@ -1,5 +1,5 @@
-//! The history, which each epoch's lines are made and read after, and which they change in place: Hatanaka's
-//! Compact RINEX 3.0.
+//! The history, by which each epoch is coded or read, and which its lines change in place (Hatanaka's
+//! Compact RINEX 3.0).
 
 ghost use Rattle.std.specs.Prelude.{List, ◌≡◌, ◌≤◌, ◌<◌, ◌+◌, ◌-◌, ◌*◌, if◌then◌else◌, [], true, false, None, Some, Ok, Err, All, length, take, map, is_some, OnOk, OnErr, IfOk, IfErr};
 ghost use Rattle.crx_text.specs.meaning.Columns.{columns};
@@ -41,18 +41,18 @@ use crx_text::{Text, code_print, code_read, trim_end};
 use std::alloc::Global;
 use std::marker::Model;
 
-/// How long the text of an epoch is at most: columns 1 to 41 of its line, and as many identifiers as three
-/// columns count.
+/// The greatest length of an epoch text: columns 1 to 41 of its line, and the identifiers of
+/// [`SATELLITES_LIMIT`] satellites.
 pub(crate) const EPOCH_TEXT_LIMIT: usize = HEAD_WIDTH + NAME_WIDTH * SATELLITES_LIMIT;
 
-/// The history: the text of the newest epoch, the clock's arc, and its satellites in the order of the file.
+/// The text of the newest epoch, the clock's arc, and the satellites in the order of the file.
 #[derive(Drop)]
 pub struct History {
-    /// The text; the bytes after it mean nothing.
+    /// The text. The bytes after it aren't used.
     text: [u8; EPOCH_TEXT_LIMIT],
-    /// How long the text is.
+    /// The length of the text.
     length: usize,
-    /// The text of the epoch whose lines are made next, while they are made.
+    /// The text of the epoch whose lines are being written.
     next_text: [u8; EPOCH_TEXT_LIMIT],
     clock: ClockArc,
     satellites: Satellites,
@@ -76,8 +76,8 @@ impl Model for History {
 }
 
 impl History {
-    /// The history where everything starts anew: an empty text, and no arcs and satellites. Part of its
-    /// callers, as a call copies its texts.
+    /// Returns the history before a full epoch: an empty text, no arcs and no satellites. Inlined, because
+    /// a call copies its texts.
     #[inline(always)]
     pub(crate) fn new(alloc: Global) -> History
         ensures empty { result ≡ no_history }
@@ -92,7 +92,8 @@ impl History {
         }
     }
 
-    /// Forgets the epoch. Its satellites stay till the next one begins, and their memory is used again.
+    /// Forgets the newest epoch. Its satellites stay until the next one begins, and their memory is used
+    /// again.
     pub(crate) fn clear(&mut self)
         ensures emptied { self.new ≡ history_cleared self.old }
     {
@@ -101,9 +102,11 @@ impl History {
         self.satellites.begin();
     }
 
-    /// Puts the compact lines of an epoch into a block without lines: in full, where that is asked for, else
-    /// as differences from the epoch before. The history is the one after the epoch. All memory is asked for
-    /// first, so that after `Refused` the history stays.
+    /// Writes the compact lines of an epoch into `lines`, which is empty: full if `in_full` is set,
+    /// otherwise as differences from the previous epoch. The history then includes the epoch.
+    ///
+    /// Returns `Refused` if memory is refused. All memory is reserved first, so that the history is then
+    /// unchanged.
     pub(crate) fn encode(
         &mut self,
         epoch: &Epoch,
@@ -144,8 +147,8 @@ impl History {
         Ok(())
     }
 
-    /// Begins an epoch whose rows are written one by one: in full, where that is asked for, else as
-    /// differences from the epoch before.
+    /// Begins an epoch whose rows are written one by one: full if `in_full` is set, otherwise as
+    /// differences from the previous epoch.
     pub(crate) fn begin_rows(&mut self, in_full: bool)
         ensures begun { AreRowsWritten (if in_full then no_tail else tail_of_history self.old) [] self.new [] }
         ensures rooms { self.new.satellites.rooms ≡ self.old.satellites.rooms }
@@ -156,9 +159,9 @@ impl History {
         self.satellites.begin();
     }
 
-    /// Writes the compact line of the next row of an epoch after others; `filled` of its values may be there,
-    /// the first ones. `false` comes where the epoch has a row of the satellite already, and then nothing
-    /// changes; what `Refused` leaves means nothing.
+    /// Appends the compact line of the epoch's next row to `lines`, and returns `true`. Only the first
+    /// `filled` of `values` may be present. Returns `false` and changes nothing if the epoch has a row of
+    /// the satellite already. Returns `Refused` if memory is refused; then the history may be inconsistent.
     #[inline(always)]
     pub(crate) fn write_row(
         &mut self,
@@ -194,8 +197,8 @@ impl History {
         Ok(true)
     }
 
-    /// Ends an epoch whose rows have all been written: puts its first two lines in front of theirs. The
-    /// history is the one after the epoch.
+    /// Ends an epoch whose rows are all written: puts its first two lines in front of theirs. The history
+    /// then includes the epoch.
     pub(crate) fn end_rows(&mut self, head: &EpochLine, scratch: &mut Text, lines: &mut Block)
         requires counted { length self.old.satellites.rows ≡ head.now.count }
         requires front { FIRST_LINES ≤ lines.old.front }
@@ -209,7 +212,7 @@ impl History {
         scratch.clear();
         code_print(self.clock.push(head.clock()), scratch).unwrap();
         lines.put_front(scratch.bytes());
-        // The texts of two epochs mostly differ by their time alone.
+        // The texts of two epochs usually differ only in their times.
         scratch.clear();
         append_difference(&self.text[..self.length], next_text, scratch);
         scratch.trim_end_blanks();
@@ -218,13 +221,13 @@ impl History {
         self.length = next_text.len();
     }
 
-    /// Reads an epoch line: replaces the text by the one that it makes, and has the satellites of that text
-    /// come, each with as many types as its system has.
+    /// Reads an epoch line: replaces the text by the one that the line makes, and adds a row for every
+    /// satellite named there, with its system's number of types. `is_named`: the satellites of the previous
+    /// epoch are those that its text names.
     ///
-    /// `BadEpoch` comes where the line holds a character outside 32 to 126, then where the text that it makes
-    /// is none of an observation epoch; then the faults of the identifiers; `OutOfMemory` where something
-    /// can't grow and the line has no fault. After a refusal the satellites mean nothing. It is given whether
-    /// the satellites of the epoch before are those that its text names.
+    /// Returns `BadEpoch` if the line has a character outside 32 to 126, or the text that it makes isn't
+    /// that of an observation epoch; then the faults of the identifiers; `OutOfMemory` if memory is refused
+    /// and the line has no fault. After an error the satellites may be inconsistent.
     pub(crate) fn read_epoch_line(
         &mut self,
         types: &Types,
@@ -241,7 +244,7 @@ impl History {
         }
         self.satellites.begin();
         let text = scratch.bytes();
-        // Most lines have marks in the columns before the identifiers alone.
+        // Most epoch lines change only columns before the identifiers.
         let are_same = is_named & (line.len() <= HEAD_WIDTH);
         read_satellites(types, text, are_same, &mut self.satellites)?;
         put_first(&mut self.text, text);
@@ -249,11 +252,11 @@ impl History {
         Ok(())
     }
 
-    /// Reads a clock line: the clock's arc is the one after the code, which shows the clock's value. Blanks
-    /// at the line's end don't count.
+    /// Reads a clock line and applies its coded value to the clock's arc. Blanks at the line's end don't
+    /// count.
     ///
-    /// `Truncated` comes where the line begins another epoch, `BadClock` where it is no code, then `NoArc`
-    /// and `OutOfRange` as by [`ClockArc::apply`].
+    /// Returns `Truncated` if the line begins another epoch, `BadClock` if it is no coded value, then
+    /// `NoArc` and `OutOfRange` like [`ClockArc::apply`].
     #[inline(never)]
     pub(crate) fn read_clock(&mut self, line: &[u8]) -> Result<(), Fault>
         ensures ok { OnOk result
@@ -262,7 +265,7 @@ impl History {
             clock_line_read (past_of_tail (tail_of_history self.old)) line.now ≡ Err fault) }
         ensures others { self.new ≡ record self.old { clock = self.new.clock } }
     {
-        // Most epochs have no clock offset: this saves some 15 instructions.
+        // Most epochs have no clock offset: nothing is parsed.
         if line.is_empty() {
             self.clock.end();
             return Ok(());
@@ -277,7 +280,7 @@ impl History {
         Ok(())
     }
 
-    /// How many satellites the epoch has.
+    /// Returns how many satellites the epoch has.
     #[inline(always)]
     pub(crate) fn count(&self) -> usize
         ensures value { result ≡ length self.now.satellites.rows }
@@ -285,7 +288,7 @@ impl History {
         self.satellites.placed()
     }
 
-    /// Reads the satellite line of the row at an index. `Truncated` comes where the line begins another
+    /// Reads the satellite line of the row at `index`. Returns `Truncated` if the line begins another
     /// epoch; the other faults are those of [`SatelliteHistory::read`].
     #[inline(always)]
     pub(crate) fn read_row(
@@ -309,7 +312,8 @@ impl History {
             .read(line, scratch)
     }
 
-    /// Returns the epoch that the history shows. It is refused only if there are satellites.
+    /// Returns the newest epoch. Returns `OutOfMemory` if memory is refused, which can't happen without
+    /// satellites.
     pub(crate) fn epoch(&self) -> Result<Epoch, Fault>
         requires announced { IsAnnounced self.now }
         ensures ok { IfOk result (λ epoch. epoch
@@ -327,7 +331,7 @@ impl History {
         Ok(epoch)
     }
 
-    /// The first line of the epoch that the history shows.
+    /// Returns the epoch line of the newest epoch.
     pub(crate) fn head(&self) -> EpochLine
         requires { is_some (epoch_count (columns self.now.text 1 HEAD_WIDTH)) ≡ true }
         ensures head { result.head ≡ columns self.now.text 1 HEAD_WIDTH }
@@ -336,8 +340,9 @@ impl History {
         EpochLine::new(padded(&self.text[..self.length], 1), self.clock.value()).unwrap()
     }
 
-    /// Prints what the line that came last has made known of an epoch of which so many rows have come: its
-    /// first line, in place of all lines, or the last of these rows, behind the others.
+    /// Prints the part of the open epoch that its last line completes. `count`: how many rows have been
+    /// read. If it is 0, the epoch's first line replaces all `lines`; otherwise the last of these rows is
+    /// appended.
     #[inline(always)]
     pub(crate) fn print(&self, count: usize, lines: &mut Block, scratch: &mut Text)
         requires announced { IsAnnounced self.now }
@@ -353,15 +358,14 @@ impl History {
         lines.put_printed(name, satellite);
     }
 
-    /// Prints the first line of the epoch, in place of all lines. It is no part of its caller, since its
-    /// locals would be set to zero at each line of a satellite (13 instructions).
+    /// Replaces all `lines` by the epoch's first line. Not inlined: no locals to initialize per row.
     #[inline(never)]
     fn print_first_line(&self, lines: &mut Block, scratch: &mut Text)
         requires announced { IsAnnounced self.now }
         ensures printed { IsPrinted 0 (tail_of_history self.now) lines.new }
     {
         lines.clear();
-        // Most epochs have no clock offset: their columns are put as they are.
+        // Most epochs have no clock offset: columns 1 to 41 are copied.
         let Some(_) = self.clock.value() else {
             lines.put(end_trimmed(&self.text[..self.length], 1, HEAD_WIDTH));
             return;
@@ -371,12 +375,12 @@ impl History {
     }
 }
 
-/// Has the satellites of an epoch text come, each with as many types as its system has. It is given whether
-/// the text names those that are awaited, where it announces as many.
+/// Adds a row for every satellite named in an epoch text, with its system's number of types. `are_same`:
+/// the text names exactly the satellites of the previous epoch, if it announces their number.
 ///
-/// `BadEpoch` comes where columns 1 to 41 are not those of an observation epoch, or anything but blanks is
-/// behind the last identifier; then the faults of the identifiers; `OutOfMemory` where something can't grow
-/// and the text has no fault.
+/// Returns `BadEpoch` if columns 1 to 41 aren't those of an observation epoch, or anything but blanks
+/// follows the last identifier; then the faults of the identifiers; `OutOfMemory` if memory is refused and
+/// the text has no fault.
 fn read_satellites(
     types: &Types,
     text: &[u8],
@@ -400,10 +404,10 @@ fn read_satellites(
     read_names(types, text, count, satellites)
 }
 
-/// Has so many satellites after the columns of an epoch text come, from left to right.
+/// Reads `count` identifiers after column 41, from left to right, and adds a row for each.
 ///
-/// `BadSatellite` comes where one has the form of none of a system that has types, then `RepeatedSatellite`
-/// where it has come already; `OutOfMemory` where something can't grow and none has a fault.
+/// Returns `BadSatellite` if one isn't well-formed or its system has no types, then `RepeatedSatellite` if
+/// it is repeated; `OutOfMemory` if memory is refused and none has a fault.
 fn read_names(
     types: &Types,
     text: &[u8],

@@ -11,8 +11,8 @@ ghost use Rattle.crx_compact.specs.declared.history.History.TheInside.{Inside as
 ghost use Rattle.crx_compact.specs.declared.block.Block.TheInside.{Inside as BlockInside};
 ghost use Rattle.crx_compact.specs.declared.columns.Columns.TheInside.{Inside as ColumnsInside};
 
-/// What columns hold, the history among it, and the lines that a compaction and an expansion have ready, each
-/// in full: one that takes over these parts of another is that other. So there is no part beside them.
+/// States which parts columns, their history, their lines and an encoder have. A value that takes over
+/// these parts of another is equal to it, so there are no further parts.
 pub fn columns_hold()
     ensures satellite { (one other : SatelliteHistoryInside) → satellite_with one other ≡ other }
     ensures satellites { (one other : SatellitesInside) → satellites_with one other ≡ other }

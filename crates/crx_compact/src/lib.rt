@@ -1,6 +1,6 @@
-//! Compact RINEX both ways: arcs and the cells of a satellite line, the history that each epoch's lines are
-//! made and read after, epochs to compact lines and back, the lines that each direction has ready, and the
-//! laws that join the two. What the compact text of epochs is, and what it means, is defined here.
+//! Compact RINEX both ways: arcs and the cells of a satellite line, the history by which each epoch is
+//! coded or read, the pending lines of both directions, and the laws that join them. The compact text of
+//! epochs and its meaning are defined here.
 #![tactic(auto)]
 
 pub mod arc;

@@ -1,11 +1,12 @@
-//! Whether two short texts are the same, as a satellite's indicators in two epochs mostly are.
+//! Comparison of two short texts, such as a satellite's indicators in two epochs, which are usually the
+//! same.
 
 ghost use Rattle.std.specs.Prelude.{◌≡◌, ◌≢◌, ◌+◌, ◌≤◌, length};
 ghost use Rattle.std.specs.Bool.{MatchBool};
 
 use std::simd::prelude::*;
 
-/// Whether the first so many characters of two texts are the same, and the last so many.
+/// Returns whether the first `N` characters of two texts are the same, and the last `N`.
 #[inline(always)]
 fn has_same_ends<const N: usize>(text: &[u8], other: &[u8]) -> bool
     requires narrow { N ≤ 64 }
@@ -19,8 +20,8 @@ fn has_same_ends<const N: usize>(text: &[u8], other: &[u8]) -> bool
         && Simd::<u8, N>::from_slice(&text[last..]) == Simd::<u8, N>::from_slice(&other[last..])
 }
 
-/// Whether two texts are the same. The indicators of 2 to 16 types are compared here by their two ends, which
-/// may overlap, since a call takes some 10 instructions for each line.
+/// Returns whether two texts are the same. The indicators of 2 to 16 types are compared here by their two
+/// ends, which may overlap: no call per line.
 #[inline(always)]
 pub fn is_same_text(text: &[u8], other: &[u8]) -> bool
     ensures same { MatchBool result (text.now ≡ other.now) (text.now ≢ other.now) }
@@ -37,8 +38,8 @@ pub fn is_same_text(text: &[u8], other: &[u8]) -> bool
     }
 }
 
-// Whether two texts of one length, which mostly is a long one, are the same: those of 17 to 32 types by their
-// two ends too.
+// Returns whether two texts of one length, usually a long one, are the same; those of 17 to 32 types by
+// their two ends too.
 #[inline(never)]
 fn is_same_long(text: &[u8], other: &[u8]) -> bool
     requires same_length { length other.now ≡ length text.now }

@@ -1,5 +1,5 @@
-//! What is stored of a satellite: its indicators and the arcs of its cells, changed in place by each of its
-//! lines. Hatanaka's Compact RINEX 3.0, satellite lines.
+//! The history of a satellite: its indicators and the arcs of its cells, which each of its lines changes in
+//! place (Hatanaka's Compact RINEX 3.0, satellite lines).
 
 ghost use Rattle.std.specs.Prelude.{ℕ, ℤ, List, ◌≡◌, ◌≤◌, ◌<◌, ◌+◌, ◌-◌, ◌*◌, ◌++◌, [], Ok, Err, None, true, false, drop, length, map, replicate, take, IfErr, IfOk, IsTrue, ◌↔◌, if◌then◌else◌, vec_capacity};
 ghost use Rattle.crx_text.specs.meaning.Columns.{columns, without_end_blanks};
@@ -31,15 +31,15 @@ use crx_text::{Text, copy_text, obs_print_cell, put_blanks, trim_end};
 use std::alloc::Global;
 use std::marker::Model;
 
-/// What is stored of a satellite: two indicators for each of its types, and the arcs of the first ones.
+/// The history of a satellite: two indicators for each of its types, and the arcs of the first types.
 #[derive(Drop)]
 pub struct SatelliteHistory {
-    /// Two for each type that there is room for. Those behind its types mean nothing.
+    /// Two for each type that there is room for. Those after its types aren't used.
     indicators: Vec<u8>,
-    /// The arcs of the first types. All arcs behind them are over, so that a line costs what it has, and not
-    /// what its types cost. There is memory for as many as there is room for types.
+    /// The arcs of the first types. The others have no values and aren't stored, so that the cost of a line
+    /// follows its cells, not its types. Memory is reserved for every type that there is room for.
     arcs: Vec<ObsArc>,
-    /// How many types it has.
+    /// The number of types.
     count: usize,
 }
 
@@ -66,7 +66,7 @@ impl Model for SatelliteHistory {
 }
 
 impl SatelliteHistory {
-    /// Nothing.
+    /// Returns a satellite with no types, arcs or indicators.
     pub(crate) fn new(alloc: Global) -> SatelliteHistory
         ensures empty { result ≡ record { flags = []; cells = []; room = 0 } }
     {
@@ -77,19 +77,19 @@ impl SatelliteHistory {
         }
     }
 
-    /// How many types it has.
+    /// Returns the number of types.
     #[inline(always)]
     pub(crate) fn count(&self) -> usize
         ensures value { result ≡ length self.now.cells }
         ensures few { result ≤ TYPES_LIMIT }
         ensures room { result ≤ self.now.room }
-        // It is as it would be after it was made to have so many types.
+        // The satellite is the same after a resize to its own count.
         ensures whole { self.now ≡ resized result self.now }
     {
         self.count
     }
 
-    /// Whether there is room for so many types.
+    /// Returns whether there is room for `count` types.
     #[inline(always)]
     pub(crate) fn has_room(&self, count: usize) -> bool
         ensures value { IsTrue result ↔ (count ≤ self.now.room) }
@@ -97,8 +97,8 @@ impl SatelliteHistory {
         count <= self.arcs.capacity()
     }
 
-    /// Asks for room for so many types, where there is less, and makes no more. All memory is asked for
-    /// first, so that after `Refused` what is stored stays.
+    /// Reserves room for `count` types if there is less, and adds none. Returns `Refused` if memory is
+    /// refused. All memory is reserved first, so that the stored types are then unchanged.
     pub(crate) fn make_room(&mut self, count: usize) -> Result<(), Refused>
         requires allowed { count ≤ TYPES_LIMIT }
         ensures { AnswersRoom count self.old self.new result }
@@ -117,8 +117,8 @@ impl SatelliteHistory {
         Ok(())
     }
 
-    /// Makes it have so many types, for which there is room: those that it has stay, and new ones have no
-    /// arcs and blank indicators.
+    /// Sets the number of types to `count`, for which there is room. Types that it has stay, and new ones
+    /// have no arcs and blank indicators.
     #[inline(always)]
     pub(crate) fn resize(&mut self, count: usize)
         requires room { count ≤ self.old.room }
@@ -133,8 +133,8 @@ impl SatelliteHistory {
         put_blanks(&mut self.indicators[2 * from..2 * count]);
     }
 
-    /// Replaces the indicators by those of a row, and makes it have as many types as the row. `false` says
-    /// that they stay, as they mostly do; else the difference of those before and the row's is in the text.
+    /// Replaces the indicators by `flags` and sets the number of types to `count`. Returns `false` if the
+    /// indicators are the same, as usual; otherwise their difference is in `scratch`.
     #[inline(always)]
     fn mark(&mut self, count: usize, flags: &[u8], scratch: &mut Text) -> bool
         requires fits { FitsFlags count flags.now self.old }
@@ -148,7 +148,7 @@ impl SatelliteHistory {
         true
     }
 
-    /// Does what [`SatelliteHistory::mark`] does, where the indicators change, and the text is empty.
+    /// Does the work of [`SatelliteHistory::mark`] if the indicators change.
     #[inline(never)]
     fn change_indicators(&mut self, count: usize, flags: &[u8], scratch: &mut Text)
         requires fits { FitsFlags count flags.now self.old }
@@ -161,8 +161,8 @@ impl SatelliteHistory {
         put_first(&mut self.indicators, flags);
     }
 
-    /// Writes the compact line of a row from an index on, in place of bytes; `filled` of the values may be
-    /// there, the first ones. What is stored is that after the row. Gives the line's length.
+    /// Writes the compact line of a row over `bytes` from `at` on, and returns its length. Only the first
+    /// `filled` of `values` may be present. The history then includes the row.
     #[inline(always)]
     pub(crate) fn write_line(
         &mut self,
@@ -187,12 +187,11 @@ impl SatelliteHistory {
         trim_end(&bytes[at..end]).len()
     }
 
-    /// Reads a satellite's line: replaces the arcs and indicators by those after the line, which show the
-    /// line's row. The line begins no epoch.
+    /// Reads a line of the satellite, and changes its arcs and indicators by it.
     ///
-    /// The first cell with a fault decides: `BadField` where its text is no code, then `NoArc` and
-    /// `OutOfRange` as by [`ObsArc::apply`](crate::ObsArc::apply). Then `BadFlags` comes where the marks hold
-    /// a character outside 32 to 126, or anything but blanks past two for each type.
+    /// The first cell with a fault decides: returns `BadField` if its text is no coded value, then `NoArc`
+    /// and `OutOfRange` like [`ObsArc::apply`](crate::ObsArc::apply). Returns `BadFlags` if the marks have
+    /// a character outside 32 to 126, or anything but blanks after two for each type.
     #[inline(always)]
     pub(crate) fn read(&mut self, line: Padded<'_>, scratch: &mut Text) -> Result<(), Fault>
         requires short { length (line_in line) ≤ LINE_LIMIT }
@@ -208,7 +207,7 @@ impl SatelliteHistory {
         patch_indicators(&mut self.indicators, self.count, marks, scratch)
     }
 
-    /// The row that it shows, of the satellite with an identifier.
+    /// Returns the newest row, with the identifier `name`. Returns `OutOfMemory` if memory is refused.
     pub(crate) fn row(&self, alloc: Global, name: [u8; NAME_WIDTH]) -> Result<SatRow, Fault>
         requires named { is_identifier name ≡ true }
         requires allowed { IsAllowedCount (length self.now.cells) }
@@ -228,8 +227,8 @@ impl SatelliteHistory {
         Ok(row)
     }
 
-    /// Prints the line of the row that it shows, of the satellite with an identifier, in place of the bytes
-    /// from an index on, and gives the line's length.
+    /// Prints the RINEX line of the newest row, with the identifier `name`, over `bytes` from `at` on, and
+    /// returns its length.
     #[inline(always)]
     pub(crate) fn print_line(&self, name: [u8; NAME_WIDTH], bytes: &mut [u8], at: usize) -> usize
         requires room { at + (NAME_WIDTH + CELL_WIDTH * length self.now.cells) < length bytes.old }
@@ -244,14 +243,14 @@ impl SatelliteHistory {
         if arcs.len() < count {
             print_missing(arcs.len(), count, flags, bytes, at + NAME_WIDTH);
         }
-        // Of this length the compiler knows that it isn't below 3: [`trim_end`] doesn't test it again.
+        // The compiler knows that this length isn't below 3: no second test in [`trim_end`].
         let length = NAME_WIDTH + CELL_WIDTH * count;
         trim_end(&bytes[at..at + length]).len()
     }
 }
 
-/// Prints the cells of some arcs, from an index on, two in a turn: so a line has half as many turns. Both
-/// indicators of a cell are there: they become one load and one store.
+/// Prints the cells of `arcs` from `at` on, two per turn of the loop. The two indicators of a cell are one
+/// load and one store.
 #[inline(always)]
 fn print_cells(arcs: &[ObsArc], flags: &[u8], bytes: &mut [u8], at: usize)
     requires paired { 2 * length arcs.now ≤ length flags.now }
@@ -276,8 +275,8 @@ fn print_cells(arcs: &[ObsArc], flags: &[u8], bytes: &mut [u8], at: usize)
     obs_print_cell(arcs[last].value(), flags, 2 * last, bytes, place);
 }
 
-/// Prints the cells from one on up to so many, whose values are missing, behind those before them, of which
-/// the first begins at an index.
+/// Prints the cells from `first` up to `count`, whose values are missing. The first cell of the line is at
+/// `at`.
 #[cold]
 #[inline(never)]
 fn print_missing(first: usize, count: usize, flags: &[u8], bytes: &mut [u8], at: usize)
@@ -294,7 +293,7 @@ fn print_missing(first: usize, count: usize, flags: &[u8], bytes: &mut [u8], at:
     }
 }
 
-/// Puts a text in place of the first bytes of a longer one.
+/// Replaces the beginning of `bytes` by `text`.
 pub(crate) fn put_first(bytes: &mut [u8], text: &[u8])
     requires { length text.now ≤ length bytes.old }
     ensures { take (length text.now) bytes.new ≡ text.now }
@@ -302,9 +301,9 @@ pub(crate) fn put_first(bytes: &mut [u8], text: &[u8])
     copy_text(&mut bytes[..text.len()], text);
 }
 
-/// Replaces indicators, the first two for each of so many types, by those that marks make of them.
+/// Changes the indicators of `count` types by `marks`.
 ///
-/// `BadFlags` comes where the marks hold a character outside 32 to 126, or anything but blanks past the
+/// Returns `BadFlags` if the marks have a character outside 32 to 126, or anything but blanks after the
 /// indicators.
 #[inline(never)]
 fn patch_indicators(

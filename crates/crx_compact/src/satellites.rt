@@ -1,4 +1,4 @@
-//! The satellites of a history, in the order of the file: Hatanaka's Compact RINEX 3.0.
+//! The satellites of a history, in the order of the file (Hatanaka's Compact RINEX 3.0).
 
 ghost use Rattle.std.specs.Prelude.{All, ◌≡◌, ◌≤◌, ◌<◌, ◌+◌, ◌*◌, ◌++◌, ◌⊎◌, ⊤, [], false, is_some, None, Some, length, take, map, slice_get, slice_index_or, swap, vec_capacity, vec_len, OnErr, IfOk, IfSome, IsOk, IsSome};
 ghost use Rattle.std.specs.Bool.{OnTrue};
@@ -27,10 +27,10 @@ use indexmap::IndexMap;
 use std::alloc::Global;
 use std::marker::Model;
 
-/// How many places there are for marks of identifiers.
+/// The number of slots for hints.
 pub(crate) const MARKS: usize = 2048;
 
-/// The place of an identifier's mark. The 770 identifiers that there are have 760 places: few share one.
+/// Returns the slot of an identifier's hint. The 770 possible identifiers have 760 slots, so few share one.
 #[inline(always)]
 pub(crate) fn place_of_mark(name: [u8; NAME_WIDTH]) -> usize
     ensures value { result ≡ mark_place name }
@@ -39,25 +39,25 @@ pub(crate) fn place_of_mark(name: [u8; NAME_WIDTH]) -> usize
     (604 * usize::from(name[0]) + 10 * usize::from(name[1]) + usize::from(name[2])) % MARKS
 }
 
-/// The satellites of a history, by their identifiers. Each stays in the map where it came first. The memory
-/// of one that means nothing is used again when the satellite comes back.
+/// The satellites of a history, by their identifiers. Each keeps its index in the map. The memory of an
+/// absent satellite is used again when it returns.
 #[derive(Drop)]
 pub struct Satellites {
     known: IndexMap<[u8; NAME_WIDTH], SatelliteHistory>,
-    /// The indices of all. While an epoch is open, those whose rows have come are the first ones, in the
-    /// order of the file. Then come those of the epoch before that haven't come yet, and those that mean
-    /// nothing.
+    /// The indices of all satellites. While an epoch is open, first those of its rows so far, in the order
+    /// of the file; then those of the previous epoch without a row yet; then those that aren't in use.
     order: Vec<usize>,
-    /// At each index, its place in the order.
+    /// The place of each index in the order.
     places: Vec<usize>,
-    /// How many have come.
+    /// The number of rows of the open epoch so far.
     placed: usize,
-    /// How many mean something: those that have come, and those of the epoch before that haven't.
+    /// The number of satellites in use: those of the rows so far, and those of the previous epoch without a
+    /// row yet.
     live: usize,
-    /// The place in the order of the one that mostly comes next: others before it may be left out.
+    /// The place in the order of the satellite that usually follows. Those before it may be missing from
+    /// the epoch.
     next: usize,
-    /// By the place of an identifier's mark, the index where it mostly is. This is for speed alone: a look-up
-    /// by the map takes 100 instructions.
+    /// By the slot of an identifier, the index at which it usually is: no look-up in the map.
     hints: [u16; MARKS],
     alloc: Global,
 }
@@ -79,7 +79,7 @@ impl Model for Satellites {
 }
 
 impl Satellites {
-    /// No satellites.
+    /// Returns a list without satellites.
     pub(crate) fn new(alloc: Global) -> Satellites
         ensures empty { result ≡ record { rows = []; rest = []; rooms = [] } }
     {
@@ -95,7 +95,7 @@ impl Satellites {
         }
     }
 
-    /// Begins an epoch: no row of it has come, and those that came in the epoch before are awaited.
+    /// Begins an epoch: it has no rows, and those of the previous epoch are expected.
     pub(crate) fn begin(&mut self)
         ensures begun { self.new ≡ record self.old { rows = []; rest = self.old.rows } }
     {
@@ -104,7 +104,7 @@ impl Satellites {
         self.next = 0;
     }
 
-    /// How many have come.
+    /// Returns the number of rows of the open epoch so far.
     #[inline(always)]
     pub(crate) fn placed(&self) -> usize
         ensures value { result ≡ length self.now.rows }
@@ -112,12 +112,12 @@ impl Satellites {
         self.placed
     }
 
-    /// The satellite with an identifier comes, where it is known and has room for so many types: what is
-    /// stored of it is the next row. `false` comes where it has come already, and `None` where it isn't known
-    /// or has too little room; then nothing changes.
+    /// Adds the row of satellite `name` and returns `true`. Returns `false` if the epoch has its row
+    /// already, `None` if the satellite isn't known or has too little room for `count` types; then nothing
+    /// changes.
     ///
-    /// The one behind that which came last, in the order of the epoch before, mostly comes, which one
-    /// comparison finds. (The identifier is borrowed, since a copy takes 8 instructions.)
+    /// Usually the next satellite is the one that followed the last one in the previous epoch; one
+    /// comparison confirms it. `name` is borrowed: no copy per row.
     #[inline(always)]
     pub(crate) fn place(&mut self, name: &[u8; NAME_WIDTH], count: usize) -> Option<bool>
         ensures { AnswersPlacing name.now count self.old self.new result }
@@ -134,8 +134,9 @@ impl Satellites {
                     self.next += 1;
                     return Some(true);
                 }
-                // Those before it are left out. Where it is at the last place, one that came anew took its
-                // own: the one behind it is the first that hasn't come then, which this brings to that place.
+                // Those before it are missing so far. If it is at the last place, a satellite that was
+                // absent took its own: the one that follows it is then the first without a row, which is
+                // moved to the last place here.
                 exchange(&mut self.order, &mut self.places, self.placed, self.next);
                 self.placed += 1;
                 self.next = (self.next + 1).min(self.live - 1);
@@ -145,8 +146,8 @@ impl Satellites {
         self.bring(name, count)
     }
 
-    /// Does what [`Satellites::place`] does, for any satellite: it is looked for by its hint, and then by the
-    /// map.
+    /// Does the same as [`Satellites::place`] for any satellite, which it looks for by its hint, then in
+    /// the map.
     #[inline(never)]
     pub(crate) fn bring(&mut self, name: &[u8; NAME_WIDTH], count: usize) -> Option<bool>
         ensures { AnswersPlacing name.now count self.old self.new result }
@@ -179,10 +180,9 @@ impl Satellites {
         Some(true)
     }
 
-    /// Has the satellites of the epoch before come again in their order, where they are so many, and each has
-    /// as many types as its system has now; else nothing changes, and `false`. In an epoch of the same
-    /// satellites this saves 45 instructions for each of them: no identifier is read of the line, and none is
-    /// looked for.
+    /// Adds a row for each satellite of the previous epoch, in their order, if there are `count` and each
+    /// has its system's number of types in `types`. Otherwise returns `false` and changes nothing. No
+    /// identifier is read or looked up.
     pub(crate) fn come_again(&mut self, types: &Types, count: usize) -> bool
         requires none { self.old.rows ≡ [] }
         requires awaited { All IsAwaitedSatellite (map satellite_of self.old.rest) }
@@ -193,14 +193,13 @@ impl Satellites {
         if count != self.live {
             return false;
         }
-        // No identifier is there twice: the length's clauses say so.
+        // No identifier occurs twice: the clauses of the length say so.
         let _count = self.known.len();
         let known = &self.known;
         let order = &self.order;
         for place in 0..count {
             let (name, satellite) = known.get_index(number_at(order, place)).unwrap();
-            // Each has the form of an identifier, so its letter alone is read: this saves 10 instructions for
-            // each of them.
+            // Each has the form of an identifier, so only its letter is read.
             let Some(found) = types.count(name[0]) else {
                 return false;
             };
@@ -213,7 +212,8 @@ impl Satellites {
         true
     }
 
-    /// Reserves memory for a satellite of `count` types. No row changes, and after `Ok` the satellite is known.
+    /// Reserves memory for a satellite of `count` types. No row changes, and after `Ok` the satellite is
+    /// known. Returns `Refused` if memory is refused.
     #[inline(never)]
     pub(crate) fn prepare(&mut self, name: [u8; NAME_WIDTH], count: usize) -> Result<(), Refused>
         requires allowed { count ≤ TYPES_LIMIT }
@@ -234,7 +234,7 @@ impl Satellites {
         satellite.make_room(count)
     }
 
-    /// Puts the identifiers of the satellites that have come behind the columns of an epoch line.
+    /// Puts the identifiers of the rows after column 41 of `text`.
     pub(crate) fn put_names(&self, text: &mut [u8])
         requires within { HEAD_WIDTH + NAME_WIDTH * length self.now.rows ≤ length text.old }
         ensures { take (HEAD_WIDTH + NAME_WIDTH * length self.now.rows) text.new
@@ -246,9 +246,9 @@ impl Satellites {
         }
     }
 
-    /// What is stored of the satellite whose row is at an index, to be changed: its row changes with it.
-    /// There always is one. It is lent in an `Option`, since only then a clause can say by a relation what
-    /// it leaves.
+    /// Borrows the history of the satellite whose row is at `index`, to be changed; its row changes with
+    /// it. It always returns `Some`: only within an `Option` can a clause relate the borrow's end to its
+    /// start.
     #[inline(always)]
     pub(crate) fn entry_mut(&mut self, index: usize) -> Option<&mut SatelliteHistory>
         requires within { index < length self.old.rows }
@@ -261,7 +261,7 @@ impl Satellites {
         Some(satellite)
     }
 
-    /// The identifier of the satellite whose row is at an index, and what is stored of it.
+    /// Returns the identifier and the history of the satellite whose row is at `index`.
     #[inline(always)]
     pub(crate) fn entry(&self, index: usize) -> (&[u8; NAME_WIDTH], &SatelliteHistory)
         requires within { index < length self.now.rows }
@@ -271,7 +271,7 @@ impl Satellites {
     }
 }
 
-/// The number at an index.
+/// Returns the number at `index`.
 #[inline(always)]
 fn number_at(numbers: &Vec<usize>, index: usize) -> usize
     requires within { index < length numbers.now.items }
@@ -280,7 +280,7 @@ fn number_at(numbers: &Vec<usize>, index: usize) -> usize
     numbers[index]
 }
 
-/// The identifier at an index.
+/// Returns the identifier at `index`.
 #[inline(always)]
 fn key_at(map: &IndexMap<[u8; NAME_WIDTH], SatelliteHistory>, index: usize) -> [u8; NAME_WIDTH]
     requires within { index < length map.now.entries }
@@ -288,14 +288,14 @@ fn key_at(map: &IndexMap<[u8; NAME_WIDTH], SatelliteHistory>, index: usize) -> [
         × (slice_get map.now.entries index ≡ Some (result, satellite)) }
     ensures unique { IsUnique bytes_eq map.now }
 {
-    // No identifier is there twice: the length's clauses say so.
+    // No identifier occurs twice: the clauses of the length say so.
     let _count = map.len();
-    // A slice of the identifiers: to ask for the entry tests the index again, which takes 2 instructions.
+    // A slice of the identifiers: no second test of the index.
     map.keys().as_slice()[index]
 }
 
-/// The index of the satellite with an identifier, where it is known. It is looked for at one index first.
-/// Part of its callers, as a call takes 12 instructions for each satellite that comes in another order.
+/// Returns the index of satellite `name`; `None` if it isn't known. It tries the index `near` first.
+/// Inlined: no call per satellite in another order.
 #[inline(always)]
 fn find(
     map: &IndexMap<[u8; NAME_WIDTH], SatelliteHistory>,
@@ -313,9 +313,9 @@ fn find(
     map.get_index_of(&name)
 }
 
-/// The index of the satellite with an identifier, which is added behind the others where it isn't known. It
-/// is looked for at one index first. All memory is asked for before anything changes: that of the map for
-/// `more`, where it has no place to spare.
+/// Returns the index of satellite `name`, which is added after the others if it isn't known. It tries the
+/// index `near` first. Returns `Refused` if memory is refused; all memory is reserved before anything
+/// changes.
 fn find_or_add(
     map: &mut IndexMap<[u8; NAME_WIDTH], SatelliteHistory>,
     order: &mut Vec<usize>,
@@ -344,8 +344,8 @@ fn find_or_add(
     Ok(count)
 }
 
-/// The place of the one that is expected, once another came anew: where it was the first of those that
-/// haven't come, it is the last of them now.
+/// Returns the place of the expected satellite after an absent one was added. If it was the first without a
+/// row, it is the last one now.
 #[inline(always)]
 fn place_after(expected: usize, placed: usize, live: usize) -> usize
     requires some { 0 < live }
@@ -357,7 +357,7 @@ fn place_after(expected: usize, placed: usize, live: usize) -> usize
     placed.max(live - 1)
 }
 
-/// Exchanges what is at two places of an order.
+/// Exchanges the indices at two places of an order.
 #[inline(never)]
 fn exchange(order: &mut Vec<usize>, places: &mut Vec<usize>, one: usize, other: usize)
     requires order { IsOrder order.old.items places.old.items (length order.old.items) }
