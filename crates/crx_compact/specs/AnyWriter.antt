@@ -1,4 +1,4 @@
--- Beside meaning/AnyWriter: the lines of an epoch, whoever wrote them, are read as that epoch; and no others are.
+-- Further definitions after meaning/AnyWriter: the lines of an epoch, whoever wrote them, are read as that epoch, and no other lines are.
 use Rattle.std.specs.Prelude.{◌≡◌, ◌≤◌, ℕ, ℤ, ◌*◌, ◌+◌, List, ◌∷◌, ◌++◌, map, take, length, Option, Some, None, Ok}
 use Rattle.std.specs.Option.{option_map}
 use Rattle.crx_text.specs.meaning.Columns.{without_end_blanks}
@@ -18,7 +18,7 @@ use Rattle.crx_compact.specs.Tails.{RowTail, Tail, tail_left}
 use Rattle.crx_compact.specs.Steps.{raw_row_tail_after, tail_named}
 use Rattle.crx_compact.specs.HeldRows.{past_of_tail}
 
--- the newest value of an arc that may be there
+-- the newest value of an arc, if there is one
 abbrev pub value_now : Option Arc → Option ℤ
 value_now arc = option_map (λ (a : Arc). a.newest) arc
 
@@ -42,7 +42,7 @@ epoch_left written =
 
 -- ---- a satellite's line
 
--- it reads as its row, and leaves its row's tail
+-- the line is read as its row, and leaves the row's tail
 pub record RowReads (before : WrittenEpoch) (now : WrittenRow) (line : List ℕ) : Type 0 where
   pub read : ReadRow
   pub reads : satellite_line_read (past_of_tail (epoch_left before)) (record { name = now.name; count = length now.arcs }) line
@@ -59,15 +59,15 @@ ReadsAnyRow = (before : WrittenEpoch) (now : WrittenRow) (line : List ℕ)
 
 -- ---- an epoch
 
--- the lines of an epoch are read as that epoch, whatever lines follow and whatever raw epochs are before, where these left what the
--- epoch before does, if the lines go on from one; and the epoch leaves its tail
+-- the lines of an epoch are read as that epoch and leave its tail, whatever lines follow, and whatever raw epochs precede, if these left
+-- the tail of the epoch that the lines refer to
 pub record EpochReads (types : List Count) (raws : List RawEpoch) (now : WrittenEpoch) (lines : List (List ℕ)) : Type 0 where
   pub raw : RawEpoch
   pub reads : (rest : List ReadLine) → epoch_at types raws (map Content lines ++ rest)
       ≡ Done (record { raw = raw; epoch = epoch_now now }) (2 + length now.rows)
   pub leaves : tail_left (raw ∷ raws) ≡ Some (epoch_left now)
 
--- a tail is that of the epoch that lines may go on from, if there is one; where there is none, it may be any
+-- a tail is the one of the epoch that lines may refer to, if there is one; otherwise it may be any
 abbrev pub IsLeft : Option WrittenEpoch → Option Tail → Type 0
 IsLeft before tail = (b : WrittenEpoch) → before ≡ Some b → tail ≡ Some (epoch_left b)
 
@@ -78,11 +78,11 @@ ReadsAnyEpoch = (types : List Count) (before : Option WrittenEpoch) (raws : List
 
 -- ---- the converse: each line that is read is one that some writer may write
 
--- a satellite's row in the epoch before, if it holds it
+-- a satellite's row in the previous epoch, if that holds it
 abbrev pub row_before : WrittenEpoch → Satellite → Option WrittenRow
 row_before before satellite = named (λ (r : WrittenRow). r.name) satellite.name before.rows
 
--- the row that somebody wrote with this line
+-- the row that some writer wrote as this line
 pub record IsSomebodysRow (before : WrittenEpoch) (satellite : Satellite) (line : List ℕ) (read : ReadRow) : Type 0 where
   pub now : WrittenRow
   pub name : now.name ≡ satellite.name
@@ -96,7 +96,7 @@ ReadsSomebodysRow = (before : WrittenEpoch) (satellite : Satellite) (line : List
     → satellite_line_read (past_of_tail (epoch_left before)) satellite line ≡ Ok read
     → IsSomebodysRow before satellite line read
 
--- the epoch that somebody wrote with these lines, none of which is too long
+-- the epoch that some writer wrote as these lines, none of which is too long
 pub record IsSomebodysEpoch (before : Option WrittenEpoch) (lines : List ReadLine) (read : ReadEpoch) : Type 0 where
   pub now : WrittenEpoch
   pub epoch : epoch_now now ≡ read.epoch
@@ -104,7 +104,7 @@ pub record IsSomebodysEpoch (before : Option WrittenEpoch) (lines : List ReadLin
   pub cut : lines ≡ map Content own
   pub written : AreEpochLines before now own
 
--- where the epoch before is whole by the types in force
+-- if the previous epoch is whole by the types in force
 abbrev pub ReadsSomebodysEpoch : Type 0
 ReadsSomebodysEpoch = (types : List Count) (before : Option WrittenEpoch) (raws : List RawEpoch) (lines : List ReadLine)
     (read : ReadEpoch) (count : ℕ) → tail_left raws ≡ option_map epoch_left before

@@ -1,4 +1,4 @@
--- The cells of a satellite line after the arcs of its satellite in the epoch before.
+-- The cells of a satellite line after the arcs of its satellite in the previous epoch.
 use Rattle.std.specs.Prelude.{◌≡◌, ◌≤◌, ℕ, ℤ, List, length, map, drop, slice_index_or, slice_set, Option, Some, None}
 use Rattle.std.specs.Prelude.{Result, Ok, Err, take, flat_map, ◌++◌, ◌+◌, ◌*◌, IfSome, IfNone, IfOk, IfErr}
 use Rattle.crx_text.specs.meaning.Codes.{code_of, first_cell, after_cell}
@@ -13,21 +13,21 @@ use Rattle.crx_compact.specs.declared.cells.TheConstants.{CELL_ROOM}
 use Rattle.crx_compact.specs.ArcTails.{ArcTail}
 use Rattle.crx_compact.specs.ArcSteps.{arc_of_code, arc_of_value, code_of_value, value_of_code, shown_value}
 
--- the arc and the code of the cell at a place, given the arcs of the epoch before; a place after the last of these has no arc
+-- the arc and the coded value of the cell at a place, by the arcs of the previous epoch; a place after the last of these has no arc
 abbrev pub arc_at_place : List (Option ArcTail) → List (Option ℤ) → ℕ → Option ArcTail
 arc_at_place before values place = arc_of_value (slice_index_or values place None) (slice_index_or before place None)
 
 abbrev pub code_at_place : List (Option ArcTail) → List (Option ℤ) → ℕ → Code
 code_at_place before values place = code_of_value (slice_index_or values place None) (slice_index_or before place None)
 
--- those of all cells, by their values
+-- the arcs and the coded values of all cells, by their values
 abbrev pub arcs_of_cells : List (Option ArcTail) → List (Option ℤ) → List (Option ArcTail)
 arcs_of_cells before values = each_place (length values) (arc_at_place before values)
 
 abbrev pub codes_of_cells : List (Option ArcTail) → List (Option ℤ) → List Code
 codes_of_cells before values = each_place (length values) (code_at_place before values)
 
--- the code of an arc's next value is written from an index on, with its blank, up to another index, and the arc goes on
+-- the coded value of an arc's next value is written from `at` up to `end`, with its blank, and the arc contains the value
 pub record IsCellWritten (value : Option ℤ)
     (old new : Option ArcTail) (bytes : List ℕ) (at : ℕ) (bytes' : List ℕ) (end : ℕ) : Type 0 where
   pub arc : new ≡ arc_of_value value old
@@ -35,7 +35,7 @@ pub record IsCellWritten (value : Option ℤ)
   pub from : at ≤ end
   pub within : end ≤ at + CELL_ROOM
 
--- the same for the values of a row, of which no code takes more room than this
+-- the same for the values of a row
 pub record AreCellsWritten (values : List (Option ℤ)) (old new : List (Option ArcTail)) (bytes : List ℕ)
     (at : ℕ) (bytes' : List ℕ) (end : ℕ) : Type 0 where
   pub arcs : new ≡ arcs_of_cells old values
@@ -45,11 +45,11 @@ pub record AreCellsWritten (values : List (Option ℤ)) (old new : List (Option 
 
 -- ---- reading
 
--- the value that a code gives at a place, the arcs before being given
+-- the value of a coded value at a place, by the arcs before
 abbrev pub value_at_place : List (Option ArcTail) → ℕ → Code → Result (Option ℤ) Fault
 value_at_place before place code = value_of_code OBSERVATION_WIDTH code (slice_index_or before place None)
 
--- the cell that a text begins with: the arcs with its own in its place, and how much of the text it takes with its blank
+-- the cell at the beginning of a text: its arc is replaced at its place, and it takes `taken` bytes of the text with its blank
 pub record IsCellRead (before : List (Option ArcTail))
     (place : ℕ) (text : List ℕ) (old new : List (Option ArcTail)) (taken : ℕ) : Type 0 where
   pub code : Code
@@ -60,23 +60,23 @@ pub record IsCellRead (before : List (Option ArcTail))
   pub after : drop taken text ≡ after_cell text
   pub within : taken ≤ length text
 
--- the cell that a text begins with is read, or its fault is answered
+-- the cell at the beginning of a text is read, or its fault is returned
 pub record AnswersCell (place : ℕ) (text : List ℕ) (old new : List (Option ArcTail)) (answer : Result ℕ Fault)
     : Type 0 where
   pub ok : IfOk answer (λ taken. IsCellRead old place text old new taken)
   pub err : IfErr answer (λ fault. cell_read BadField (value_at_place old place) (code_of (first_cell text)) ≡ Err fault)
 
--- the cell that a text begins with is read, or the arcs stay as they were
+-- the cell at the beginning of a text is read, or the arcs are unchanged
 pub record MayReadCell (place : ℕ) (text : List ℕ) (old new : List (Option ArcTail)) (taken : Option ℕ) : Type 0 where
   pub some : IfSome taken (λ t. IsCellRead old place text old new t)
   pub none : IfNone taken (new ≡ old)
 
--- the arcs that codes leave
+-- the arcs after coded values
 abbrev pub arcs_of_codes : List (Option ArcTail) → List Code → List (Option ArcTail)
 arcs_of_codes before codes = each_place
     (length codes) (λ place. arc_of_code (slice_index_or codes place Missing) (slice_index_or before place None))
 
--- the cells of a line for so many types: the arcs that they leave, which show their values, and where the marks begin
+-- the cells of a line for `count` types: the arcs after them, which show their values, and the index at which the marks begin
 pub record CellsAreRead (before : List (Option ArcTail))
     (count : ℕ) (line : List ℕ) (arcs : List (Option ArcTail)) (at : ℕ) : Type 0 where
   pub cells : List ReadCell

@@ -1,4 +1,4 @@
--- An epoch and the compact lines of it that are pending.
+-- An epoch and its pending compact lines.
 use Rattle.std.specs.Prelude.{ℕ, List}
 use Rattle.crx_rinex.specs.meaning.Observations.{Epoch}
 

@@ -1,5 +1,5 @@
--- The entries of the map of a history's satellites: those that have come, those that haven't come yet, and
--- those that mean nothing.
+-- The entries of the map of a history's satellites: those with a row in the open epoch, those of the previous epoch that have none yet, and
+-- those that aren't in use.
 use Rattle.std.specs.Prelude.{◌≡◌, ◌≤◌, ◌<◌, ℕ, ◌+◌, List, [], ◌∷◌, ◌++◌, length, take, drop, map, slice_get, slice_index_or}
 use Rattle.std.specs.Prelude.{Some, false}
 use Rattle.std.specs.Str.{bytes_eq}
@@ -26,7 +26,7 @@ entry_at entries index = slice_index_or entries index ([], record { flags = []; 
 abbrev pub in_order : List ℕ → List Entry → List Entry
 in_order order entries = map (entry_at entries) order
 
--- each of so many indices stands in the order once, and its place is known
+-- each of `count` indices is in the order once, and its place is known
 pub record IsOrder (order places : List ℕ) (count : ℕ) : Type 0 where
   pub counted : length order ≡ count
   pub known : length places ≡ count
@@ -35,8 +35,7 @@ pub record IsOrder (order places : List ℕ) (count : ℕ) : Type 0 where
   pub forth : (place : ℕ) → place < count → slice_index_or places (slice_index_or order place 0) 0 ≡ place
   pub back : (index : ℕ) → index < count → slice_index_or order (slice_index_or places index 0) 0 ≡ index
 
--- the rows that have come, and those that haven't, where so many entries in an order have come, and so many mean
--- something
+-- the rows so far, of the first `placed` entries in an order, and those without one yet, up to the first `live`
 abbrev pub placed_rows : ℕ → ℕ → List Entry → List Entry → PlacedRows
 placed_rows placed live ordered entries =
     record {
@@ -50,13 +49,13 @@ pub record IsAt (name : List ℕ) (entries : List Entry) (index : ℕ) : Type 0 
   pub satellite : SatelliteTail
   pub there : slice_get entries index ≡ Some (name, satellite)
 
--- those that were there stay, and one that wasn't known is behind them
+-- the satellite is at index `found`: the old entries stay, and a new one is after them
 pub record IsFound (name : List ℕ) (found : ℕ) (old new : List Entry) : Type 0 where
   pub at : IsAt name new found
   pub known : take (length old) new ≡ old
   pub rooms : KeepsRooms (rooms_of old) (rooms_of new)
 
--- the satellite at a place of an order has as many types as its system has now
+-- the satellite at a place of an order has its system's number of types
 pub record KeepsTypes (types : List Count) (order : List ℕ) (place : ℕ) (entries : List Entry) : Type 0 where
   pub entry : Entry
   pub there : slice_get entries (slice_index_or order place 0) ≡ Some entry
@@ -64,8 +63,7 @@ pub record KeepsTypes (types : List Count) (order : List ℕ) (place : ℕ) (ent
   pub own : padded (satellite_of (row_of_entry entry)) (Some (row_of_entry entry)) ≡ row_of_entry entry
   pub room : length entry.1.cells ≤ entry.1.room
 
--- the satellite at a place of an order comes: it is the next of those that have come, and among the rest each
--- other one is found as before
+-- the satellite at a place of an order is put next after the rows so far, and among the rest each other one is found as before
 pub record IsPutNext (placed found : ℕ) (old new : List Entry) : Type 0 where
   pub come : (entry : Entry) → slice_get old found ≡ Some entry
       → take (placed + 1) new ≡ take placed old ++ entry ∷ []

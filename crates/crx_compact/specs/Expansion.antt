@@ -1,4 +1,4 @@
--- Beside meaning/Expansion: what code and proofs see of it.
+-- Further definitions for code and proofs, after meaning/Expansion.
 use Rattle.std.specs.Prelude.{ℕ, ◌*◌, ℤ, List, ◌∷◌, map, length, Option, Result, Ok, [], Err}
 use Rattle.crx_text.specs.meaning.Columns.{columns}
 use Rattle.crx_rinex.specs.meaning.Observations.{Row, Epoch}
@@ -9,7 +9,7 @@ use Rattle.crx_compact.specs.meaning.Sequences.{and_then, before_all}
 use Rattle.crx_compact.specs.meaning.Expansion.{RawRow, RawEpoch, block_of, overlaid, raw_run_of, marks_of, code_in}
 use Rattle.crx_compact.specs.meaning.ArcValues.{value_of}
 
--- all items, or the first error among them
+-- all items, or the first error
 abbrev pub all_ok : {X E : Type 0} → List (Result X E) → Result (List X) E
 all_ok [] = Ok []
 all_ok (Err e ∷ rs) = Err e
@@ -21,7 +21,7 @@ all_ok (Ok x ∷ rs) = before_all x (all_ok rs)
 abbrev pub text_of : List RawEpoch → List ℕ
 text_of block = overlaid (map (λ (e : RawEpoch). e.line) block)
 
--- the indicators of a run's newest epoch, for so many types
+-- the indicators of a run's newest epoch, for `count` types
 abbrev pub indicators_of : ℕ → List RawRow → List ℕ
 indicators_of count run = columns (overlaid (marks_of run)) 1 (2 * count)
 

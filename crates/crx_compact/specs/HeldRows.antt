@@ -1,4 +1,4 @@
--- A satellite's line read after the history of the satellite.
+-- A satellite's line, read after the satellite's history.
 use Rattle.std.specs.Prelude.{◌≡◌, ◌≤◌, ℕ, true, List, length, [], Option, None, Some}
 use Rattle.std.specs.Prelude.{Result, Ok}
 use Rattle.std.specs.List.{list_all}
@@ -18,23 +18,22 @@ use Rattle.crx_compact.specs.Steps.{flags_of_tail, flags_held, tail_named, cell_
 use Rattle.crx_compact.specs.Cells.{arcs_of_codes, value_at_place}
 use Rattle.crx_compact.specs.ArcSteps.{value_of_code}
 
--- indicators that a history may have: no more than a line has, of the characters that may be there
+-- the indicators of a history: at most the bytes of a line, of allowed characters
 pub record AreHeldFlags (flags : List ℕ) : Type 0 where
   pub within : length flags ≤ LINE_LIMIT
   pub kept : list_all is_kept flags ≡ true
 
--- a satellite whose line may be awaited: its identifier has the form of one, and it has as many types as a system may
--- have
+-- a satellite whose line may be expected: its identifier is well-formed, and its number of types is allowed
 pub record IsAwaitedSatellite (satellite : Satellite) : Type 0 where
   pub named : is_identifier satellite.name ≡ true
   pub counted : IsAllowedCount satellite.count
 
--- the arcs of a satellite's history; none where the satellite has none
+-- the arcs of a satellite's history; none if there is no history
 abbrev pub arcs_of_tail : Option RowTail → List (Option ArcTail)
 arcs_of_tail None = []
 arcs_of_tail (Some kept) = kept.cells
 
--- what a satellite's arcs and indicators give to its line; the epoch line and the clock line don't matter to it
+-- the past of a satellite's line, by the satellite's arcs and indicators; the epoch line and the clock line don't matter
 abbrev pub past_of_row : List (Option ArcTail) → List ℕ → Past
 past_of_row arcs flags =
     record {
@@ -44,7 +43,7 @@ past_of_row arcs flags =
       flags = λ name marks. patched flags marks;
     }
 
--- what a row that was read leaves of its satellite
+-- a satellite's row after the row that was read
 abbrev pub held_from : List (Option ArcTail) → List ℕ → ReadRow → RowTail
 held_from arcs flags read =
     record {
@@ -53,12 +52,12 @@ held_from arcs flags read =
       cells = arcs_of_codes arcs read.raw.codes;
     }
 
--- what a satellite's line leaves after its arcs and indicators, or its first fault
+-- a satellite's row after its line, by its arcs and indicators, or the line's first fault
 abbrev pub row_held_from : List (Option ArcTail) → List ℕ → Satellite → List ℕ → Result RowTail Fault
 row_held_from arcs flags satellite line =
     and_then (satellite_line_read (past_of_row arcs flags) satellite line) (λ read. Ok (held_from arcs flags read))
 
--- a satellite's line read after the satellite's history, or after none
+-- a satellite's row after its line, by the satellite's history, or by none
 abbrev pub row_held : Option RowTail → Satellite → List ℕ → Result RowTail Fault
 row_held kept satellite line = row_held_from (arcs_of_tail kept) (flags_of_tail kept) satellite line
 
@@ -74,7 +73,7 @@ past_of_tail tail =
 abbrev pub held_row : Tail → ReadRow → RowTail
 held_row before read = raw_row_tail_after (tail_named read.raw.name before) read.raw
 
--- a satellite's line read after the history of all satellites
+-- a satellite's row after its line, by the history of all satellites
 abbrev pub row_after : Tail → Satellite → List ℕ → Result RowTail Fault
 row_after tail satellite line =
     and_then (satellite_line_read (past_of_tail tail) satellite line) (λ read. Ok (held_row tail read))

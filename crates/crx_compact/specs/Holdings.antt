@@ -1,6 +1,5 @@
--- All that columns and what is in them hold between two lines of an input, part by part. By the law
--- `columns_hold` one that takes over these parts of another is that other; so there is no part beside them, in which
--- a record of the past lines could grow.
+-- All parts that columns and an encoder have between two lines of an input. By the law `columns_hold` a value that takes over these parts
+-- of another is equal to it; so there is no further part, in which a record of the past lines could grow.
 use Rattle.crx_compact.specs.declared.satellite.SatelliteHistory.TheInside.{Inside as SatelliteHistoryInside}
 use Rattle.crx_compact.specs.declared.satellites.Satellites.TheInside.{Inside as SatellitesInside}
 use Rattle.crx_compact.specs.declared.history.History.TheInside.{Inside as HistoryInside}
@@ -10,7 +9,7 @@ use Rattle.crx_compact.specs.declared.encoder.Encoder.TheInside.{Inside as Encod
 use Rattle.crx_compact.specs.declared.ghost_tail.GhostTail.{GhostTail}
 use Rattle.crx_rinex.specs.declared.rows_so_far.RowsSoFar.{RowsSoFar}
 
--- what is stored of a satellite, with the parts of another
+-- the history of a satellite, with the parts of another
 abbrev pub satellite_with : SatelliteHistoryInside → SatelliteHistoryInside → SatelliteHistoryInside
 satellite_with one other = record one {
   indicators = other.indicators;
@@ -66,7 +65,7 @@ columns_with one other = record one {
   alloc = other.alloc;
 }
 
--- the rows of an epoch so far, and the tail before it, with the parts of others: nothing that is stored
+-- the rows of an epoch so far, and the tail before it, with the parts of others: nothing is stored of them
 abbrev pub rows_with : RowsSoFar → RowsSoFar → RowsSoFar
 rows_with one other = record one { marker = other.marker; rows = other.rows }
 

@@ -1,5 +1,4 @@
--- Compact text read line by line, by the tail alone: the state between two lines, and what one line more makes of
--- it.
+-- Compact text read line by line, by the tail: the state between two lines, and the step that the next line makes.
 use Rattle.std.specs.Prelude.{◌≡◌, ◌≤◌, ◌+◌, ◌*◌, ⊤, length, IfSome, ℕ, suc, Bool, true, false, List, [], ◌∷◌}
 use Rattle.std.specs.Prelude.{map, Option, Some, None, Result, Ok, Err, if◌then◌else◌, unwrap_or, slice_get, slice_set}
 use Rattle.std.specs.List.{AllByRecursion}
@@ -28,9 +27,9 @@ use Rattle.crx_compact.specs.HeldRows.{past_of_tail, row_held}
 use Rattle.crx_compact.specs.Placing.{padded, satellite_of}
 use Rattle.crx_compact.specs.ShownRows.{shown_epoch}
 
--- ---- what a tail gives to the lines of the next epoch
+-- ---- an epoch after a tail
 
--- the tail that an epoch line is read after, by the tail before it, or none: where the line begins with >, the empty one
+-- the tail that an epoch line is read after: the empty one if the line begins with >, otherwise the tail before it, or none
 abbrev pub tail_for_line : Option Tail → List ℕ → Option Tail
 tail_for_line tail line = if begins_epoch line then Some no_tail else tail
 
@@ -38,7 +37,7 @@ tail_for_line tail line = if begins_epoch line then Some no_tail else tail
 abbrev pub epoch_after : List Count → Option Tail → List ReadLine → Place ReadEpoch
 epoch_after types tail lines = epoch_against types (λ line. option_map past_of_tail (tail_for_line tail line)) lines
 
--- ---- an epoch whose lines have come in part
+-- ---- an open epoch
 
 -- the clock's arc, before the clock line or after it
 pub data OpenClock : Type 0 where
@@ -49,7 +48,7 @@ abbrev pub arc_in : OpenClock → Option ArcTail
 arc_in (Before arc) = arc
 arc_in (After arc) = arc
 
--- whether the clock line has come
+-- whether the clock line has been read
 abbrev pub has_come : OpenClock → Bool
 has_come (Before arc) = false
 has_come (After arc) = true
@@ -59,32 +58,31 @@ pub record HeldEpoch : Type 0 where
   pub epoch : Epoch
   pub tail : Tail
 
--- an epoch whose epoch line has come, but not all its lines: the epoch's text, the clock's arc, a row for each of the
--- text's satellites, and how many of them have come. These are what their lines have left; the others are what their
--- lines are read after
+-- an open epoch, whose epoch line has been read, but not all its lines: its text, the clock's arc, a row for each of the text's satellites,
+-- and the number of rows that have been read. These rows are as their lines left them; the others are as before their lines
 pub record OpenRawEpoch : Type 0 where
   pub text : List ℕ
   pub clock : OpenClock
   pub rows : List RowTail
   pub count : ℕ
 
--- the tail that an open epoch has so far
+-- the tail of an open epoch so far
 abbrev pub tail_so_far : OpenRawEpoch → Tail
 tail_so_far begun = record { text = begun.text; clock = arc_in begun.clock; rows = begun.rows }
 
--- an open epoch by the tail that it has so far: its clock line is awaited
+-- an open epoch by its tail so far: its clock line is expected
 abbrev pub before_clock : Tail → OpenRawEpoch
 before_clock tail = record { text = tail.text; clock = Before tail.clock; rows = tail.rows; count = 0 }
 
--- its clock line and the lines of so many rows have come
+-- its clock line and `count` rows have been read
 abbrev pub with_rows : Tail → ℕ → OpenRawEpoch
 with_rows tail count = record { text = tail.text; clock = After tail.clock; rows = tail.rows; count = count }
 
--- the row whose line is awaited; none where all have come
+-- the row whose line is expected; none if all have been read
 abbrev pub awaited_row : OpenRawEpoch → Option RowTail
 awaited_row begun = slice_get begun.rows begun.count
 
--- what a line makes: an epoch that wants more lines, a whole epoch, or a fault
+-- the step that a line makes: to an epoch that needs more lines, to a whole epoch, or to a fault
 pub data RawStep : Type 0 where
   Going : OpenRawEpoch → RawStep
   Whole : HeldEpoch → RawStep
@@ -117,7 +115,7 @@ abbrev pub opening : Result OpenRawEpoch Fault → RawStep
 opening (Ok begun) = Going begun
 opening (Err fault) = Faulty fault
 
--- what an epoch line makes, by the tail before it, or none
+-- the step that an epoch line makes, by the tail before it, or none
 abbrev pub first_step : List Count → Option Tail → ReadLine → RawStep
 first_step types tail Overlong = Faulty LineTooLong
 first_step types tail (Content line) = opening (opened_raw types line (tail_for_line tail line))
@@ -128,16 +126,16 @@ first_step types tail (Content line) = opening (opened_raw types line (tail_for_
 abbrev pub whole_epoch : Tail → HeldEpoch
 whole_epoch tail = record { epoch = shown_epoch tail (length tail.rows); tail = tail }
 
--- an epoch with the clock and so many rows: whole where no row is awaited
+-- an epoch with the clock and `count` rows: whole if no row is expected
 abbrev pub whole_or_awaiting : Tail → ℕ → Option RowTail → RawStep
 whole_or_awaiting tail count None = Whole (whole_epoch tail)
 whole_or_awaiting tail count (Some row) = Going (with_rows tail count)
 
--- what an epoch is where so many rows have come
+-- the step to `count` rows
 abbrev pub step_with_rows : Tail → ℕ → RawStep
 step_with_rows tail count = whole_or_awaiting tail count (slice_get tail.rows count)
 
--- what the clock's arc gives to the clock line; nothing else matters to it
+-- the past of the clock line; only the clock's arc matters to it
 abbrev pub past_of_clock : Option ArcTail → Past
 past_of_clock arc =
     record {
@@ -162,19 +160,19 @@ abbrev pub row_step : OpenRawEpoch → Option RowTail → List ℕ → RawStep
 row_step begun None line = Whole (whole_epoch (tail_so_far begun))
 row_step begun (Some row) line = raw_step_with_row begun (row_held (Some row) (satellite_of row) line)
 
--- the clock line first, then one line for each row in turn; where none is awaited, the epoch is whole
+-- the clock line first, then one line for each row in turn; the epoch is whole if none is expected
 abbrev pub line_step : OpenRawEpoch → OpenClock → List ℕ → RawStep
 line_step begun (Before arc) line = raw_step_with_clock begun (clock_line_read (past_of_clock arc) line)
 line_step begun (After arc) line = row_step begun (awaited_row begun) line
 
--- what one line more makes of an open epoch
+-- the step that the next line of an open epoch makes
 abbrev pub next_step : OpenRawEpoch → ReadLine → RawStep
 next_step begun Overlong = Faulty LineTooLong
 next_step begun (Content line) = line_step begun begun.clock line
 
 -- ---- all lines so far
 
--- another thing in place of the one that is there
+-- a place with `f` of the thing there
 abbrev pub placed_as : {X Y : Type 0} → (X → Y) → Place X → Place Y
 placed_as f (Done x count) = Done (f x) count
 placed_as f (Fails offset fault) = Fails offset fault
@@ -185,13 +183,13 @@ abbrev pub held_after : Option Tail → ReadEpoch → HeldEpoch
 held_after tail read =
     record { epoch = read.epoch; tail = raw_tail_after (unwrap_or (tail_for_line tail read.raw.line) no_tail) read.raw }
 
--- what is at some lines by the step that the last of them makes, so many being before that one
+-- the place of some lines by the step that the last of them makes; `count`: how many precede it
 abbrev pub place_of_step : ℕ → RawStep → Place HeldEpoch
 place_of_step count (Going begun) = NeedsMore
 place_of_step count (Whole held) = Done held (suc count)
 place_of_step count (Faulty fault) = Fails count fault
 
--- what is at some lines, step by step, the count of those before them being given
+-- the place of some lines, step by step; `count`: how many precede them
 abbrev pub place_of_steps : ℕ → RawStep → List ReadLine → Place HeldEpoch
 place_of_steps count (Going begun) [] = NeedsMore
 place_of_steps count (Going begun) (line ∷ lines) = place_of_steps (suc count) (next_step begun line) lines
@@ -202,21 +200,21 @@ abbrev pub place_by_steps : List Count → Option Tail → List ReadLine → Pla
 place_by_steps types tail [] = NeedsMore
 place_by_steps types tail (line ∷ lines) = place_of_steps 0 (first_step types tail line) lines
 
--- the open epoch that some lines make after a step, where they want more
+-- the open epoch that some lines make after a step, if they need more
 abbrev pub open_raw_after : RawStep → List ReadLine → Option OpenRawEpoch
 open_raw_after (Going begun) [] = Some begun
 open_raw_after (Going begun) (line ∷ lines) = open_raw_after (next_step begun line) lines
 open_raw_after (Whole held) lines = None
 open_raw_after (Faulty fault) lines = None
 
--- the open epoch that some lines make, where they want more
+-- the open epoch that some lines make, if they need more
 abbrev pub open_raw_with : List Count → Option Tail → List ReadLine → Option OpenRawEpoch
 open_raw_with types tail [] = None
 open_raw_with types tail (line ∷ lines) = open_raw_after (first_step types tail line) lines
 
 -- ---- the state of a reader of compact epochs
 
--- between two epochs: the tail of the block so far, or nothing; or an epoch whose lines have come in part
+-- between two epochs, the tail of the block so far, or none; otherwise an open epoch
 pub data ColumnsState : Type 0 where
   Idle : Option Tail → ColumnsState
   Reading : OpenRawEpoch → ColumnsState
@@ -231,7 +229,7 @@ abbrev pub is_idle : ColumnsState → Bool
 is_idle (Idle tail) = true
 is_idle (Reading begun) = false
 
--- whether a satellite's line is awaited: the clock line has come
+-- whether a satellite's line is expected: the clock line has been read
 abbrev pub awaits_row : ColumnsState → Bool
 awaits_row (Idle tail) = false
 awaits_row (Reading begun) = has_come begun.clock
@@ -241,18 +239,18 @@ abbrev pub tail_held : ColumnsState → Option Tail
 tail_held (Idle tail) = tail
 tail_held (Reading begun) = None
 
--- what a line makes in a state where an epoch is open
+-- the step that a line makes in a state; NotAnEpoch if no epoch is open
 abbrev pub step_in : ColumnsState → ReadLine → RawStep
 step_in (Reading begun) line = next_step begun line
 step_in (Idle tail) line = Faulty NotAnEpoch
 
--- what was made of a line: an epoch that wants more lines, or a whole one, which is given out
+-- the state after a step: an epoch that needs more lines, or a whole one, which is returned
 abbrev pub HasMade : RawStep → ColumnsState → Option Epoch → Type 0
 HasMade step after None = (begun : OpenRawEpoch) × (step ≡ Going begun) × (after ≡ Reading begun)
 HasMade step after (Some epoch) = (held : HeldEpoch)
     × (step ≡ Whole held) × (epoch ≡ held.epoch) × (after ≡ Idle (Some held.tail))
 
--- the same where a whole epoch is printed: its lines are ready
+-- the same if a whole epoch is printed: its lines are complete
 abbrev pub HasPrintedLines : RawStep → ColumnsState → Bool → List (List ℕ) → Type 0
 HasPrintedLines step after false lines = HasMade step after None
 HasPrintedLines step after true lines = (held : HeldEpoch)
@@ -260,8 +258,8 @@ HasPrintedLines step after true lines = (held : HeldEpoch)
 
 -- ---- bounds
 
--- an open epoch within the limits: its text, the clock's arc, and at most so many rows as an epoch may have, those that
--- have come among them
+-- an open epoch within the limits: its text, the clock's arc, and at most the rows that an epoch may have, those that have been read among
+-- them
 pub record IsBoundedOpen (begun : OpenRawEpoch) : Type 0 where
   pub text : length begun.text ≤ HEAD_WIDTH + NAME_WIDTH * SATELLITES_LIMIT
   pub clock : IfSome (arc_in begun.clock) (IsBoundedArc ORDER_LIMIT)
@@ -269,7 +267,7 @@ pub record IsBoundedOpen (begun : OpenRawEpoch) : Type 0 where
   pub rows : AllByRecursion (IsBoundedRowTail ORDER_LIMIT) begun.rows
   pub come : begun.count ≤ length begun.rows
 
--- what a line makes is within the limits: an open epoch, or what a whole one leaves
+-- a step within the limits: to an open epoch, or to the tail after a whole one
 abbrev pub IsBoundedStep : RawStep → Type 0
 IsBoundedStep (Going begun) = IsBoundedOpen begun
 IsBoundedStep (Whole held) = IsBoundedTail ORDER_LIMIT held.tail

@@ -1,4 +1,4 @@
--- How code stores the state of a reader of compact epochs: which line is expected next, and the history.
+-- The state of a reader of compact epochs as code stores it: the line that is expected next, and the history.
 use Rattle.std.specs.Prelude.{⊤, ◌≡◌, ◌≤◌, ◌<◌, ◌==◌, ◌+◌, ℕ, List, length, Bool, true, false, Some, None, if◌then◌else◌}
 use Rattle.crx_base.specs.meaning.AsRead.{Content, ReadLine}
 use Rattle.crx_header.specs.meaning.EpochColumns.{begins_epoch}
@@ -9,23 +9,23 @@ use Rattle.crx_compact.specs.Placing.{OpenHistory, IsAnnounced, tail_of_history}
 use Rattle.crx_compact.specs.declared.columns.Expected.{Expected}
 use Rattle.crx_compact.specs.declared.columns.Expected.TheVariants.{EpochLine, ClockLine, SatelliteLine}
 
--- a reader of compact epochs, and whether an epoch came since everything was last forgotten
+-- a reader of compact epochs; `is_kept`: whether the history holds an epoch
 abbrev pub columns_state : Bool → Expected → ℕ → OpenHistory → ColumnsState
 columns_state is_kept EpochLine count history = Idle (if is_kept then Some (tail_of_history history) else None)
 columns_state is_kept ClockLine count history = Reading (before_clock (tail_of_history history))
 columns_state is_kept SatelliteLine count history = Reading (with_rows (tail_of_history history) count)
 
--- in an open epoch the satellites are those that its text announces, and a line is awaited
+-- in an open epoch the satellites are those that its text announces, and a line isn't read yet
 abbrev pub IsSoundState : Expected → ℕ → OpenHistory → Type 0
 IsSoundState EpochLine count history = ⊤
 IsSoundState ClockLine count history = IsAnnounced history
 IsSoundState SatelliteLine count history = IsAnnounced history × (count < length history.satellites.rows)
 
--- what a line makes by which one is expected; whether epochs came before doesn't matter to it
+-- the step that a line makes, by the line that is expected; an epoch that is kept doesn't matter
 abbrev pub step_at : Expected → ℕ → OpenHistory → ReadLine → RawStep
 step_at expected count history line = step_in (columns_state true expected count history) line
 
--- a line of an open epoch was taken, after which rows are awaited, or all have come; the rows before the one that came last stay
+-- a line of an open epoch was read: `come` rows have been read, and others follow or not; the rows before the last one stay
 pub record IsLineTaken (line : List ℕ) (expected : Expected) (count : ℕ) (history : OpenHistory)
     (after : Expected) (come : ℕ) (new : OpenHistory) (is_whole : Bool) : Type 0 where
   pub rows : after ≡ SatelliteLine

@@ -1,4 +1,4 @@
--- What the laws of this crate say of reading compact text, where it is long.
+-- Long statements in this crate's laws on reading compact text.
 use Rattle.std.specs.Prelude.{◌≡◌, ℕ, ◌+◌, Bool, true, false, ◌||◌, List, [], ◌∷◌, ◌++◌, map, length, Option, Some}
 use Rattle.std.specs.Prelude.{IfSome, Ok, ⊤}
 use Rattle.std.specs.List.{list_all, AllByRecursion}
@@ -24,13 +24,13 @@ use Rattle.crx_compact.specs.Laws.{AreWhole}
 
 -- ---- reading what was written
 
--- the compact lines of an epoch, as a reader of lines gives them
+-- the compact lines of an epoch, as a reader of lines returns them
 abbrev pub lines_of_epoch : List Marked → List ReadLine
 lines_of_epoch epochs = map Content (compact_epoch epochs)
 
--- the compact lines of an epoch read as that epoch, whatever lines follow, and leave the tail that the writer
--- has; where the epochs since the latest full one are whole by the counts of types in force, and the raw
--- epochs before leave the tail of the epochs before. Before an epoch in full the raw epochs may be any
+-- the compact lines of an epoch are read as that epoch, whatever lines follow, and leave the writer's tail, if the epochs since the latest
+-- full one are whole by the counts of types in force, and the earlier raw epochs leave the tail of the earlier epochs. Before a full epoch
+-- the raw epochs may be any
 pub record EpochReadsBack (types : List Count) (m : Marked) (older : List Marked) (raws : List RawEpoch) : Type 0 where
   pub raw : RawEpoch
   pub reads : (rest : List ReadLine) → epoch_at types raws (lines_of_epoch (m ∷ older) ++ rest)
@@ -48,7 +48,7 @@ abbrev pub text_lines : List Marked → List (List ℕ)
 text_lines [] = []
 text_lines (m ∷ older) = text_lines older ++ compact_epoch (m ∷ older)
 
--- as many epochs as there are lists of counts of types, newest first: the older ones are read first
+-- an epoch for each list of counts of types, newest first: the older epochs are read first
 abbrev pub epochs_at : List (List Count) → List ReadLine → Place (List ReadEpoch)
 epochs_at [] lines = Done [] 0
 epochs_at (types ∷ older) lines =
@@ -67,13 +67,13 @@ marked_of epochs = map (λ (t : TypedEpoch). t.marked) epochs
 abbrev pub counts_of : List TypedEpoch → List (List Count)
 counts_of epochs = map (λ (t : TypedEpoch). t.types) epochs
 
--- each epoch, and those before it back to the latest full one, are whole by the counts of types in force at it;
--- so a count changes only at a full epoch
+-- each epoch, with the epochs before it back to the latest full one, is whole by the counts of types in force at it; so a count changes
+-- only at a full epoch
 abbrev pub AreWholeByTypes : List TypedEpoch → Type 0
 AreWholeByTypes [] = ⊤
 AreWholeByTypes (t ∷ older) = AreWhole t.types (since_full (marked_of (t ∷ older))) × AreWholeByTypes older
 
--- reading the compact text of a list of epochs gives these epochs, and leaves the tail that the writer has
+-- the compact text of a list of epochs is read as these epochs, and leaves the writer's tail
 pub record EpochsReadBack (epochs : List TypedEpoch) : Type 0 where
   pub reads : List ReadEpoch
   pub all : (rest : List ReadLine) → epochs_at (counts_of epochs) (map Content (text_lines (marked_of epochs)) ++ rest)
@@ -84,14 +84,14 @@ pub record EpochsReadBack (epochs : List TypedEpoch) : Type 0 where
 abbrev pub ReadsBack : Type 0
 ReadsBack = (epochs : List TypedEpoch) → AreWholeByTypes epochs → EpochsReadBack epochs
 
--- ---- what is read
+-- ---- the epochs that are read
 
--- no satellite has two lines: each line of a raw epoch is the one of its identifier
+-- no satellite has two lines: each line of a raw epoch is the first with its identifier
 abbrev pub HasSingleLines : RawEpoch → Type 0
 HasSingleLines raw = AllByRecursion (λ (r : RawRow). raw_row_named r.name raw.rows ≡ Some r) raw.rows
 
--- an epoch that was read: no satellite has two lines, it is what its raw epoch stands for after the older ones, and it
--- took its epoch line, its clock line and one line for each satellite
+-- an epoch that was read: no satellite has two lines, its raw epoch stands for it after the older ones, and it took its epoch line, its
+-- clock line and one line for each satellite
 pub record IsSound (older : List RawEpoch) (read : ReadEpoch) (count : ℕ) : Type 0 where
   pub single : HasSingleLines read.raw
   pub meant : epoch_from read.raw older ≡ Ok read.epoch
@@ -106,7 +106,7 @@ ReadsSoundly =
 abbrev pub HasPrintableMarks : RawEpoch → Type 0
 HasPrintableMarks raw = AllByRecursion (λ (r : RawRow). list_all is_printable r.marks ≡ true) raw.rows
 
--- an epoch that was read is whole, by the counts of types that it was read with, and its lines can be before others
+-- an epoch that was read is whole, by the counts of types that it was read with, and its lines can precede others
 pub record IsGood (types : List Count) (read : ReadEpoch) : Type 0 where
   pub whole : IsWholeEpoch types read.epoch
   pub marks : HasPrintableMarks read.raw
@@ -124,7 +124,7 @@ AreGood [] (read ∷ older) = ⊥
 AreGood (types ∷ counts) [] = ⊥
 AreGood (types ∷ counts) (read ∷ older) = IsGood types read × AreGood counts older
 
--- epochs that are read one after another, from nothing on, are all whole
+-- epochs that are read one after another, without earlier ones, are all whole
 abbrev pub ReadsWholeLists : Type 0
 ReadsWholeLists =
     (counts : List (List Count)) (lines : List ReadLine) (epochs : List ReadEpoch) (count : ℕ)
@@ -132,25 +132,24 @@ ReadsWholeLists =
 
 -- ---- the tail decides
 
--- the tail of its block decides what the next raw epoch leaves
+-- the tail of a block determines the tail after its next raw epoch
 abbrev pub RawByTail : RawEpoch → List RawEpoch → Type 0
 RawByTail raw block = tail_of_block (raw ∷ block) ≡ raw_tail_after (tail_of_block block) raw
 
--- the tail of the raw epochs before decides what is at the next lines, faults too, and the tail after an epoch that was
--- read there
+-- the tail of the earlier raw epochs determines the epoch or the fault at the next lines, and the tail after an epoch that was read there
 pub record TailDecides (types : List Count) (older : List RawEpoch) (lines : List ReadLine) : Type 0 where
   pub place : epoch_at types older lines ≡ epoch_after types (tail_left older) lines
   pub next : (read : ReadEpoch) (count : ℕ) → epoch_at types older lines ≡ Done read count
       → tail_left (read.raw ∷ older) ≡ Some (held_after (tail_left older) read).tail
 
--- a line that begins with > forgets: what is there doesn't depend on older raw epochs, and its epoch is a block's
--- first
+-- a line that begins with > forgets: the epoch or the fault there doesn't depend on older raw epochs, and the epoch is the first of its
+-- block
 pub record Forgets (types : List Count) (older : List RawEpoch) (line : List ℕ) (lines : List ReadLine) : Type 0 where
   pub place : epoch_at types older (Content line ∷ lines) ≡ epoch_at types [] (Content line ∷ lines)
   pub block : (read : ReadEpoch) (count : ℕ) → epoch_at types older (Content line ∷ lines) ≡ Done read count
       → block_of (read.raw ∷ older) ≡ read.raw ∷ []
 
--- the tail of what was written is what its lines leave, wherever they are read
+-- the lines of an epoch leave the writer's tail, wherever they are read
 abbrev pub OneTail : Type 0
 OneTail =
     (types : List Count) (m : Marked) (older : List Marked) (raws : List RawEpoch) (rest : List ReadLine)
@@ -161,7 +160,7 @@ OneTail =
 
 -- ---- line by line
 
--- whether more lines are wanted at a place
+-- whether more lines are needed at a place
 abbrev pub is_wanted : {X : Type 0} → Place X → Bool
 is_wanted (Done x count) = false
 is_wanted (Fails offset fault) = false
@@ -171,17 +170,17 @@ abbrev pub has_no_lines : List ReadLine → Bool
 has_no_lines [] = true
 has_no_lines (line ∷ lines) = false
 
--- what is at some lines, and what an epoch there leaves, is what the steps make of them line by line
+-- all lines at once and line by line, the same is read, and the same tail is left
 abbrev pub StepsAgree : List Count → Option Tail → List ReadLine → Type 0
 StepsAgree types tail lines = placed_as (held_after tail) (epoch_after types tail lines)
     ≡ place_by_steps types tail lines
 
--- more lines are wanted exactly where there is no line yet, or the lines so far make an open epoch
+-- more lines are needed if and only if there is no line yet, or the lines so far make an open epoch
 abbrev pub WantedWhereOpen : List Count → Option Tail → List ReadLine → Type 0
 WantedWhereOpen types tail lines =
     is_wanted (epoch_after types tail lines) ≡ (has_no_lines lines || is_some (open_raw_with types tail lines))
 
--- the step from an open epoch is what the place has with one line more
+-- a step from an open epoch is the place of its lines with one more
 pub record StepFromOpen (types : List Count)
     (tail : Option Tail) (lines : List ReadLine) (line : ReadLine) (begun : OpenRawEpoch) : Type 0 where
   pub place : placed_as (held_after tail) (epoch_after types tail (lines ++ line ∷ []))
@@ -193,8 +192,8 @@ StepsFromOpen =
     (types : List Count) (tail : Option Tail) (lines : List ReadLine) (line : ReadLine) (begun : OpenRawEpoch)
     → open_raw_with types tail lines ≡ Some begun → StepFromOpen types tail lines line begun
 
--- the lines of an epoch that was written, read one by one after the tail before it, give the epoch with the last
--- of them, and the tail that the writer has; where the epoch is in full, after any tail
+-- the lines of an epoch, read one by one after the tail before it, make the epoch with the last of them, and leave the writer's tail; if
+-- the epoch is full, after any tail
 abbrev pub StepsReadBack : Type 0
 StepsReadBack =
     (types : List Count) (m : Marked) (older : List Marked) (tail : Option Tail)
@@ -205,8 +204,8 @@ StepsReadBack =
 
 -- ---- bounds
 
--- whatever was read before, the state in an epoch whose lines have come in part, and the tail after a whole one, are
--- within the limits: each line leaves them so
+-- whatever was read before, the state of an open epoch, and the tail after a whole one, are within the limits, because each line leaves
+-- them so
 pub record ReadAreBounded : Type 0 where
   pub first : (types : List Count) (tail : Option Tail) (line : ReadLine)
       → AreCounts types → IfSome tail (IsBoundedTail ORDER_LIMIT) → IsBoundedStep (first_step types tail line)

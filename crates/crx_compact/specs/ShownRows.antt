@@ -1,4 +1,4 @@
--- The newest epoch, as the history that it leaves shows it: each value is the newest of its arc.
+-- The newest epoch, as its history shows it: each value is the newest of its arc.
 use Rattle.std.specs.Prelude.{ℕ, ℤ, ◌≡◌, ◌+◌, ◌*◌, ◌++◌, List, Option, drop, length, map, take}
 use Rattle.crx_text.specs.meaning.Columns.{columns}
 use Rattle.crx_text.specs.meaning.PrintedCells.{printed_cells}
@@ -16,7 +16,7 @@ shown_row tail =
       flags = columns tail.flags 1 (2 * length tail.cells);
     }
 
--- the epoch, of which so many rows have come
+-- the epoch with its first `count` rows
 abbrev pub shown_epoch : Tail → ℕ → Epoch
 shown_epoch tail count =
     record {
@@ -25,8 +25,7 @@ shown_epoch tail count =
       rows = map shown_row (take count tail.rows);
     }
 
--- the first of so many cells were printed into bytes, from an index on: with the cells that are left they make
--- the text of all
+-- the first of `count` cells were printed into bytes from `at` on: with the other cells they make the text of all
 abbrev pub AreFirstPrinted : ℕ → ℕ → List (Option ℤ) → List ℕ → ℕ → List ℕ → List ℕ → Type 0
 AreFirstPrinted first count values flags at old new =
     take (at + CELL_WIDTH * first) new ++ printed_cells (drop first values) (drop (2 * first) (columns flags 1 (2 * count)))

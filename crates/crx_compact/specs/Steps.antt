@@ -1,4 +1,4 @@
--- One epoch after a tail: the next lines, and the next tail, by the tail alone.
+-- One epoch after a tail: its lines, and the next tail, depend only on the tail.
 use Rattle.std.specs.Prelude.{ℕ, ◌*◌, Bool, List, [], ◌∷◌, map, length, slice_index_or, take, Option, Some, None}
 use Rattle.std.specs.Prelude.{if◌then◌else◌, unwrap_or}
 use Rattle.crx_text.specs.meaning.Columns.{without_end_blanks}
@@ -15,9 +15,9 @@ use Rattle.crx_compact.specs.ArcTails.{ArcTail}
 use Rattle.crx_compact.specs.Tails.{RowTail, Tail}
 use Rattle.crx_compact.specs.ArcSteps.{code_of_value, arc_of_value, arc_of_code}
 
--- ---- what a tail holds of a satellite
+-- ---- a satellite in a tail
 
--- the tail where everything starts anew
+-- the tail before a full epoch
 abbrev pub no_tail : Tail
 no_tail = record { text = []; clock = None; rows = [] }
 
@@ -34,7 +34,7 @@ flags_of_tail (Some row) = row.flags
 
 -- ---- an epoch after a tail, in compaction
 
--- the codes of a row's values
+-- the coded values of a row
 abbrev pub codes_after : Option RowTail → Row → List Code
 codes_after tail row = each_place
     (length row.values) (λ place. code_of_value (value_in place row) (cell_of_tail place tail))
@@ -47,11 +47,11 @@ row_tail_after tail row =
       cells = each_place (length row.values) (λ place. arc_of_value (value_in place row) (cell_of_tail place tail));
     }
 
--- a row's line, given the tail of its satellite
+-- a row's line, by the tail of its satellite
 abbrev pub row_line_after : Option RowTail → Row → List ℕ
 row_line_after tail row = line_of_codes (codes_after tail row) (flags_of_tail tail) row.flags
 
--- a row's tail and its line, given the tails of all satellites
+-- a row's tail and its line, by the tails of all satellites
 abbrev pub row_tail_in : List RowTail → Row → RowTail
 row_tail_in before row = row_tail_after (named (λ (r : RowTail). r.name) row.name before) row
 
@@ -74,13 +74,13 @@ tail_after tail epoch =
       rows = map (row_tail_in tail.rows) epoch.rows;
     }
 
--- the tail that an epoch is written after, by the tail before it or none: an epoch in full starts everything anew
+-- the tail that an epoch is written after, by the tail before it, or none: a full epoch is written after the empty one
 abbrev pub tail_written_after : Bool → Option Tail → Tail
 tail_written_after in_full tail = if in_full then no_tail else unwrap_or tail no_tail
 
 -- ---- a raw epoch after a tail, in expansion
 
--- a tail's indicators by so many types: two for each of them, without the blanks at their end
+-- a tail's indicators for `count` types: two for each, without the blanks at their end
 abbrev pub flags_held : ℕ → List ℕ → List ℕ
 flags_held count flags = without_end_blanks (take (2 * count) flags)
 

@@ -1,4 +1,4 @@
--- Tails: what later epochs need of the earlier ones, for codes, marks and values. Comments of code call it the history.
+-- Tails: the parts of earlier epochs that later coded values, marks and values depend on. Comments of code call a tail the history.
 use Rattle.std.specs.Prelude.{◌≡◌, ℕ, List, [], ◌∷◌, map, length, Option, Some, None, ◌≤◌, ◌+◌, ◌*◌, IfSome}
 use Rattle.std.specs.List.{AllByRecursion}
 use Rattle.crx_text.specs.meaning.Columns.{without_end_blanks}
@@ -12,8 +12,7 @@ use Rattle.crx_compact.specs.meaning.ArcValues.{since_start}
 use Rattle.crx_compact.specs.Expansion.{text_of}
 use Rattle.crx_compact.specs.ArcTails.{ArcTail, arc_tail, started_tail, IsBoundedArc}
 
--- a satellite's indicators without the blanks at their end, and the tail of each cell's arc; nothing where the newest
--- value is missing
+-- a satellite's indicators without the blanks at their end, and the tail of each cell's arc; none if the newest value is missing
 pub record RowTail : Type 0 where
   pub name : List ℕ
   pub flags : List ℕ
@@ -39,7 +38,7 @@ abbrev pub row_tails : List Marked → List RowTail
 row_tails [] = []
 row_tails (m ∷ older) = map (λ (r : Row). row_tail (run_of r.name (m ∷ older)) r) m.epoch.rows
 
--- the tail of some epochs, newest first; the epochs before the latest full one leave nothing
+-- the tail of some epochs, newest first; the epochs before the latest full one have no effect
 abbrev pub tail_of : List Marked → Tail
 tail_of epochs =
     record {
@@ -48,7 +47,7 @@ tail_of epochs =
       rows = row_tails epochs;
     }
 
--- the tail of some epochs, newest first: none where there is no epoch
+-- the tail of some epochs, newest first; none if there is no epoch
 abbrev pub tail_or_nothing : List Marked → Option Tail
 tail_or_nothing [] = None
 tail_or_nothing (m ∷ older) = Some (tail_of (m ∷ older))
@@ -76,8 +75,7 @@ tail_of_block block =
       rows = raw_row_tails block;
     }
 
--- the tail of the raw epochs accepted since the reader's state was last emptied, newest first: none where there
--- is none
+-- the tail of the raw epochs accepted since the reader's state was last emptied, newest first; none if there are none
 abbrev pub tail_left : List RawEpoch → Option Tail
 tail_left [] = None
 tail_left (e ∷ older) = Some (tail_of_block (block_of (e ∷ older)))
@@ -91,8 +89,7 @@ pub record IsBoundedRowTail (limit : ℕ) (row : RowTail) : Type 0 where
   pub few : length row.cells ≤ TYPES_LIMIT
   pub cells : AllByRecursion (λ (cell : Option ArcTail). IfSome cell (IsBoundedArc limit)) row.cells
 
--- a tail within the limits, by the highest order of an arc: whatever was read or written before, no tail is
--- greater than this
+-- a tail within the limits, by the highest order of an arc: no tail is greater, whatever was read or written before
 pub record IsBoundedTail (limit : ℕ) (tail : Tail) : Type 0 where
   pub text : length tail.text ≤ HEAD_WIDTH + NAME_WIDTH * SATELLITES_LIMIT
   pub clock : IfSome tail.clock (IsBoundedArc limit)

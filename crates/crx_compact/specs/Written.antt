@@ -1,4 +1,4 @@
--- An epoch whose rows are written one by one: what the history, and the lines so far, are then.
+-- An epoch whose rows are written one by one: the history and the lines so far.
 use Rattle.std.specs.Prelude.{◌≡◌, ◌++◌, ◌∷◌, [], ℕ, List, All, Bool, IfOk, OnErr, Result, map, not, true, false}
 use Rattle.crx_compact.specs.Blocks.{HasTakenLine, PendingLines}
 use Rattle.crx_compact.specs.Placing.{OpenHistory, row_tail_named, tail_of_history}
@@ -9,8 +9,8 @@ use Rattle.crx_rinex.specs.meaning.Epochs.{are_different, has_satellite}
 use Rattle.crx_rinex.specs.meaning.Observations.{Epoch, Row}
 use Rattle.crx_rinex.specs.meaning.SatelliteLines.{IsSoundRow}
 
--- after a tail, an epoch's rows so far, no two of one satellite, and their compact lines: what is stored of their satellites is that after
--- them, and what is stored of every other one is that of the tail
+-- the rows of an epoch so far, no two of one satellite, and their compact lines, after a tail: the history holds these satellites as they
+-- are after their rows, and every other one as it is in the tail
 pub record AreRowsWritten (after : Tail) (rows : List Row) (history : OpenHistory) (lines : List (List ℕ)) : Type 0 where
   pub text : history.text ≡ after.text
   pub clock : history.clock ≡ after.clock
@@ -25,7 +25,7 @@ pub record AreRowsWritten (after : Tail) (rows : List Row) (history : OpenHistor
 abbrev pub epoch_by_rows : ObservationHead → List Row → Epoch
 epoch_by_rows head rows = record { head = head.head; clock = head.clock; rows = rows }
 
--- whether a row is the first one of its satellite, and then it is written after the rows so far; else nothing changes
+-- `is_new`: the row is the first of its satellite, and is written after the rows so far; otherwise nothing changes
 pub record IsRowWritten (after : Tail) (rows : List Row) (row : Row) (old : OpenHistory) (before : PendingLines)
     (history : OpenHistory) (block : PendingLines) (is_new : Bool) : Type 0 where
   pub answer : is_new ≡ not (has_satellite row.name rows)
@@ -33,13 +33,13 @@ pub record IsRowWritten (after : Tail) (rows : List Row) (row : Row) (old : Open
   pub taken : is_new ≡ true → HasTakenLine before block
   pub same : is_new ≡ false → (history ≡ old) × (block ≡ before)
 
--- so it is, or it is refused, which happens only to the first one of a satellite
+-- the row is written, or it is refused, which happens only to the first row of a satellite
 pub record AnswersWriting {E : Type 0} (after : Tail) (rows : List Row) (row : Row) (old : OpenHistory) (before : PendingLines)
     (history : OpenHistory) (block : PendingLines) (answer : Result Bool E) : Type 0 where
   pub ok : IfOk answer (IsRowWritten after rows row old before history block)
   pub err : OnErr answer (has_satellite row.name rows ≡ false)
 
--- an epoch is written after a tail: the history is that after it, and the lines are its compact ones
+-- an epoch is written after a tail: the history holds the tail after it, and the lines are its compact lines
 pub record IsEpochWritten (after : Tail) (epoch : Epoch) (history : OpenHistory) (lines : List (List ℕ))
     : Type 0 where
   pub tail : tail_of_history history ≡ tail_after after epoch

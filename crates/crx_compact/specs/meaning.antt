@@ -1,4 +1,4 @@
--- What has to be believed: the definitions that the promises stand on. docs/READING.md gives their order.
+-- The definitions to be believed, because the promises stand on them. docs/READING.md gives their order.
 pub mod Sequences
 pub mod Differences
 pub mod ArcValues

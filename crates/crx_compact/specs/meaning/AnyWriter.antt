@@ -1,5 +1,5 @@
--- Compact text of some epochs, whoever wrote it: Hatanaka's Compact RINEX 3.0, data arcs, epoch line, clock line and satellite lines. It
--- is said by what stands in the lines, not by how they are read. Arcs have their newest value first.
+-- Compact text of some epochs, whoever wrote it (Hatanaka's Compact RINEX 3.0, data arcs, epoch line, clock line and satellite lines). It
+-- is defined by the contents of the lines, not by how they are read. Arcs have their newest value first.
 use Rattle.std.specs.Prelude.{◌≡◌, ◌⊎◌, ⊤, ℕ, ◌*◌, ℤ, true, List, [], ◌∷◌, ◌++◌, map, length, drop, Option, Some, None}
 use Rattle.std.specs.Prelude.{if◌then◌else◌, slice_index_or, flat_map}
 use Rattle.std.specs.List.{list_all}
@@ -17,25 +17,25 @@ use Rattle.crx_compact.specs.meaning.Sequences.{named}
 
 -- ---- arcs
 
---- an arc so far: its order, its newest value, and the values before it, back to its start
+--- an arc so far: its order, its newest value, and its earlier values back to the start
 pub record Arc : Type 0 where
   pub order : ℕ
   pub newest : ℤ
   pub older : List ℤ
 
---- the code of its newest value; a missing value has no arc, and its code is empty
+--- the coded value of the newest value; a missing value has no arc, and its text is empty
 abbrev pub code_now : Option Arc → Code
 code_now None = Missing
 code_now (Some arc) = code_at arc.order (arc.newest ∷ arc.older)
 
---- the arc without its newest value; none where that one started it
+--- the arc without its newest value; none if that value started it
 abbrev pub arc_before : Arc → Option Arc
 arc_before arc = elim (arc.older) [
   | [] ↦ None
   | value ∷ values ↦ Some (record { order = arc.order; newest = value; older = values })
 ]
 
---- a missing value ends an arc; a value starts one anew, of any order, or goes on with the one that is there
+--- a missing value ends an arc; a value starts a new arc, of any order, or continues the arc before
 abbrev pub MayFollow : Option Arc → Option Arc → Type 0
 MayFollow before None = ⊤
 MayFollow before (Some now) = (arc_before now ≡ None) ⊎ (arc_before now ≡ before)
@@ -54,7 +54,7 @@ pub record WrittenEpoch : Type 0 where
   pub clock : Option Arc
   pub rows : List WrittenRow
 
---- what they show: the newest value of each arc
+--- the row and the epoch that are written: each value is the newest of its arc
 abbrev pub row_now : WrittenRow → Row
 row_now row =
     record { name = row.name; values = map (λ (arc : Option Arc). option_map (λ (a : Arc). a.newest) arc) row.arcs; flags = row.flags }
@@ -66,17 +66,18 @@ epoch_now written = record {
   rows = map row_now written.rows;
 }
 
---- where everything starts anew
+--- the epoch before a full one: an empty text, no arcs and no satellites
 abbrev pub nothing_written : WrittenEpoch
 nothing_written = record { head = []; clock = None; rows = [] }
 
---- what an epoch line goes on from, after the epoch before or none: from nothing where it begins with >, whichever epochs these are
+--- the epoch that an epoch line refers to: the empty one if the line begins with >, whichever epochs precede it; otherwise the epoch
+--- before, or none
 abbrev pub goes_on_from : Option WrittenEpoch → List ℕ → Option WrittenEpoch
 goes_on_from before line = if begins_epoch line then Some nothing_written else before
 
 -- ---- lines
 
---- the arc at a place of a satellite that the epoch before may hold, and its indicators
+--- a satellite's arc at a place, counted from 0, and its indicators in the epoch before; none if that epoch doesn't hold it
 abbrev pub arc_in : Option WrittenRow → ℕ → Option Arc
 arc_in None place = None
 arc_in (Some row) place = slice_index_or row.arcs place None
@@ -85,8 +86,8 @@ abbrev pub flags_in : Option WrittenRow → List ℕ
 flags_in None = []
 flags_in (Some row) = row.flags
 
---- a satellite's line: a text of each code, however it is spelled, with one blank each; then any marks that make the new
---- indicators of those before, with nothing but blanks past them; blanks at the line's end may be there or not
+--- a satellite's line: a text of each coded value, however it is spelled, each followed by one blank; then any marks that change the
+--- indicators before into the new ones, with only blanks after these; blanks at the line's end are optional
 pub record IsRowLine (before : Option WrittenRow) (now : WrittenRow) (line : List ℕ) : Type 0 where
   pub texts : List (List ℕ)
   pub marks : List ℕ
@@ -104,15 +105,15 @@ AreRowLines before (row ∷ rows) [] = ⊥
 AreRowLines before (row ∷ rows) (line ∷ lines) =
     IsRowLine (named (λ (r : WrittenRow). r.name) row.name before.rows) row line × AreRowLines before rows lines
 
---- the lines of an epoch after another: any marks that make its text of that one's; the clock's code, however it is spelled, with any
---- blanks after it; and the satellites' lines
+--- the lines of an epoch after another: any marks that change the text before into the new text; the clock's coded value, however it is
+--- spelled, and optional blanks; and the satellites' lines
 pub record AreLinesAfter (before now : WrittenEpoch) (line clock : List ℕ) (rows : List (List ℕ)) : Type 0 where
   pub marked : patched (epoch_text (epoch_now before)) line ≡ without_end_blanks (epoch_text (epoch_now now))
   pub spelled : code_of (without_end_blanks clock) ≡ Some (code_now now.clock)
   pub follows : MayFollow before.clock now.clock
   pub satellites : AreRowLines before now.rows rows
 
---- the lines of an epoch, after the epoch that may be before it: it may be in full everywhere, and has to be where there is none
+--- the lines of epoch `now` after the epoch before, if there is one: `now` may always be full, and has to be if there is none
 abbrev pub AreEpochLines : Option WrittenEpoch → WrittenEpoch → List (List ℕ) → Type 0
 AreEpochLines before now (line ∷ clock ∷ rows) =
     (base : WrittenEpoch) × (goes_on_from before line ≡ Some base) × AreLinesAfter base now line clock rows

@@ -1,4 +1,4 @@
--- The values that the codes of an arc stand for: Hatanaka's Compact RINEX 3.0, data arcs. Codes are newest first.
+-- The values that the coded values of an arc stand for (Hatanaka's Compact RINEX 3.0, data arcs). Coded values are newest first.
 use Rattle.std.specs.Prelude.{ℕ, ◌-◌, ◌^◌, ◌&&◌, Bool, ℤ, pos, neg_ℤ, int_lt, List, [], ◌∷◌, Option, Some, None, Result}
 use Rattle.std.specs.Prelude.{Ok, Err, if◌then◌else◌}
 use Rattle.std.specs.Option.{option_map}
@@ -8,7 +8,7 @@ use Rattle.crx_base.specs.declared.fault.Fault.{Fault}
 use Rattle.crx_base.specs.declared.fault.Fault.TheVariants.{NoArc, OutOfRange}
 use Rattle.crx_compact.specs.meaning.Differences.{value_at}
 
--- the numbers of an arc's codes since its start, newest first, and the start's order
+-- an arc since its start: the start's order, and the numbers of its coded values, newest first
 pub record Started : Type 0 where
   pub order : ℕ
   pub numbers : List ℤ
@@ -16,14 +16,14 @@ pub record Started : Type 0 where
 abbrev pub onto_started : ℤ → Started → Started
 onto_started number arc = record { order = arc.order; numbers = number ∷ arc.numbers }
 
--- the codes since the latest start, if none of them is missing
+-- the coded values since the latest start; none if there is no start, or a missing value after it
 abbrev pub since_start : List Code → Option Started
 since_start [] = None
 since_start (Missing ∷ older) = None
 since_start (Start order value ∷ older) = Some (record { order = order; numbers = value ∷ [] })
 since_start (Step number ∷ older) = option_map (onto_started number) (since_start older)
 
--- whether a number fits so many columns: the point takes one of them, and a minus another
+-- whether a number fits `width` columns: the point takes one of them, and a minus sign another
 abbrev pub is_within : ℕ → ℤ → Bool
 is_within width number = int_lt (neg_ℤ (pos (10 ^ (width - 2)))) number && int_lt number (pos (10 ^ (width - 1)))
 
@@ -34,7 +34,7 @@ abbrev pub value_since : ℕ → Option Started → Result (Option ℤ) Fault
 value_since width None = Err NoArc
 value_since width (Some arc) = in_range width (value_at arc.order arc.numbers)
 
--- the value of a cell or a clock by its codes, newest first, in a run: nothing where the newest is missing
+-- the value of a cell or a clock, or its fault, by the coded values of its run, newest first; none if the newest is missing
 abbrev pub value_of : ℕ → List Code → Result (Option ℤ) Fault
 value_of width [] = Ok None
 value_of width (Missing ∷ older) = Ok None

@@ -1,5 +1,5 @@
--- Reading an observation epoch of compact text: Hatanaka's Compact RINEX 3.0, epoch line, clock line, satellite lines.
--- What is asked of each line, and in which order, is this project's profile.
+-- Reading an observation epoch of compact text (Hatanaka's Compact RINEX 3.0, epoch line, clock line, satellite lines). The checks of each
+-- line, and their order, are this project's profile.
 use Rattle.std.specs.Prelude.{ℕ, ◌+◌, ◌*◌, Bool, ◌&&◌, List, [], ◌∷◌, map, length, drop, Option}
 use Rattle.std.specs.Prelude.{Result, Ok, Err, if◌then◌else◌}
 use Rattle.std.specs.List.{list_all}
@@ -36,7 +36,7 @@ satellites_of_line types past line =
     list_all is_printable line otherwise Err BadEpoch next
     satellites_of_text types (past.text line)
 
--- an epoch whose line was read: the line, what its lines are read against, and its satellites
+-- an epoch whose epoch line was read: this line, the past that its lines refer to, and its satellites
 pub record BegunEpoch : Type 0 where
   pub line : List ℕ
   pub past : Past
@@ -50,7 +50,7 @@ epoch_begun types line earlier =
 
 -- ---- the clock line
 
--- the clock's code and value; blanks at the line's end do not count
+-- the clock's coded value with its value, or the line's first fault; blanks at the line's end don't count
 abbrev pub clock_line_read : Past → List ℕ → Result ReadCell Fault
 clock_line_read past line =
     if begins_epoch line then Err Truncated else
@@ -58,11 +58,11 @@ clock_line_read past line =
 
 -- ---- satellite lines
 
--- marks for so many types: printable characters, and nothing but blanks past them
+-- whether these are marks of `count` types: printable characters, and only blanks after two for each type
 abbrev pub are_marks : ℕ → List ℕ → Bool
 are_marks count marks = list_all is_printable marks && list_all is_blank (drop (2 * count) marks)
 
--- a satellite's line that was read: its codes and marks, and the row that they stand for
+-- a satellite's line that was read: its coded values and marks, and the row that they stand for
 pub record ReadRow : Type 0 where
   pub raw : RawRow
   pub row : Row
@@ -78,7 +78,7 @@ row_of_cells past name marks cells =
       };
     }
 
--- a satellite's line, or its first fault: the first cell with a fault decides, then the marks
+-- a satellite's line, or its first fault: it begins an epoch, then the first cell with a fault decides, then the marks
 abbrev pub satellite_line_read : Past → Satellite → List ℕ → Result ReadRow Fault
 satellite_line_read past satellite line =
     if begins_epoch line then Err Truncated else
@@ -96,7 +96,7 @@ rows_read past (satellite ∷ satellites) lines =
 
 -- ---- a whole epoch
 
--- an observation epoch that was read: its lines as they were read, and what it stands for
+-- an observation epoch that was read: its lines as they were read, and the epoch that they stand for
 pub record ReadEpoch : Type 0 where
   pub raw : RawEpoch
   pub epoch : Epoch
@@ -119,14 +119,13 @@ epoch_after_line begun lines =
     then_place (rows_read begun.past begun.satellites others) others (λ rows rest.
     Done (epoch_of_rows begun clock rows) 0))
 
--- the observation epoch at the first of some lines, which begins no event, by what earlier lines give to each epoch
--- line
+-- the observation epoch at the first of some lines, which begins no event; `past_of`: the past that each epoch line refers to
 abbrev pub epoch_against : List Count → (List ℕ → Option Past) → List ReadLine → Place ReadEpoch
 epoch_against types past_of lines =
     then_place (first_line lines (λ line. epoch_begun types line (past_of line))) lines (λ begun others.
     epoch_after_line begun others)
 
--- the observation epoch at the first of some lines, which begins no event, after the raw epochs accepted since the
--- reader's state was last emptied, by the counts of types in force
+-- the observation epoch at the first of some lines, which begins no event. `types`: the counts of types in force; `older`: the raw epochs
+-- accepted since the reader's state was last emptied
 abbrev pub epoch_at : List Count → List RawEpoch → List ReadLine → Place ReadEpoch
 epoch_at types older lines = epoch_against types (past_of_line older) lines

@@ -1,4 +1,4 @@
--- What an epoch text has to be: RINEX 3.05, table A3, EPOCH record, and Hatanaka's Compact RINEX 3.0, epoch line.
+-- The form of an epoch text (RINEX 3.05, table A3, EPOCH record, and Hatanaka's Compact RINEX 3.0, epoch line).
 use Rattle.std.specs.Prelude.{ℕ, ◌+◌, ◌*◌, List, [], ◌∷◌, Option, Result, Ok, Err, if◌then◌else◌}
 use Rattle.std.specs.List.{list_any}
 use Rattle.std.specs.Str.{bytes_eq}
@@ -16,7 +16,7 @@ pub use Rattle.crx_header.specs.meaning.Satellites.{types_of_satellite}
 use Rattle.crx_header.specs.meaning.ObservationTypes.{Count}
 use Rattle.crx_header.specs.meaning.InOrder.{◌or_else◌with◌}
 
--- the identifiers after the 41 columns, three characters each
+-- the `count` identifiers after the 41 columns, three characters each
 abbrev pub names_in : List ℕ → ℕ → List (List ℕ)
 names_in text count = each_place count (λ k. columns text (HEAD_WIDTH + 1 + NAME_WIDTH * k) NAME_WIDTH)
 
@@ -25,7 +25,7 @@ pub record Satellite : Type 0 where
   pub name : List ℕ
   pub count : ℕ
 
--- an identifier with its count of types before the others, where none of those before it is the same
+-- a satellite before `others`, or its fault: it has no count of types, or one of the earlier identifiers is the same
 abbrev pub satellite_before : List (List ℕ)
     → List ℕ → Option ℕ → Result (List Satellite) Fault → Result (List Satellite) Fault
 satellite_before earlier name types others =
@@ -33,7 +33,7 @@ satellite_before earlier name types others =
     if list_any (bytes_eq name) earlier then Err RepeatedSatellite else
     before_all (record { name = name; count = count }) others
 
--- identifiers from left to right, each well formed and none of them twice, or the first fault
+-- the satellites of some identifiers, from left to right, or the first fault: each is well formed, and none occurs twice
 abbrev pub satellites_named : List Count → List (List ℕ) → List (List ℕ) → Result (List Satellite) Fault
 satellites_named types earlier [] = Ok []
 satellites_named types earlier (name ∷ names) =

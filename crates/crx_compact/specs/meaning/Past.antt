@@ -1,6 +1,6 @@
--- What the lines read so far give to the lines of the next epoch: Hatanaka's Compact RINEX 3.0. An epoch's lines are
--- for changes of those before them, but for those of an epoch in full, those of a satellite that the epoch before
--- doesn't hold, and values that begin an arc. Header lines and events are copied.
+-- The past of an epoch: how its lines depend on the lines read before (Hatanaka's Compact RINEX 3.0). An epoch's lines are changes of
+-- earlier ones, except the lines of a full epoch, the line of a satellite that the previous epoch doesn't hold, and values that begin an
+-- arc. Header lines and events are copied.
 use Rattle.std.specs.Prelude.{ℕ, ℤ, List, [], ◌∷◌, map, Option, Some, None, Result, if◌then◌else◌}
 use Rattle.crx_text.specs.declared.code.Code.{Code}
 use Rattle.crx_base.specs.declared.fault.Fault.{Fault}
@@ -9,15 +9,15 @@ use Rattle.crx_header.specs.meaning.EpochColumns.{begins_epoch}
 use Rattle.crx_compact.specs.meaning.Expansion.{RawEpoch, block_of, overlaid, code_in, raw_run_of, marks_of}
 use Rattle.crx_compact.specs.meaning.ArcValues.{value_of}
 
--- the epoch text that an epoch line makes; the value that the clock's code gives, or its fault; the value
--- that a satellite's code at a place, counted from 0, gives, or its fault; and the indicators that a satellite's marks make
+-- `text`: the epoch text that an epoch line makes; `clock`: the value of the clock's coded value, or its fault; `value`: the value of a
+-- satellite's coded value at a place, counted from 0, or its fault; `flags`: the indicators that a satellite's marks make
 pub record Past : Type 0 where
   pub text : List ℕ → List ℕ
   pub clock : Code → Result (Option ℤ) Fault
   pub value : List ℕ → ℕ → Code → Result (Option ℤ) Fault
   pub flags : List ℕ → List ℕ → List ℕ
 
--- what a block of raw epochs gives, newest first
+-- the past after a block of raw epochs, newest first
 abbrev pub past_of_block : List RawEpoch → Past
 past_of_block block =
     record {
@@ -27,12 +27,12 @@ past_of_block block =
       flags = λ name marks. overlaid (marks ∷ marks_of (raw_run_of name block));
     }
 
--- what the raw epochs accepted since the reader's state was last emptied give to an epoch line that doesn't begin with
--- >; nothing where there is none
+-- the past of an epoch line that doesn't begin with >, after the raw epochs accepted since the reader's state was last emptied; none if
+-- there are none
 abbrev pub past_of_epochs : List RawEpoch → Option Past
 past_of_epochs [] = None
 past_of_epochs (e ∷ older) = Some (past_of_block (block_of (e ∷ older)))
 
--- what they give to an epoch line: where it begins with >, all starts anew
+-- the past of an epoch line; if it begins with >, no earlier epoch matters
 abbrev pub past_of_line : List RawEpoch → List ℕ → Option Past
 past_of_line older line = if begins_epoch line then Some (past_of_block []) else past_of_epochs older
