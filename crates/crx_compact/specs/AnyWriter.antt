@@ -67,7 +67,7 @@ pub record EpochReads (types : List Count) (raws : List RawEpoch) (now : Written
       ≡ Done (record { raw = raw; epoch = epoch_now now }) (2 + length now.rows)
   pub leaves : tail_left (raw ∷ raws) ≡ Some (epoch_left now)
 
--- a tail is the one of the epoch that lines may refer to, if there is one; otherwise it may be any
+-- the tail is left by the epoch that lines may refer to, if there is one; otherwise it may be any
 abbrev pub IsLeft : Option WrittenEpoch → Option Tail → Type 0
 IsLeft before tail = (b : WrittenEpoch) → before ≡ Some b → tail ≡ Some (epoch_left b)
 

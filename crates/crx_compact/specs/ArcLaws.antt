@@ -24,7 +24,7 @@ value_given codes = option_map (λ (arc : Started). value_at arc.order arc.numbe
 abbrev pub Inverts : Type 0
 Inverts = (order : ℕ) (a : ℤ) (older : List ℤ) → value_given (codes_of_arc order (a ∷ older)) ≡ Some a
 
--- the tail of an arc after its next value, and that value's coded value, by the tail before it
+-- an arc after its next value: the coded value and the tail, by the tail before
 pub record CodesByTail (order : ℕ) (value : ℤ) (older : List ℤ) : Type 0 where
   pub code : code_at order (value ∷ older) ≡ code_after order value (arc_tail order older)
   pub tail : arc_tail order (value ∷ older) ≡ Some (arc_after order value (arc_tail order older))
@@ -33,7 +33,7 @@ pub record CodesByTail (order : ℕ) (value : ℤ) (older : List ℤ) : Type 0 w
 abbrev pub tail_of_numbers : ℕ → List ℤ → ArcTail
 tail_of_numbers order numbers = record { order = order; differences = differences_of order (values_of order numbers) }
 
--- the tail of an arc after a next difference, and the value there, by the tail before it
+-- an arc after its next difference: the value and the tail, by the tail before
 pub record ValuesByTail (order : ℕ) (number before : ℤ) (older : List ℤ) : Type 0 where
   pub value : value_at order (number ∷ before ∷ older)
       ≡ value_of_tail (arc_after_number number (tail_of_numbers order (before ∷ older)))
@@ -45,8 +45,7 @@ abbrev pub arc_of_values : List (Option ℤ) → Option ArcTail
 arc_of_values [] = None
 arc_of_values (value ∷ older) = arc_of_value value (arc_of_values older)
 
--- after any list of values an arc is the one of their latest stretch without a missing value, and the coded value of the next value is the
--- one of that stretch with it
+-- after any values the arc is that of their latest stretch without a missing one, and the next value is coded by that stretch with it
 pub record CodesOfValues (value : Option ℤ) (older : List (Option ℤ)) : Type 0 where
   pub tail : arc_of_values older ≡ arc_tail WRITTEN_ORDER (stretch older)
   pub code : code_of_value value (arc_of_values older) ≡ code_at WRITTEN_ORDER (stretch (value ∷ older))
@@ -65,8 +64,8 @@ arc_of_codes width (code ∷ older) =
     if is_ok (value_of_code width code (arc_of_codes width older)) then arc_of_code code (arc_of_codes width older)
     else arc_of_codes width older
 
--- after any list of coded values an arc is the one of those accepted since their latest start, and the next one has the value, or the
--- fault, that it has after the accepted ones
+-- after any coded values the arc is that of the accepted ones since their latest start, and the next one has the value, or the fault, that
+-- it has after the accepted ones
 pub record ValuesOfCodes (width : ℕ) (code : Code) (older : List Code) : Type 0 where
   pub tail : arc_of_codes width older ≡ started_tail (since_start (accepted width older))
   pub value : value_of_code width code (arc_of_codes width older) ≡ value_of width (code ∷ accepted width older)

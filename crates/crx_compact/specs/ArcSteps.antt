@@ -35,7 +35,6 @@ highest [] = pos 0
 highest (d ∷ []) = d
 highest (d ∷ e ∷ es) = highest (e ∷ es)
 
--- the coded value of a next value
 abbrev pub code_after : ℕ → ℤ → Option ArcTail → Code
 code_after order value None = Start order value
 code_after order value (Some arc) = Step (highest (arc_after order value (Some arc)).differences)

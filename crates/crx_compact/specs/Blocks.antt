@@ -21,7 +21,6 @@ pub record PendingLines : Type 0 where
   pub left : ℕ
   pub front : ℕ
 
--- no line is pending
 abbrev pub no_lines : PendingLines
 no_lines = record { lines = []; left = LINES_LIMIT; front = FIRST_LINES }
 

@@ -71,7 +71,6 @@ pub record MayReadCell (place : ℕ) (text : List ℕ) (old new : List (Option A
   pub some : IfSome taken (λ t. IsCellRead old place text old new t)
   pub none : IfNone taken (new ≡ old)
 
--- the arcs after coded values
 abbrev pub arcs_of_codes : List (Option ArcTail) → List Code → List (Option ArcTail)
 arcs_of_codes before codes = each_place
     (length codes) (λ place. arc_of_code (slice_index_or codes place Missing) (slice_index_or before place None))

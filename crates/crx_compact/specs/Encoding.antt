@@ -33,7 +33,6 @@ pub record EndsEpoch (head : ObservationHead) (old new : EncoderState) : Type 0 
   pub closed : new.is_open ≡ false
   pub rows : new.rows ≡ []
 
--- a tail, if one is kept
 abbrev pub tail_or_none : Bool → Tail → Option Tail
 tail_or_none is_kept tail = if is_kept then Some tail else None
 

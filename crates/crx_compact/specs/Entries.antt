@@ -18,7 +18,6 @@ key_of entry = entry.0
 abbrev pub rooms_of : List Entry → List (List ℕ × ℕ)
 rooms_of entries = map room_of_entry entries
 
--- the entry at an index
 abbrev pub entry_at : List Entry → ℕ → Entry
 entry_at entries index = slice_index_or entries index ([], record { flags = []; cells = []; room = 0 })
 

@@ -9,7 +9,6 @@ use Rattle.crx_compact.specs.declared.encoder.Encoder.TheInside.{Inside as Encod
 use Rattle.crx_compact.specs.declared.ghost_tail.GhostTail.{GhostTail}
 use Rattle.crx_rinex.specs.declared.rows_so_far.RowsSoFar.{RowsSoFar}
 
--- the history of a satellite, with the parts of another
 abbrev pub satellite_with : SatelliteHistoryInside → SatelliteHistoryInside → SatelliteHistoryInside
 satellite_with one other = record one {
   indicators = other.indicators;
@@ -17,7 +16,6 @@ satellite_with one other = record one {
   count = other.count;
 }
 
--- the satellites of a history, with the parts of others
 abbrev pub satellites_with : SatellitesInside → SatellitesInside → SatellitesInside
 satellites_with one other = record one {
   known = other.known;
@@ -30,7 +28,6 @@ satellites_with one other = record one {
   alloc = other.alloc;
 }
 
--- a history, with the parts of another
 abbrev pub history_with : HistoryInside → HistoryInside → HistoryInside
 history_with one other = record one {
   text = other.text;
@@ -41,7 +38,6 @@ history_with one other = record one {
   alloc = other.alloc;
 }
 
--- the lines of an epoch, with the parts of others
 abbrev pub block_with : BlockInside → BlockInside → BlockInside
 block_with one other = record one {
   bytes = other.bytes;
@@ -53,7 +49,6 @@ block_with one other = record one {
   front = other.front;
 }
 
--- columns, with the parts of another
 abbrev pub columns_with : ColumnsInside → ColumnsInside → ColumnsInside
 columns_with one other = record one {
   history = other.history;
@@ -72,7 +67,6 @@ rows_with one other = record one { marker = other.marker; rows = other.rows }
 abbrev pub ghost_tail_with : GhostTail → GhostTail → GhostTail
 ghost_tail_with one other = record one { marker = other.marker; tail = other.tail }
 
--- an encoder, with the parts of another
 abbrev pub encoder_with : EncoderInside → EncoderInside → EncoderInside
 encoder_with one other = record one {
   history = other.history;

@@ -34,8 +34,8 @@ PatchesBack = (old new : List ℕ)
 abbrev pub AreWhole : List Count → List Epoch → Type 0
 AreWhole types epochs = AllByRecursion (IsWholeEpoch types) epochs
 
--- each compact line of an epoch has at most the bytes of [`TYPES_LIMIT`] coded values of 15 characters, each with a blank and two
--- indicators, if the epochs since the latest full one are whole
+-- each compact line of an epoch has at most the bytes of TYPES_LIMIT coded values of 15 characters, each with a blank and two indicators,
+-- if the epochs since the latest full one are whole
 abbrev pub AreShort : Type 0
 AreShort =
     (types : List Count) (m : Marked) (older : List Marked) → AreWhole types (since_full (m ∷ older))

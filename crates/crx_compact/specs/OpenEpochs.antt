@@ -172,7 +172,7 @@ next_step begun (Content line) = line_step begun begun.clock line
 
 -- ---- all lines so far
 
--- a place with `f` of the thing there
+-- the same place, with `f` of the thing that was read there
 abbrev pub placed_as : {X Y : Type 0} → (X → Y) → Place X → Place Y
 placed_as f (Done x count) = Done (f x) count
 placed_as f (Fails offset fault) = Fails offset fault

@@ -37,7 +37,6 @@ pub record SatelliteTail : Type 0 where
 abbrev pub row_tail_of : List ℕ → SatelliteTail → RowTail
 row_tail_of name satellite = record { name = name; flags = satellite.flags; cells = satellite.cells }
 
--- the row of an entry of the map
 abbrev pub row_of_entry : List ℕ × SatelliteTail → RowTail
 row_of_entry entry = row_tail_of entry.0 entry.1
 
@@ -169,11 +168,10 @@ padded satellite kept =
       cells = each_place satellite.count (λ place. cell_of_tail place kept);
     }
 
--- the same, by the row that `rows` have of its identifier
+-- the same, by the satellite's row among `rows`
 abbrev pub padded_among : List RowTail → Satellite → RowTail
 padded_among rows satellite = padded satellite (row_tail_named satellite.name rows)
 
--- the satellite of a row
 abbrev pub satellite_of : RowTail → Satellite
 satellite_of row = record { name = row.name; count = length row.cells }
 
@@ -218,7 +216,6 @@ tail_of_history history =
 abbrev pub HaveRoom : List Row → List (List ℕ × ℕ) → Type 0
 HaveRoom rows rooms = All (λ (row : Row). HasRoom row.name (length row.values) rooms) rows
 
--- a row by its identifier, values and indicators
 abbrev pub row_of_parts : List ℕ → List (Option ℤ) → List ℕ → Row
 row_of_parts name values flags = record { name = name; values = values; flags = flags }
 
@@ -236,7 +233,7 @@ pub record IsStoredAt (place : ℕ) (satellites : PlacedRows) (satellite : Satel
   pub there : slice_get satellites.rows place ≡ Some (row_tail_of name satellite)
   pub room : (count : ℕ) → HasRoom name count satellites.rooms → count ≤ satellite.room
 
--- it was changed to `left`, with the same room: the satellite's row has changed, and nothing else
+-- the history of the satellite whose row is at `place` became `left`, with the same room: only the row has changed
 abbrev pub IsLeftAt : ℕ → PlacedRows → SatelliteTail → SatelliteTail → PlacedRows → Type 0
 IsLeftAt place old satellite left new = left.room ≡ satellite.room → (name : List ℕ)
     → slice_get old.rows place ≡ Some (row_tail_of name satellite)

@@ -58,14 +58,12 @@ row_tail_in before row = row_tail_after (named (λ (r : RowTail). r.name) row.na
 abbrev pub row_line_in : List RowTail → Row → List ℕ
 row_line_in before row = row_line_after (named (λ (r : RowTail). r.name) row.name before) row
 
--- the compact lines of an epoch after a tail
 abbrev pub lines_after_tail : Tail → Epoch → List (List ℕ)
 lines_after_tail tail epoch =
     text_difference tail.text (epoch_text epoch)
     ∷ code_text (code_of_value epoch.clock tail.clock)
     ∷ map (row_line_in tail.rows) epoch.rows
 
--- the tail after an epoch
 abbrev pub tail_after : Tail → Epoch → Tail
 tail_after tail epoch =
     record {
@@ -92,7 +90,6 @@ raw_row_tail_after tail raw =
       cells = each_place (length raw.codes) (λ place. arc_of_code (code_in place raw) (cell_of_tail place tail));
     }
 
--- the tail after a raw epoch
 abbrev pub raw_tail_after : Tail → RawEpoch → Tail
 raw_tail_after tail raw =
     record {
