@@ -1,4 +1,4 @@
--- After an epoch line: the rows are of the satellites that the text announces.
+-- After an epoch line the rows are those of the satellites that its text announces.
 use Rattle.crx_compact.proofs.Words.{◌≡◌, [], ◌∷◌, ℕ, List, All, Ok, map, refl}
 use Rattle.crx_compact.proofs.Words.{patched, length-each_place, Count}
 use Rattle.crx_compact.proofs.Words.{IsAwaitedSatellite, past_of_tail, satellites_of_line}

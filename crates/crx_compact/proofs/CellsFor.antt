@@ -1,4 +1,4 @@
--- Cells for so many types: those that are there, and blank ones.
+-- Cells for `count` types: the given ones, then empty ones.
 use Rattle.crx_compact.proofs.Words.{◌≡◌, ◌≤◌, ◌<◌, ◌+◌, ◌-◌, ℕ, ℤ, zero, suc, List, [], ◌∷◌, ◌++◌, length}
 use Rattle.crx_compact.proofs.Words.{take, drop, replicate, slice_index_or, Option, None, refl, ap, arith}
 use Rattle.crx_compact.proofs.Words.{Code, common_steps, each_place, length-take-le, cell_text, ArcTail}
@@ -21,7 +21,7 @@ each_place-below (suc n) f g h = cc (
   each_place-below n (λ i. f (suc i)) (λ i. g (suc i)) (λ k within. grind (arith, common_steps, k)),
 )
 
--- where nothing is from one place on, it doesn't matter how many there are
+-- if no place from `m` on has an arc, the number of places doesn't matter
 pub more-places : (m n : ℕ) (f : ℕ → Option ArcTail) → ((p : ℕ) → m ≤ p → f p ≡ None)
     → cells_for n (each_place m f) ≡ each_place n f
 more-places m n f h = each_place-same n _ _ (λ p. index-each_place m p f None (h p))
@@ -33,21 +33,19 @@ pub cell-there : (n k : ℕ) (cells : List (Option ArcTail)) → k < n
     → slice_index_or (cells_for n cells) k None ≡ slice_index_or cells k None
 cell-there n k cells within = index-each_place n k _ None (λ past. absurd (omega (arith, within, past)))
 
--- one cell more, without an arc
 pub one-more : (cells : List (Option ArcTail)) (n : ℕ) → length cells ≤ n
     → cells_for (n + 1) cells ≡ cells_for n cells ++ None ∷ []
 one-more cells n h = grind (arith, common_steps, each_place-more)
 
--- those behind the first ones don't count
+-- only the first `n` cells count
 pub cells-cut : (cells : List (Option ArcTail)) (n : ℕ) → cells_for n (take n cells) ≡ cells_for n cells
 cells-cut cells n = grind (arith, each_place-below, get_or-take)
 
--- the cells of so many types, of which the others have no arc
+-- cells for `n` types, after they were extended to `m`
 pub cells-again : (cells : List (Option ArcTail)) (m n : ℕ) → length cells ≤ m
     → cells_for n (cells_for m cells) ≡ cells_for n cells
 cells-again cells m n h = grind (arith, common_steps, more-places)
 
--- the first cells
 pub first-cells : (cells : List (Option ArcTail)) (m n : ℕ) → m ≤ n → take m (cells_for n cells)
     ≡ cells_for m cells
 first-cells cells m n h = grind (arith, take-each_place)
@@ -56,18 +54,16 @@ no-cells : (n : ℕ) → cells_for n [] ≡ replicate n None
 no-cells zero = refl
 no-cells (suc n) = ap {B = List (Option ArcTail)} (λ xs. None ∷ xs) (no-cells n)
 
--- cells without arcs for types that are new
 pub longer-cells : (cells : List (Option ArcTail)) (n : ℕ) → length cells ≤ n
     → cells_for n cells ≡ cells ++ replicate (n - length cells) None
 longer-cells (c ∷ cs) (suc n) h = grind (arith, longer-cells cs n (omega (arith, h)))
 longer-cells x n h = grind (arith, common_steps, no-cells)
 
--- as many types as before
 pub same-cells : (cells : List (Option ArcTail)) → cells_for (length cells) cells ≡ cells
 same-cells [] = refl
 same-cells (c ∷ cs) = cc (same-cells cs)
 
--- ---- what they show
+-- ---- their values
 
 pub value-there : (cells : List (Option ArcTail)) (n k : ℕ) (arc : Option ArcTail)
     → arc ≡ slice_index_or cells k arc → k < length cells → length cells ≤ n
@@ -111,7 +107,6 @@ module _ (before : List (Option ArcTail)) (values : List (Option ℤ)) (filled :
 
 -- ---- bytes
 
--- blanks are put behind the first bytes
 pub blanks-put : (bytes text : List ℕ) (a b d : ℕ) → b ≡ a + d → b ≤ length bytes
     → text ≡ replicate (length (take (b - a) (drop a bytes))) 32
     → take b (put_mid a (b - a) bytes text) ≡ take a bytes ++ replicate d 32

@@ -19,7 +19,6 @@ use Rattle.std.specs.Prelude.{min}
 abbrev Values : Type 0
 Values = ℕ → Code → Result (Option ℤ) Fault
 
--- the same values at each place of some texts
 pub cells-within : (f g : Values) (texts : List (List ℕ)) → ((place : ℕ) (c : Code)
     → place < length texts → f place c ≡ g place c) → cells_read f texts ≡ cells_read g texts
 cells-within f g [] h = refl
@@ -47,8 +46,7 @@ codes_in cells = map (λ (c : ReadCell). c.code) cells
 abbrev values_in : List ReadCell → List (Option ℤ)
 values_in cells = map (λ (c : ReadCell). c.value) cells
 
--- the cells before a place of the line are read, and the arcs from the last one on are left, of those that
--- the line may reach
+-- the cells before a place of the line are read, and the arcs from there on are the earlier ones, up to the last that the line may reach
 pub record ReadUpTo (first : List (Option ArcTail))
     (line : List ℕ) (at k reached : ℕ) (arcs : List (Option ArcTail)) : Type 0 where
   pub cells : List ReadCell
@@ -61,7 +59,6 @@ pub record ReadUpTo (first : List (Option ArcTail))
   pub made : arcs ≡ arcs_of_codes first (codes_in cells) ++ drop k (take reached first)
   pub shown : map shown_value (arcs_of_codes first (codes_in cells)) ≡ values_in cells
 
--- there are as many arcs as cells
 made-count : (first : List (Option ArcTail)) (cells : List ReadCell) (k : ℕ) → length cells ≡ k
     → length (arcs_of_codes first (codes_in cells)) ≡ k
 made-count first cells k e = search (rules, length-each_place, length-map)
@@ -83,7 +80,7 @@ one-after : (k : ℕ) (line : List ℕ) → after_cells (suc k) line ≡ after_c
 one-after zero line = refl
 one-after (suc k) line = one-after k (after_cell line)
 
--- those that it doesn't reach are missing
+-- a cell that the line doesn't reach
 abbrev missing : ReadCell
 missing = record { code = Missing; value = None }
 
@@ -137,7 +134,7 @@ module _ (first : List (Option ArcTail)) (line : List ℕ) (at k reached : ℕ) 
     arc-there : slice_index_or arcs k None ≡ slice_index_or first k None
     arc-there = grind (arith, common_steps, from-place, made-count, get_or-append_seam, get_or-take)
 
-    -- the next cell, and the arcs with its own in its place
+    -- the next cell is read, and its arc replaced
     pub read-next : {arcs' made : List (Option ArcTail)} {taken : ℕ}
         → IsCellRead arcs k (drop at line) arcs made taken
         → arcs' ≡ made → ReadUpTo first line (at + taken) (k + 1) reached arcs'
@@ -163,7 +160,7 @@ module _ (first : List (Option ArcTail)) (line : List ℕ) (at k reached : ℕ) 
         rw add-one (one-after k line) in
         search (rules, length-append, onto-more, drop-drop, length-drop, set-append_seam, append_assoc)
 
-    -- a fault of the next cell is that of them all
+    -- a fault of the next cell is the fault of all
     pub next-refused : {fault : Fault}
         → cell_read BadField (value_at_place arcs k) (code_of (first_cell (drop at line))) ≡ Err fault
         → cells_read (value_at_place first) (cells_of count line) ≡ Err fault

@@ -1,4 +1,4 @@
--- The codes of a row's values, written from left to right.
+-- The coded values of a row, written from left to right.
 use Rattle.crx_compact.proofs.Words.{◌≡◌, ◌≤◌, ◌<◌, ◌+◌, ◌*◌, ◌∙◌, ℕ, ℤ, List, ◌++◌, length, take, drop}
 use Rattle.crx_compact.proofs.Words.{slice_index_or, slice_set, Option, None, arith}
 use Rattle.crx_compact.proofs.Words.{ArcTail, cell_text, each_place, flat_map, take_more_set}
@@ -8,8 +8,7 @@ use Rattle.crx_text.proofs.EachPlace.{each_place-more}
 use Rattle.crx_compact.specs.Cells.{IsCellWritten, arc_at_place, code_at_place}
 use Rattle.crx_compact.specs.{declared.cells.TheConstants.CELL_ROOM, Placing.cells_for}
 
--- the codes of the values before a place are written, and the arcs from the place on are still the first
--- ones, of those that a value may be there for
+-- the coded values before a place are written, and the arcs from there on are the earlier ones, up to the last value that may be present
 pub record WrittenUpTo (first : List (Option ArcTail)) (values : List (Option ℤ)) (filled : ℕ)
     (line : List ℕ) (at k : ℕ) (arcs : List (Option ArcTail)) (bytes : List ℕ) (end : ℕ) : Type 0 where
   pub counted : length arcs ≡ filled
@@ -20,7 +19,7 @@ pub record WrittenUpTo (first : List (Option ArcTail)) (values : List (Option �
       ≡ take at line ++ flat_map cell_text (each_place k (code_at_place first values))
   pub rest : drop k arcs ≡ drop k (cells_for filled first)
 
--- the next value's code is written, and its arc is in its place
+-- the next coded value is written, and its arc replaced
 pub write-next : {first : List (Option ArcTail)} {values : List (Option ℤ)} {filled at k end end' : ℕ}
     {line bytes bytes' : List ℕ} {arcs : List (Option ArcTail)} {arc : Option ArcTail}
     → WrittenUpTo first values filled line at k arcs bytes end → k < filled

@@ -29,7 +29,7 @@ all_blank : (text : List ℕ) → ((p : ℕ) → at text p ≡ 32) → without_e
 all_blank [] h = refl
 all_blank (c ∷ cs) h = cc (all_blank cs (λ p. h (suc p)), h 0)
 
--- texts with the same characters are the same without the blanks at their ends
+-- texts with the same characters are the same, except the blanks at their ends
 pub same_characters : (xs ys : List ℕ) → ((p : ℕ) → at xs p ≡ at ys p)
     → without_end_blanks xs ≡ without_end_blanks ys
 same_characters [] ys h = sym (all_blank ys (λ p. sym (h p)))

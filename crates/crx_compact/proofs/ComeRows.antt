@@ -1,5 +1,4 @@
--- Rows that come one by one, each after what is stored of its satellite: the row of the epoch before, or a
--- blank one.
+-- Rows that are added one by one, each after its satellite's history: the row of the previous epoch, or an empty one.
 use Rattle.crx_compact.proofs.Words.{rules, ◌≡◌, ◌++◌, ◌∷◌, [], ℕ, List, true, false, Some}
 use Rattle.crx_compact.proofs.Words.{length, take, slice_get, refl, arith}
 use Rattle.crx_compact.proofs.Words.{is_among, Row, Satellite, PlacedRows, padded}
@@ -11,7 +10,7 @@ use Rattle.std.proofs.lemmas.List.Folds.{list_any-append}
 use Rattle.crx_header.proofs.Apart.{other_way, new_at}
 use Rattle.crx_compact.specs.Placing.{HasCome, row_tail_named}
 
--- ---- a blank row is none
+-- ---- an empty row is none
 
 pub come-row : (rest before : List RowTail) (row : Row) → row_tail_named row.name rest ≡ row_tail_named
     row.name before
@@ -24,13 +23,13 @@ pub come-padded : (rest before : List RowTail) (satellite : Satellite)
     → padded satellite (Some (row_or_blank satellite.name rest)) ≡ padded_among before satellite
 come-padded rest before satellite same = grind arith
 
--- ---- the identifier of the row that has come
+-- ---- the identifier of the added row
 
 pub come-name : (name : List ℕ) (rest : List RowTail) → (row_or_blank name rest).name ≡ name
 come-name name [] = refl
 come-name name (row ∷ rest) = grind (arith, common_steps, bytes_eq-is, come-name name rest)
 
--- what has not come yet, by identifier, is as before
+-- the rows that are still expected, by identifier, are as before
 abbrev pub AreAwaited : {X : Type 0} → (X → List ℕ) → List X → List RowTail → List RowTail → Type 0
 AreAwaited name_of come before rest = (name : List ℕ)
     → is_among name_of name come ≡ false → row_tail_named name rest ≡ row_tail_named name before

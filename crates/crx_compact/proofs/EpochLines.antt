@@ -1,4 +1,4 @@
--- An epoch line that was read: its satellites are as many as it announces, and no two of one identifier.
+-- An epoch line that was read has the number of satellites that it announces, no two with one identifier.
 use Rattle.crx_compact.proofs.Words.{◌≡◌, refl, ℕ, ◌+◌, ◌*◌, Bool, true, false, List, [], ◌∷◌, map, drop}
 use Rattle.crx_compact.proofs.Words.{Option, Some, Result, Ok, Err, length, list_all, AllByRecursion}
 use Rattle.crx_compact.proofs.Words.{bytes_eq, ap, sym, ◌∙◌, and_from, is_blank, columns, Count, is_among}
@@ -15,14 +15,13 @@ use Rattle.crx_compact.proofs.{EpochTexts.blank-after, SoundTexts.ends-within}
 use Rattle.crx_compact.specs.declared.history.TheConstants.{EPOCH_TEXT_LIMIT}
 use Rattle.crx_compact.proofs.{Identifiers.{AreNew, new-before}, Results.{if-err, if-true}}
 
--- whether no identifier is there twice
+-- whether no identifier occurs twice
 abbrev pub differ : List (List ℕ) → Bool
 differ names = are_apart (λ (n : List ℕ). n) names
 
 abbrev pub names_of : List Satellite → List (List ℕ)
 names_of satellites = map (λ (s : Satellite). s.name) satellites
 
--- what is known of satellites whose identifiers were checked
 pub record SatellitesFacts (types : List Count)
     (earlier names : List (List ℕ)) (satellites : List Satellite) : Type 0 where
   pub same : names_of satellites ≡ names
@@ -30,7 +29,6 @@ pub record SatellitesFacts (types : List Count)
   pub apart : differ names ≡ true
   pub known : AllByRecursion (λ (s : Satellite). types_of_satellite types s.name ≡ Some s.count) satellites
 
--- what is known of an epoch line that was read
 pub record LineFacts (types : List Count) (past : Past) (line : List ℕ)
     (satellites : List Satellite) : Type 0 where
   pub count : ℕ
@@ -57,7 +55,7 @@ satellites-facts types earlier (n ∷ ns) given e =
     let rest = satellites-facts types (n ∷ earlier) ns step.1 step.4 in
     grind (arith, common_steps, new-before, and_from, is_among)
 
--- so many satellites of an epoch text, or its first fault
+-- the satellites of an epoch text by their number, or its first fault
 abbrev pub satellites_counted : List Count → List ℕ → Option ℕ → Result (List Satellite) Fault
 satellites_counted types text found =
     found or_else Err BadEpoch with λ count. list_all is_blank (drop (HEAD_WIDTH + NAME_WIDTH * count) text)
@@ -73,7 +71,7 @@ pub line-facts_of : (types : List Count) (past : Past) (line : List ℕ) (satell
     → satellites_of_line types past line ≡ Ok satellites → LineFacts types past line satellites
 line-facts_of types past line satellites e = search (rules, text-facts, if-true, if-err)
 
--- the same identifiers by other counts of types, which are those of the satellites
+-- the same identifiers are read by other counts of types, if the satellites have these
 pub named-again : (earlier types : List Count) (state names : List (List ℕ)) (given : List Satellite)
     → satellites_named earlier state names ≡ Ok given
     → All (λ (s : Satellite). types_of_satellite types s.name ≡ Some s.count) given
@@ -95,12 +93,12 @@ module _ (types : List Count) (before : Tail) (line : List ℕ) (satellites : Li
   facts : LineFacts types (past_of_tail before) line satellites
   facts = line-facts_of types (past_of_tail before) line satellites e
 
-  -- its satellites are as many as it announces
+  -- it has the number of satellites that it announces
   many : length satellites ≡ facts.count
   many = sym (length-map satellites (λ (s : Satellite). s.name)) ∙ ap length facts.named.same
       ∙ length-each_place facts.count (λ k. columns text (HEAD_WIDTH + 1 + NAME_WIDTH * k) NAME_WIDTH)
 
-  -- an epoch line that was read announces its satellites, no two of one identifier, and names them
+  -- an epoch line that was read announces its satellites, no two with one identifier, and names them
   pub announced : AreAnnounced text satellites
   announced =
       let names = apart-map (λ (n : List ℕ). n) (λ (s : Satellite). s.name) satellites in
@@ -112,7 +110,7 @@ module _ (types : List Count) (before : Tail) (line : List ℕ) (satellites : Li
   pub named-by_line : NamesSatellites text satellites
   named-by_line = record { earlier = types; named = cc (many, facts.read) }
 
-  -- they are no more, and its text is no longer, than an epoch's
+  -- they are at most an epoch's satellites, and its text is at most as long as an epoch text
   pub named-few : length satellites ≤ SATELLITES_LIMIT
   named-few =
       let count = ap (λ (n : Option ℕ). unwrap_or n 0) facts.counted in

@@ -17,7 +17,6 @@ first-ended : (count : ℕ) (counts text : List ℕ) → lines_text (cut (count 
 first-ended (suc count) counts (c ∷ cs) e = grind (arith, first-ended count counts cs (ap (drop 1) e))
 first-ended x counts y e = grind (arith, common_steps)
 
--- a line after those that a text is cut into
 pub cut-more : (counts text line : List ℕ) → lines_text (cut counts text) ≡ text
     → cut (counts ++ length line ∷ []) (text ++ (line ++ 10 ∷ [])) ≡ cut counts text ++ line ∷ []
 cut-more (count ∷ counts) text line e =
@@ -38,13 +37,13 @@ text-more (first ∷ lines) line = grind (arith, common_steps, append_assoc, lin
 
 -- ---- the next line
 
--- what is behind a place of the first bytes
+-- the rest of the first bytes after a place
 drop-taken : (filled past : ℕ) (bytes : List ℕ)
     → past ≤ filled → drop past (take filled bytes) ≡ take (filled - past) (drop past bytes)
 drop-taken filled past bytes within =
     let all : filled ≡ past + (filled - past) = omega arith in cc (drop-take past (filled - past) bytes)
 
--- the next of some lines that are kept in bytes, and what is left after it
+-- the next of some lines that are held in bytes, and the rest after it
 pub record NextLine (lengths bytes : List ℕ) (filled past past_bytes count : ℕ) : Type 0 where
   pub is : Some (take count (drop past_bytes bytes))
       ≡ slice_get (cut (drop past lengths) (drop past_bytes (take filled bytes))) 0
@@ -80,7 +79,6 @@ pub none-left : (lengths bytes : List ℕ) (filled past : ℕ)
     → length lengths ≤ past → cut (drop past lengths) (drop filled (take filled bytes)) ≡ []
 none-left lengths bytes filled past within = grind (arith, common_steps, cut, drop_of_length-le)
 
--- no line is left of those that are there
 pub none-cut : (lengths bytes : List ℕ) (many filled : ℕ)
     → many ≤ length lengths → filled ≤ length bytes
     → AreCut (take many lengths) (take filled bytes) many filled
@@ -110,7 +108,7 @@ block-pushed lengths bytes new line count many filled past past_bytes front memo
     counts short put long =
     grind (arith, common_steps, length-set, take_more_set, drop-append-le, cut-more, length-append, text-more)
 
--- the line of a row, which was written after so many bytes and then ended
+-- the line of a row, which was written after the used bytes, and its LF
 pub row-pushed : (lengths bytes used new line : List ℕ)
     (many filled room count past past_bytes front memory memory' : ℕ)
     → IsBlock lengths bytes many filled past past_bytes front memory → memory' ≡ memory
@@ -132,13 +130,12 @@ row-pushed lengths bytes used new line many filled room count past past_bytes fr
 
 -- ---- lines in front
 
--- the first of some lines, and the others
 cut-first : (counts line rest : List ℕ)
     → cut (length line ∷ counts) ((line ++ 10 ∷ []) ++ rest) ≡ line ∷ cut counts rest
 cut-first counts line rest =
     grind (arith, common_steps, take-append_seam line (10 ∷ rest), drop-append-add line (10 ∷ rest) 1)
 
--- a line that is written right in front of the others of a text, over what was there
+-- a line that is written directly before the other lines of a text, over earlier bytes
 front-written : (bytes new line : List ℕ) (filled start past_bytes : ℕ) → start + length line + 1 ≡ past_bytes
     → past_bytes ≤ filled → filled ≤ length bytes → take past_bytes new
     ≡ take start bytes ++ (line ++ 10 ∷ []) → drop past_bytes new ≡ drop past_bytes bytes
@@ -154,7 +151,7 @@ front-written bytes new line filled start past_bytes at within room written same
     let all = drop-taken filled start new (omega arith) in
     cc (take-append-add ended (drop past_bytes bytes) left, drop-taken filled past_bytes bytes within)
 
--- a line that is put in front of the others of a text, over what was there, with its length before theirs
+-- a line that is put before the other lines of a text, over earlier bytes, with its length before theirs
 pub record PutFront (lengths bytes new line : List ℕ)
     (many filled past next past_bytes start : ℕ) : Type 0 where
   pub is : cut (drop next (take many (set lengths next (length line)))) (drop start (take filled new))

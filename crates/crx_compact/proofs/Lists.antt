@@ -7,7 +7,7 @@ pub mapped-same : {X Y : Type 0} {P : X → Type 0} (f g : X → Y)
 mapped-same f g same [] h = refl
 mapped-same f g same (x ∷ xs) h = cc (same x h.0, mapped-same f g same xs h.1)
 
--- where each item has a property and another follows from it, each has the other
+-- if each item has a property, and another follows from it, each has the other
 pub all-from : {X : Type 0} {P : X → Type 0} (Q : X → Type 0)
     → ((x : X) → P x → Q x) → (xs : List X) → AllByRecursion P xs → AllByRecursion Q xs
 all-from Q next [] h = tt

@@ -1,4 +1,4 @@
--- Items one by one, and the text that is made of them.
+-- Items one by one, and the text that they make.
 use Rattle.std.proofs.lemmas.List.{take_all, take_more, flat_map_more}
 use Rattle.std.proofs.lemmas.Option.{get_or_from_slice_get, slice_get_cases, slice_get_within}
 use Rattle.crx_compact.proofs.Words.{◌≡◌, ℕ, ◌+◌, List, [], ◌∷◌, ◌++◌, take, slice_get, Some}
@@ -11,16 +11,14 @@ ok-unless r good = grind arith
 
 -- ---- items one by one
 
--- the items up to a place, and the one there
 pub taken_more : {X : Type 0} (xs : List X) (i : ℕ) (x : X)
     → slice_get xs i ≡ Some x → take (i + 1) xs ≡ take i xs ++ x ∷ []
 taken_more xs i x h = cc (take_more xs i x (slice_get_within xs i x h), get_or_from_slice_get xs i x x h)
 
--- nothing is past a place where nothing is
+-- no item is after a place without one
 pub taken_all : {X : Type 0} (xs : List X) (i : ℕ) → slice_get xs i ≡ None → take i xs ≡ xs
 taken_all xs i h = grind (arith, slice_get_cases, take_all)
 
--- the text of one item more
 pub texts_more : {X : Type 0} (f : X → List ℕ) (before : List ℕ) (xs : List X) (i : ℕ) (x : X)
     (old new : List ℕ)
     → old ≡ before ++ flat_map f (take i xs)

@@ -34,7 +34,7 @@ pub columns-left : (count : ℕ) (flags : List ℕ)
 columns-left count flags = same-columns (2 * count) flags (patched flags []) (λ p less.
     search (rules, at, at-without_end_blanks, at-by_position))
 
--- the columns of indicators show what is held of them
+-- the first columns of the held indicators are those of the indicators
 pub columns-held : (count : ℕ) (flags : List ℕ) → columns (flags_held count flags) 1 (2 * count)
     ≡ columns flags 1 (2 * count)
 columns-held count flags = search (rules, same-columns, at-without_end_blanks, at-take)
@@ -54,7 +54,7 @@ texts-count (suc count) line = ap suc (texts-count count (after_cell line))
 
 -- ---- a satellite's line
 
--- the arcs and indicators that a line leaves
+-- the arcs and indicators after a line
 pub line-held : (arcs : List (Option ArcTail)) (flags : List ℕ) (satellite : Satellite) (line : List ℕ)
     (left : List (Option ArcTail)) (at : ℕ) (held : List ℕ) → begins_epoch line ≡ false
     → CellsAreRead arcs satellite.count line left at → are_marks satellite.count (drop at line) ≡ true
@@ -68,7 +68,7 @@ line-held arcs flags satellite line left at held h read e columned =
     search (rules, held-columns) in
     grind arith
 
--- ---- by what was kept of the whole epoch before
+-- ---- by the history of the whole previous epoch
 
 pub cell-by_kept : (kept : Option RowTail) (place : ℕ)
     → slice_index_or (arcs_of_tail kept) place None ≡ cell_of_tail place kept
@@ -78,7 +78,7 @@ pub row-by_tail : (tail : Tail) (satellite : Satellite) (line : List ℕ)
     → row_held (tail_named satellite.name tail) satellite line ≡ row_after tail satellite line
 row-by_tail tail satellite line = grind (arith, common_steps, cell-by_kept, cells-within)
 
--- ---- what is reported, by a result
+-- ---- the fault, by a result
 
 pub on-both : {X E : Type 0} (r : Result X E) {P Q R : Type 0} → (P → Q → R) → OnOk r P → OnOk r Q → OnOk r R
 on-both r f p q = grind arith

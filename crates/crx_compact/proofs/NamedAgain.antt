@@ -1,5 +1,4 @@
--- An epoch line after which the satellites of the epoch before come again: no mark is in the columns of their
--- identifiers.
+-- An epoch line after which the satellites of the previous epoch have rows again: no mark is in the columns of their identifiers.
 use Rattle.crx_compact.proofs.Words.{rules, ◌≡◌, ◌≤◌, ◌+◌, ◌*◌, ℕ, List, [], ◌∷◌, Some, All, length, map}
 use Rattle.crx_compact.proofs.Words.{sym, refl, replicate, subst, length-map, HEAD_WIDTH, NAME_WIDTH}
 use Rattle.crx_compact.proofs.Words.{at, columns, patched, at-without_end_blanks}
@@ -13,7 +12,7 @@ use Rattle.std.proofs.lemmas.List.Elements.{All-map}
 use Rattle.crx_compact.specs.EpochLinesRead.{AreSatellitesRead, HaveComeAgain, IsAgain}
 use Rattle.crx_compact.specs.RowsSoFar.{NamesSatellites}
 
--- behind the marks the text stays
+-- after the marks the text stays
 at-unmarked : (text line : List ℕ) (p : ℕ) → length line ≤ p → at (patched text line) p ≡ at text p
 at-unmarked text line p behind = search (rules, at-without_end_blanks, at-by_position, at_past)
 

@@ -1,4 +1,4 @@
--- Satellites that come by the identifiers of an epoch text, each with as many types as its system has.
+-- Satellites that are added by the identifiers of an epoch text, each with its system's number of types.
 use Rattle.crx_compact.proofs.Words.{rules, ap, ◌∙◌, ◌≡◌, ◌++◌, ◌∷◌, [], ℕ, List, Bool, true, false, not, map}
 use Rattle.crx_compact.proofs.Words.{sym, subst, arith, map-append, columns, IsAllowedCount, is_among}
 use Rattle.crx_compact.proofs.Words.{IsAwaitedSatellite, Satellite, PlacedRows, padded_among, RowTail}
@@ -8,13 +8,13 @@ use Rattle.crx_compact.proofs.placing.SteppedRows.{IsLastStored}
 use Rattle.crx_compact.specs.{Placing.{HasCome, IsLeftAt, SatelliteTail, resized, row_tail_of}}
 use Rattle.crx_compact.proofs.{ComeRows.{AreAwaited, awaited-after, come-padded}}
 
--- whether a satellite has come, by the rows that have
+-- whether a satellite has a row, by the rows so far
 pub among-rows : (before rows : List RowTail) (found : List Satellite) (name : List ℕ) (b : Bool)
     → rows ≡ map (padded_among before) found → b ≡ not (is_among (λ (t : RowTail). t.name) name rows)
     → is_among (λ (s : Satellite). s.name) name found ≡ not b
 among-rows before rows found name b made answer = grind (arith, among-map)
 
--- what is known where the next satellite has come, and has as many types as its system
+-- facts after the next satellite was added, with its system's number of types
 pub record HasNameCome (before : List RowTail) (found : List Satellite) (mid new : PlacedRows) : Type 0 where
   pub rows : new.rows ≡ map (padded_among before) found
   pub awaited : AreAwaited (λ (s : Satellite). s.name) found before new.rest

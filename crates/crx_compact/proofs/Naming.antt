@@ -23,7 +23,7 @@ names-more : (ss : List Satellite) (s : Satellite) (earlier : List (List ℕ))
 names-more [] s earlier = refl
 names-more (q ∷ qs) s earlier = names-more qs s (q.name ∷ earlier)
 
--- ---- whether an identifier is there already
+-- ---- whether an identifier occurs already
 
 any-after : (name : List ℕ) (ss : List Satellite) (earlier : List (List ℕ))
     → list_any (bytes_eq name) (names_after ss earlier)
@@ -33,7 +33,6 @@ any-after name (s ∷ ss) earlier = grind (arith, common_steps, other_way, any-a
 
 -- ---- one identifier more
 
--- the identifiers up to a place are read
 pub record NamedSoFar (types : List Count) (all : List (List ℕ)) (place : ℕ)
     (found : List Satellite) : Type 0 where
   pub so_far : satellites_named types [] all
@@ -68,7 +67,6 @@ module _ (types : List Count) (all : List (List ℕ)) (place : ℕ) (found : Lis
 
 -- ---- an identifier among those of a text
 
--- the identifier at a place, which was read
 pub next-name : (text : List ℕ) (count place : ℕ) (name : List ℕ) → place < count → name ≡ columns text
     (42 + 3 * place) 3 → drop place (names_in text count) ≡ name ∷ drop (place + 1) (names_in text count)
 next-name text count place name h e = cc (drop-each_place count place (λ k. columns text (42 + 3 * k) 3) h, e)

@@ -36,7 +36,7 @@ print-next values flags n k count h =
       at-columns flags (2 * n) (2 * k + 1) (omega (arith, h)),
     )
 
--- the cells that are left complete a text, also after the next of them
+-- the remaining cells complete a text, and still do after the next one
 pub print-on : (values : List (Option ℤ)) (flags before text whole : List ℕ) (n k : ℕ) → length values ≡ n
     → k < n
     → text ≡ before ++ (observation_text (slice_index_or values k None)

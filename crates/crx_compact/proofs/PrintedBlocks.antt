@@ -1,4 +1,4 @@
--- The printed lines of an epoch, as its rows come.
+-- The printed lines of an epoch, while its rows are read.
 use Rattle.crx_compact.proofs.Words.{◌≡◌, ◌++◌, ◌∷◌, ◌+◌, [], List, ℕ, Some, slice_get, arith}
 use Rattle.crx_compact.proofs.Words.{OpenHistory, tail_of_history, lines_to, rules, Tail, RowTail}
 use Rattle.crx_compact.proofs.Words.{columns, HEAD_WIDTH, printed_head, printed_row}
@@ -11,7 +11,7 @@ use Rattle.crx_compact.proofs.{RowByRow.printed-next}
 use Rattle.crx_compact.specs.{Blocks.{HasTakenLine, no_lines}, PrintedBlocks.IsPrinted}
 use Rattle.std.proofs.lemmas.List.{take-set-le}
 
--- the first line, in place of all lines
+-- the first line replaces all lines
 pub head-printed : (count : ℕ) (tail : Tail) (line : List ℕ) (none block : PendingLines) → count ≡ 0
     → none ≡ no_lines
     → block.lines ≡ none.lines ++ line ∷ [] → HasTakenLine none block
@@ -19,7 +19,6 @@ pub head-printed : (count : ℕ) (tail : Tail) (line : List ℕ) (none block : P
     → IsPrinted count tail block
 head-printed count tail line none block zero emptied lines taken is = grind arith
 
--- one row more
 pub row-printed : (tail : Tail) (count : ℕ) (row : RowTail) (old new : PendingLines)
     → IsPrinted count tail old → slice_get tail.rows count ≡ Some row
     → new.lines ≡ old.lines ++ printed_row (shown_row row) ∷ [] → HasTakenLine old new
@@ -52,7 +51,7 @@ printed-before is_kept expected after count come history new line is_whole state
 
 -- ---- which epoch is open
 
--- what is printed of an epoch whose clock line and first so many rows have come
+-- the printed lines of an epoch after its clock line and first `count` rows
 pub rows-printed : (tail : Tail) (count : ℕ) (state : ColumnsState) (block : PendingLines)
     → state ≡ Reading (with_rows tail count) → IsPrinted count tail block → ArePrinted state block
 rows-printed tail count state block e printed = grind arith

@@ -1,4 +1,4 @@
--- A satellite's indicators and cells by another count of types.
+-- A satellite's indicators and cells with another number of types.
 use Rattle.crx_compact.proofs.Words.{◌≡◌, ◌≤◌, ℕ, ◌-◌, List, ◌++◌, length, take, replicate, Option, ◌*◌}
 use Rattle.crx_compact.proofs.Words.{list_all, arith, take-take, take_all, LINE_LIMIT, without_end_blanks}
 use Rattle.crx_compact.proofs.Words.{is_kept, at-without_end_blanks, list_all-from_at, few_kept, ArcTail}
@@ -7,7 +7,7 @@ use Rattle.crx_compact.proofs.{PlaceByPlace.{at-padded, at-take}, SoundTexts.sam
 use Rattle.std.proofs.{lemmas.Grind.common_steps, lemmas.List.length-take}
 use Rattle.crx_compact.specs.{Placing.{SatelliteTail, cells_for, resized}, HeldRows.AreHeldFlags}
 
--- what is stored in vectors of which so many types mean something
+-- the satellite in vectors, of which `count` types are in use
 abbrev pub stored : List ℕ → List (Option ArcTail) → ℕ → ℕ → SatelliteTail
 stored indicators arcs count room =
     record {

@@ -1,4 +1,4 @@
--- Good results come from good results.
+-- Good results follow from good results.
 use Rattle.crx_compact.proofs.Words.{◌≡◌, refl, Bool, true, not, List, [], ◌∷◌, ◌++◌, Result, Ok, Err}
 use Rattle.crx_compact.proofs.Words.{Option, Some, IfSome, if◌then◌else◌, is_ok, sym, ap, subst}
 use Rattle.crx_compact.proofs.Words.{true≢false, Fault, and_then, before_all, arith}
@@ -7,7 +7,7 @@ use Rattle.std.specs.{Prelude.{OnOk}}
 pub no-err : {X : Type 0} (f : Fault) (x : X) → Err f ≡ Ok x → ⊥
 no-err f x e = true≢false (sym (ap is_ok e))
 
--- the same of results
+-- a good result that follows from another
 pub record Follows {X Y : Type 0} (r : Result X Fault) (f : X → Result Y Fault) (y : Y) : Type 0 where
   pub from : X
   pub first : r ≡ Ok from
@@ -43,11 +43,11 @@ pub onto-more : {X : Type 0} (xs : List X) (x : X) (r : Result (List X) Fault)
 onto-more [] x r = refl
 onto-more (y ∷ ys) x r = cc (onto-more ys x r)
 
--- what is said of a good result is so where it is good
+-- a statement about good results holds if the result is good
 pub by_ok : {T E X : Type 0} (r : Result T E) → is_ok r ≡ true → OnOk r X → X
 by_ok r good x = grind arith
 
--- ---- the same of options
+-- ---- the same for options
 
 pub from_some : {T : Type 0} (P : T → Type 0) (o : Option T) (x : T) → o ≡ Some x → IfSome o P → P x
 from_some P o x is h = subst (λ q. IfSome q P) is h

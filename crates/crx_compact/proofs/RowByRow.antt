@@ -1,4 +1,4 @@
--- Rows one by one: what holds of each, and what is made of those up to an index.
+-- Rows one by one: a property of each, and the list that those up to an index make.
 use Rattle.crx_compact.proofs.Words.{◌≡◌, ◌<◌, ◌+◌, ◌++◌, ◌∷◌, [], ℕ, List, Option, Some, All}
 use Rattle.crx_compact.proofs.Words.{length, same_Some}
 use Rattle.crx_compact.proofs.Words.{take, map, slice_get, sym, ◌∙◌, subst, arith}
@@ -10,7 +10,7 @@ use Rattle.std.proofs.lemmas.Option.{get_or_from_slice_get, slice_get_cases}
 use Rattle.std.proofs.lemmas.List.{Elements.All-push}
 use Rattle.std.proofs.lemmas.Grind.{common_steps}
 
--- ---- what holds of each
+-- ---- a property of each
 
 pub all-next : {X : Type 0} (P : X → Type 0) (xs : List X) (k : ℕ) (x : X)
     → All P (take k xs) → slice_get xs k ≡ Some x → P x → All P (take (k + 1) xs)
@@ -21,7 +21,6 @@ pub all-at : {X : Type 0} (P : X → Type 0) (xs : List X) (k : ℕ) (x : X) →
     → slice_get xs k ≡ Some x → P x
 all-at P xs k x h here = subst P (get_or_from_slice_get xs k x x here) (h k x (slice_get_within xs k x here))
 
--- whether an entry that is there has room
 pub room-known : {o : Option Entry} {entry : Entry} (count : ℕ) (has : Bool) → o ≡ Some entry
     → IsTrue has ↔ (count ≤ entry.1.room) → (e : Entry) → o ≡ Some e → IsTrue has ↔ (count ≤ e.1.room)
 room-known count has is known e also =

@@ -1,4 +1,4 @@
--- Texts are the same where their two ends are, which meet: compared as lanes.
+-- Texts are the same if their two ends are, which meet: compared as lanes.
 use Rattle.crx_compact.proofs.Words.{true, ℕ, ◌≡◌, ◌+◌, ◌-◌, ◌≤◌}
 use Rattle.crx_compact.proofs.Words.{nat_eq, List, [], ◌∷◌, length, take, drop, w8, refl, sym, ◌∙◌}
 use Rattle.crx_compact.proofs.Words.{arith, ◌≢◌, MatchBool, length-drop, length-take-le, take_all}
@@ -12,7 +12,7 @@ none_within : (xs : List ℕ) → mask_l (zip2 differs xs xs) ≡ 0
 none_within [] = refl
 none_within (x ∷ xs) = grind (arith, none_within xs)
 
--- a row differs nowhere from itself
+-- a text doesn't differ from itself
 alike : (xs ys : List ℕ) → xs ≡ ys → others xs ys ≡ 0
 alike xs ys same = rw (← same) (cc (tops_compared w8 differs xs xs, none_within xs))
 
@@ -34,13 +34,13 @@ same_ends n xs ys narrow some few long first last =
     let ys-end = take_all n (drop m ys) (omega (arith, length-drop m ys)) in
     cc (take-append-drop m xs, take-append-drop m ys)
 
--- where the first ends are the same, the last ones decide
+-- if the first ends are the same, the last ones decide
 pub last-ends_decide : (n : ℕ) (xs ys : List ℕ) → n ≤ 64 → n ≤ length xs
     → length xs ≤ n + n → length ys ≡ length xs → others (take n xs) (take n ys) ≡ 0 → MatchBool
     (nat_eq (others (chunk (length xs - n) n xs) (chunk (length xs - n) n ys)) 0) (xs ≡ ys) (xs ≢ ys)
 last-ends_decide n xs ys narrow some few long first = grind (arith, same_ends, alike)
 
--- where they aren't, the texts are others
+-- if they aren't, the texts differ
 pub first-ends_decide : (n : ℕ) (xs ys : List ℕ) → (others (take n xs) (take n ys) ≡ 0 → ⊥)
     → MatchBool (nat_eq (others (take n xs) (take n ys)) 0) (xs ≡ ys) (xs ≢ ys)
 first-ends_decide n xs ys other = grind (arith, common_steps, alike)

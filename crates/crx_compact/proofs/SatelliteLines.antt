@@ -1,4 +1,4 @@
--- A satellite's line read in place of what is stored of the satellite.
+-- A satellite's line, read in place over the satellite's history.
 use Rattle.crx_compact.proofs.Words.{list_all, ◌≡◌, refl, ℕ, ◌*◌, true, false, List, [], length, take, drop}
 use Rattle.crx_compact.proofs.Words.{Option, Result, Ok, Err, ap, arith, Fault, BadFlags, columns, is_blank}
 use Rattle.crx_compact.proofs.Words.{without_end_blanks, patched, begins_epoch, are_marks, cells_of}
@@ -8,7 +8,7 @@ use Rattle.crx_compact.proofs.Words.{CellsAreRead, row_held_from}
 use Rattle.std.proofs.{Math.Path.fun_ext, Math.Seq.drop-nil}
 use Rattle.crx_compact.specs.Placing.{cells_for}
 
--- how the line of a satellite of which so many types are stored is read
+-- a satellite's line, read by vectors of which `count` types are in use
 abbrev pub stored_read : List ℕ → List (Option ArcTail) → ℕ → List ℕ → List ℕ → Result RowTail Fault
 stored_read indicators arcs count line name =
     row_held_from (cells_for count arcs) (without_end_blanks (take (2 * count) indicators))

@@ -1,4 +1,4 @@
--- The epoch that a history shows, row by row: each row goes after those before it.
+-- The epoch that a history shows, row by row.
 use Rattle.crx_compact.proofs.Words.{◌≡◌, slice_get, length-map, map-append, Satellite}
 use Rattle.crx_compact.proofs.Words.{ℕ, List, take, Some, None, true, Result, arith, Fault}
 use Rattle.crx_compact.proofs.Words.{◌==◌, [], Ok, ℤ, ◌+◌, ◌∷◌, Tail, Row}
@@ -26,7 +26,7 @@ module _ (line : Result ObservationHead Fault) (head : List ℕ) (clock : Option
 
 -- ---- rows
 
--- the row at an index goes after those before it
+-- the row at an index follows those before it
 pub record IsRowShown (next : Tail) (place : ℕ) (tail : RowTail) : Type 0 where
   pub new : has_satellite tail.name (shown_epoch next place).rows ≡ false
   pub wanted : is_full_epoch (shown_epoch next place) ≡ false

@@ -10,20 +10,18 @@ use Rattle.std.proofs.{Math.Seq.set-append_seam, Common.append_assoc}
 
 -- ---- places
 
--- the next of some values
 pub set-next : {X : Type 0} (xs ys : List X) (d v : X)
     → slice_set (xs ++ d ∷ ys) (length xs) v ≡ (xs ++ v ∷ []) ++ ys
 set-next xs ys d v = cc (set-append_seam xs d ys v, append_assoc xs (v ∷ []) ys)
 
 -- ---- the row
 
--- a row that has so many of its values, and none at the places after these
+-- a row with its first `k` values, and none at the places after them
 abbrev row_so_far : List ℕ → List ℕ → List (Option ArcTail) → ℕ → ℕ → Row
 row_so_far name flags cells count k =
     let values = map shown_value (take k cells) ++ replicate (count - k) None in
     record { name = name; values = values; flags = flags }
 
--- the next value is put into the row
 pub row-more : (name flags : List ℕ) (cells : List (Option ArcTail)) (count k : ℕ) (row : Row)
     (arc : Option ArcTail) → row ≡ row_so_far name flags cells count k → slice_get cells k ≡ Some arc
     → length cells ≡ count → with_value row k (shown_value arc) ≡ row_so_far name flags cells count (k + 1)

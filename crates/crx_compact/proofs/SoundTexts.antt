@@ -1,4 +1,4 @@
--- Blanks at the end of texts, and what is held of indicators.
+-- Blanks at the end of texts, and held indicators.
 use Rattle.crx_compact.proofs.Words.{◌≡◌, patched, columns, few_kept, list_all, ◌≤◌, ℕ, ◌*◌, ◌∷◌, ap, ◌∙◌}
 use Rattle.crx_compact.proofs.Words.{◌<◌, ◌+◌, ◌-◌, at, refl, true, List, length, take, arith, is_kept, Bool}
 use Rattle.crx_compact.proofs.Words.{get_or_past, drop, [], replicate, IsAllowedCount, length-columns}
@@ -15,29 +15,28 @@ use Rattle.std.proofs.{lemmas.Bool.Decides.Decides-eqb, lemmas.List.length-take}
 pub trimmed-again : (text : List ℕ) → without_end_blanks (without_end_blanks text) ≡ without_end_blanks text
 trimmed-again text = search (rules, same_characters, at-without_end_blanks)
 
--- a difference doesn't see the blanks at the end of the new text
+-- a difference doesn't depend on the blanks at the end of the new text
 pub difference-trimmed : (old new : List ℕ)
     → text_difference old (without_end_blanks new) ≡ text_difference old new
 difference-trimmed old new = search (rules, same_characters, at-by_position, at-without_end_blanks)
 
 -- ---- the first characters of texts
 
--- texts with the same first characters are the same as far as these go
+-- texts with the same first characters are the same up to them
 pub same-cut : (n : ℕ) (xs ys : List ℕ) → ((p : ℕ) → p < n → at xs p ≡ at ys p)
     → without_end_blanks (take n xs) ≡ without_end_blanks (take n ys)
 same-cut n xs ys h = grind (arith, common_steps, same_characters, cases_lt, at-take, at-take_past)
 
--- a text with nothing but blanks from a place on is what comes before it, but for the blanks at its end
+-- a text with only blanks from a place on is its part before, except the blanks at its end
 pub cut-all : (n : ℕ) (text : List ℕ) → ((p : ℕ) → at text (n + p) ≡ 32)
     → without_end_blanks (take n text) ≡ without_end_blanks text
 cut-all n text h = same_characters (take n text) text (λ p. grind (arith, at-take, at-take_past, h (p - n)))
 
--- and no longer than that without them
+-- and without them it is no longer than that part
 pub ends-within : (n : ℕ) (text : List ℕ) → ((p : ℕ) → at text (n + p) ≡ 32)
     → length (without_end_blanks text) ≤ n
 ends-within n text h = omega (arith, ap length (cut-all n text h), few_kept (take n text), length-take n text)
 
--- the first columns by their characters
 pub first-columns : (n : ℕ) (text given : List ℕ) → length given ≡ n
     → ((p : ℕ) → p < n → at text p ≡ at given p) → columns text 1 n ≡ given
 first-columns n text given long h = columns-are text 1 n given long
@@ -47,7 +46,7 @@ pub same-columns : (n : ℕ) (xs ys : List ℕ) → ((p : ℕ) → p < n → at 
     → columns xs 1 n ≡ columns ys 1 n
 same-columns n xs ys h = search (rules, first-columns, columns, length-columns, at-take, at-padded)
 
--- a test that a blank meets, of all characters of columns
+-- a test that a blank passes, of all characters of columns
 pub all-columns : (p : ℕ → Bool) (text : List ℕ) (first width : ℕ)
     → p 32 ≡ true → list_all p text ≡ true → list_all p (columns text first width) ≡ true
 all-columns p text first width e h = all-take p width (drop (first - 1) text ++ replicate width 32)
@@ -59,12 +58,12 @@ pub same-text : (text : List ℕ) → text_difference text text ≡ []
 same-text [] = refl
 same-text (c ∷ cs) = grind (arith, Decides-eqb, same-text cs)
 
--- ---- what is held of indicators by so many types
+-- ---- held indicators by the number of types
 
 pub length-held : (count : ℕ) (flags : List ℕ) → length (flags_held count flags) ≤ 2 * count
 length-held count flags = omega (arith, few_kept (take (2 * count) flags), length-take (2 * count) flags)
 
--- so many columns of indicators, and what is held of them
+-- the columns of indicators, without blanks at the end, are the held indicators
 pub held-columns : (count : ℕ) (flags : List ℕ) → without_end_blanks (columns flags 1 (2 * count))
     ≡ flags_held count flags
 held-columns count flags = search (rules, same-cut, at-padded)

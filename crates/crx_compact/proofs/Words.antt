@@ -1,5 +1,4 @@
--- The words in which these proofs speak: the definitions of this crate, of those below and of std, each
--- brought in once.
+-- The names that these proofs use: the definitions of this crate, of those below and of std, each imported once.
 pub use Rattle.crx_base.specs.declared.fault.Fault.{Fault}
 pub use Rattle.crx_base.specs.declared.fault.Fault.TheVariants.{BadEpoch, BadSatellite, RepeatedSatellite}
 pub use Rattle.crx_base.specs.declared.fault.Fault.TheVariants.{NotAnEpoch, OutOfMemory, BadClock, Truncated}

@@ -10,14 +10,14 @@ use Rattle.crx_compact.specs.Placing.{IsLeftAt, SatelliteTail, line_after, row_t
 use Rattle.crx_compact.specs.Placing.{satellite_after}
 use Rattle.std.proofs.lemmas.Grind.{common_steps}
 
--- a satellite has come where it has a row
+-- the history has a row of a satellite if and only if the rows have one
 pub come-already : (after : Tail) (rows : List Row) (history : OpenHistory) (lines : List (List ℕ))
     (placed : PlacedRows) (name : List ℕ)
     → placed ≡ history.satellites → AreRowsWritten after rows history lines
     → is_among (λ (t : RowTail). t.name) name placed.rows ≡ has_satellite name rows
 come-already after rows history lines placed name same written = grind (arith, among-map)
 
--- a satellite that comes for the first time has no row yet
+-- a satellite that is added for the first time has no row yet
 pub no-row : (after : Tail) (rows : List Row) (history : OpenHistory) (lines : List (List ℕ))
     (placed : PlacedRows) (name : List ℕ) (is_new : Bool)
     → placed ≡ history.satellites → is_new ≡ not (is_among (λ (t : RowTail). t.name) name placed.rows)

@@ -1,4 +1,4 @@
--- Whoever wrote the lines of an epoch: they are read as that epoch, and no others are.
+-- The lines of an epoch, whoever wrote them, are read as that epoch, and no other lines are.
 pub mod Arcs
 pub mod Texts
 pub mod Rows

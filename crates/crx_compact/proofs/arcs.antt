@@ -1,4 +1,4 @@
--- Arcs: their differences, the sums of these, and how large they may grow.
+-- Arcs: their differences, the sums of these, and how large they may become.
 pub mod Weights
 pub mod Inversion
 pub mod Running

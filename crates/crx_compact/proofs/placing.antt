@@ -1,5 +1,4 @@
--- The satellites of a history in one map: those that have come, those that haven't, and those that mean
--- nothing.
+-- The satellites of a history in one map: those with a row, those without one yet, and those that aren't in use.
 pub mod Orders
 pub mod Ranges
 pub mod Rooms

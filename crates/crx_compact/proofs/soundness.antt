@@ -1,3 +1,3 @@
--- What was read is sound, and within the limits.
+-- Epochs that were read are sound, and within the limits.
 pub mod Soundness
 pub mod Goodness

@@ -1,4 +1,4 @@
--- What is written of epochs reads back as these epochs.
+-- The compact text of epochs is read back as these epochs.
 pub mod Reading
 pub mod Rows
 pub mod Runs

@@ -1,4 +1,4 @@
--- An arc, whoever wrote it: its code gives its newest value, and leaves its tail.
+-- An arc, whoever wrote it: its coded value stands for its newest value, and leaves its tail.
 use Rattle.crx_compact.proofs.Words.{◌≡◌, refl, ℕ, ℤ, List, [], ◌∷◌, Option}
 use Rattle.crx_compact.proofs.Words.{Some, None, Ok, ap, ◌∙◌, length, min}
 use Rattle.crx_compact.proofs.Words.{inl, inr, difference, value_of_code, arc_of_code, differences_of}
@@ -22,7 +22,6 @@ values-back n (x ∷ xs) = cc (value-numbers n xs x, values-back n xs)
 abbrev pub tail_at : ℕ → List ℤ → ArcTail
 tail_at n xs = record { order = n; differences = differences_of n xs }
 
--- one value more
 step : (n : ℕ) (x y : ℤ) (ys : List ℤ)
     → arc_after_number (difference (min (length (y ∷ ys)) n) (x ∷ y ∷ ys)) (tail_at n (y ∷ ys))
     ≡ tail_at n (x ∷ y ∷ ys)
@@ -43,7 +42,7 @@ by_older width n x (y ∷ ys) before h (inr e) = rw (← e) (record {
   leaves = ap {B = Option ArcTail} Some (step n x y ys);
 })
 
--- whatever was there, and whichever choice was made
+-- after any arc or none, and by any choice of the writer
 pub goes : (width : ℕ) (before now : Option Arc) → MayFollow before now
     → IsMissingOrWithin width (value_now now)
     → Goes width before now

@@ -1,4 +1,4 @@
--- The lines of an epoch, whoever wrote them, read as that epoch.
+-- The lines of an epoch, whoever wrote them, are read as that epoch.
 use Rattle.crx_compact.proofs.Words.{◌≡◌, refl, ℕ, List, [], ◌∷◌, ◌++◌, Bool, true, false}
 use Rattle.crx_compact.proofs.Words.{Option, Some, Ok, map, length, arith, ap, sym, ◌∙◌, ◌+◌}
 use Rattle.crx_compact.proofs.Words.{list_all, AllByRecursion, length-map, unwrap_or, if◌then◌else◌}
@@ -64,7 +64,7 @@ rows-read types base rows lines h k = absurd k
 
 -- ---- the epoch line
 
--- the flag of an epoch's text is one of observations, and so is its mark in a line from the empty text
+-- the flag of an epoch's text is that of an observation epoch, and so is its mark in a line from the empty text
 flag-mark : (mark c : ℕ) → character_of 32 mark ≡ c → is_observation_flag c ≡ true
     → is_event_flag mark ≡ false
 flag-mark mark c e h = grind (arith, h)
@@ -78,7 +78,7 @@ full-no_event types e line h made =
     grind (arith, common_steps, and_parts, if_some, head-counted types e h) in
     flag-mark (at line 31) (at e.head 31) (cc (at-by_position character_of refl [] line 31)) flag
 
--- the tail that a line goes on from is that of the epoch which it goes on from
+-- the tail that a line is read after is the tail of the epoch that it refers to
 pub tail-for : (before : Option WrittenEpoch) (tail : Option Tail) (line : List ℕ) (base : WrittenEpoch)
     → IsLeft before tail → goes_on_from before line ≡ Some base
     → tail_for_line tail line ≡ Some (epoch_left base)
@@ -163,7 +163,6 @@ module _ (types : List Count) (base now : WrittenEpoch) (line clock : List ℕ) 
       let next = tail-next in
       grind (arith, append-nil)
 
-  -- read after raw epochs
   pub by_parts : (before : Option WrittenEpoch) (raws : List RawEpoch) → IsLeft before (tail_left raws)
       → goes_on_from before line ≡ Some base → EpochReads types raws now (line ∷ clock ∷ lines)
   by_parts before raws left found =

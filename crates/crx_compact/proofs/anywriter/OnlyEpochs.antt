@@ -1,4 +1,4 @@
--- The lines that are read as an epoch are ones that some writer may write for it.
+-- The lines that are read as an epoch are lines that some writer may write for it.
 use Rattle.crx_compact.proofs.Words.{◌≡◌, refl, ℕ, zero, suc, List, [], ◌∷◌, ◌++◌, Bool, true, false, Option}
 use Rattle.crx_compact.proofs.Words.{Some, None, map, length, arith, ap, sym, ◌∙◌, ◌*◌, ◌+◌, ◌≤◌}
 use Rattle.crx_compact.proofs.Words.{AllByRecursion, option_map, flat_map, if◌then◌else◌}
@@ -75,14 +75,12 @@ few-here types rows s (Some r) h e k =
 abbrev joined : List (List ℕ) → List ℕ
 joined names = flat_map (λ (n : List ℕ). n) names
 
--- columns after others
 columns-append : (text : List ℕ) (k m n : ℕ)
     → columns text (k + 1) m ++ columns text (k + m + 1) n ≡ columns text (k + 1) (m + n)
 columns-append text k m n = sym (columns-are text (k + 1) (m + n) _
     (grind (arith, length-append, length-columns)) (λ p less.
     grind (arith, common_steps, at-take, at-padded, at-drop, at-append, length-columns, at-append_past)))
 
--- identifiers one after another
 names-joined : (text : List ℕ) (k count : ℕ)
     → joined (each_place count (λ i. columns text (k + 1 + 3 * i) 3)) ≡ columns text (k + 1) (3 * count)
 names-joined text k zero = refl
@@ -91,7 +89,7 @@ names-joined text k (suc count) =
 
 -- ---- the epoch
 
--- what an epoch line goes on from; nothing where there is nothing
+-- the epoch that an epoch line refers to; the empty one if there is none
 abbrev base_for : Option WrittenEpoch → List ℕ → WrittenEpoch
 base_for before line = unwrap_or (goes_on_from before line) nothing_written
 

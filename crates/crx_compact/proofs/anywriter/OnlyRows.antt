@@ -24,16 +24,15 @@ use Rattle.crx_compact.proofs.anywriter.Rows.{arc_at, tail-found, cell-found, fl
 use Rattle.crx_compact.proofs.anywriter.Arcs.{values-back, tail_at}
 use Rattle.crx_compact.proofs.anywriter.Texts.{with_blanks, one-text}
 
--- ---- a code
+-- ---- a coded value
 
--- an arc whose code this is
 pub record ArcBack (found : Option Arc) (code : Code) (value : Option ℤ) : Type 0 where
   pub now : Option Arc
   pub follows : MayFollow found now
   pub coded : code_now now ≡ code
   pub valued : value_now now ≡ value
 
--- the number of a code, by the value that it gives
+-- the number of a coded value, by the value that it stands for
 number-back : (n : ℕ) (d y : ℤ) (ys : List ℤ)
     → difference (min (length (y ∷ ys)) n) (value_of_tail (arc_after_number d (tail_at n (y ∷ ys))) ∷ y ∷ ys)
     ≡ d
@@ -112,7 +111,7 @@ line-back (suc n) line =
 
 -- ---- a satellite's line
 
--- columns of a text that has nothing but blanks past them are the text, but for the blanks at its end
+-- columns of a text with only blanks after them are the text, except the blanks at its end
 pub columns-all : (n : ℕ) (text : List ℕ) → ((p : ℕ) → at text (n + p) ≡ 32)
     → without_end_blanks (columns text 1 n) ≡ without_end_blanks text
 columns-all n text h =

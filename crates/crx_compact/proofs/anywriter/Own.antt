@@ -76,7 +76,7 @@ epoch-same types full e older h =
     let rows = rows-same full e older e.rows (each-own (λ (r : Row). r.name) e.rows h.sound.apart) in
     search (rules, value-written)
 
--- ---- what the epoch before holds of a satellite
+-- ---- a satellite in the previous epoch
 
 abbrev base_of : Bool → List Marked → WrittenEpoch
 base_of true older = nothing_written
@@ -171,7 +171,7 @@ lines-after types full e older h =
           rows-here types full e older h e.rows (each-own (λ (r : Row). r.name) e.rows h.0.sound.apart);
     }
 
--- an epoch in full, after any other or none; and one that goes on from the epoch before
+-- a full epoch, after any other or none; and an epoch that refers to the previous one
 pub full-lines : (types : List Count) (e : Epoch) (older : List Marked) (before : Option WrittenEpoch)
     → AreWhole types (since_full (marked true e ∷ older))
     → AreEpochLines before (epoch_written (marked true e) older) (compact_epoch (marked true e ∷ older))

@@ -1,4 +1,4 @@
--- What was written here is read back, since any writer may write it.
+-- Our own writer's text is read back, because any writer may write it.
 use Rattle.crx_compact.proofs.Words.{◌≡◌, refl, ℤ, List, [], ◌∷◌, Bool, false, Option, Some, None, map}
 use Rattle.crx_compact.proofs.Words.{arith, ap, sym}
 use Rattle.crx_compact.proofs.Words.{append_assoc, length-map, map-append, drop-append_seam, subst}
@@ -37,9 +37,9 @@ own-left types full e older h = cc (
   rows-left (marked full e ∷ older) e.rows,
 )
 
--- ---- what an epoch's lines go on from
+-- ---- the epoch that an epoch's lines refer to
 
--- its lines, by the epoch that they may go on from
+-- its lines, by the epoch that they may refer to
 pub record OwnLines (types : List Count) (full : Bool) (e : Epoch) (older : List Marked)
     (tail : Option Tail) : Type 0 where
   pub before : Option WrittenEpoch
@@ -75,7 +75,6 @@ one-tail types m older raws rest read count h k e =
     let r = each-reads_back types m older raws h k in
     cc (r.reads rest, r.tail)
 
--- line by line, after a tail
 pub steps-read_back : StepsReadBack
 steps-read_back types m older tail h k =
     let own = own-lines types m.in_full m.epoch older tail h k in

@@ -1,4 +1,4 @@
--- A satellite's line, whoever wrote it, reads as its row.
+-- A satellite's line, whoever wrote it, is read as its row.
 use Rattle.crx_compact.proofs.Words.{◌≡◌, refl, ℕ, ℤ, suc, List, [], ◌∷◌, true, false, Option, Some, None}
 use Rattle.crx_compact.proofs.Words.{Result, Ok, map, length, arith, ap, sym, ◌∙◌, ◌*◌, ◌+◌, drop}
 use Rattle.crx_compact.proofs.Words.{list_all, length-map, slice_index_or, option_map, rules, common_steps}
@@ -28,7 +28,7 @@ codes_wanted arcs = map (λ (arc : Option Arc). Some (code_now arc)) arcs
 abbrev pub arc_at : List (Option Arc) → ℕ → Option Arc
 arc_at arcs j = slice_index_or arcs j None
 
--- ---- what the epoch before left of a satellite
+-- ---- a satellite's tail after the previous epoch
 
 at-map : {X : Type 0} (f : Option Arc → Option X) → f None ≡ None → (arcs : List (Option Arc)) (j : ℕ)
     → slice_index_or (map f arcs) j None ≡ f (arc_at arcs j)
@@ -48,7 +48,7 @@ pub flags-found : (found : Option WrittenRow)
     → flags_of_tail (option_map row_left found) ≡ without_end_blanks (flags_in found)
 flags-found found = grind arith
 
--- ---- its codes
+-- ---- its coded values
 
 are-texts : (ts : List (List ℕ)) (arcs : List (Option Arc)) → map code_of ts ≡ codes_wanted arcs → AreTexts ts
 are-texts (t ∷ ts) (a ∷ arcs) e = (spelled-characters t (code_now a) (cc e), are-texts ts arcs (cc e))
@@ -79,7 +79,7 @@ arcs-left (a ∷ arcs) b h = cc (h 0, arcs-left arcs (λ j. b (suc j)) (λ j. h 
 pub at-same : (a b : List ℕ) → without_end_blanks a ≡ without_end_blanks b → (p : ℕ) → at a p ≡ at b p
 at-same a b e p = sym (at-without_end_blanks a p) ∙ ap (λ t. at t p) e ∙ at-without_end_blanks b p
 
--- marks that make a text of characters that may be there are printable
+-- marks that make a text of allowed characters are printable
 pub marks-printable : (old marks new : List ℕ) → patched old marks ≡ without_end_blanks new
     → list_all is_kept new ≡ true → list_all is_printable marks ≡ true
 marks-printable old marks new e h = list_all-from_at is_printable marks (λ p.
@@ -87,7 +87,7 @@ marks-printable old marks new e h = list_all-from_at is_printable marks (λ p.
     let kept = list_all-at is_kept refl new h p in
     grind (arith, at-by_position))
 
--- texts that are the same without the blanks at their ends meet the same test, where a blank does
+-- texts that are the same without the blanks at their ends pass the same test, if a blank does
 pub all-same : (p : ℕ → Bool) → p 32 ≡ true → (a b : List ℕ) → without_end_blanks a ≡ without_end_blanks b
     → list_all p a ≡ true → list_all p b ≡ true
 all-same p e a b same h = list_all-from_at p b (λ k. ap p (sym (at-same a b same k)) ∙ list_all-at p e a h k)
@@ -187,7 +187,7 @@ any-row before now line sound h = record {
   leaves = leaves-row before now line sound h;
 }
 
--- and it can be in a file, after another
+-- and it can follow another in a file
 abbrev pub CanFollow : List ℕ → Type 0
 CanFollow line = (list_all is_printable line ≡ true) × (begins_epoch line ≡ false)
 

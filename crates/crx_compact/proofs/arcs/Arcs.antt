@@ -1,4 +1,4 @@
--- Arcs over every list of values and every list of codes, one value or one code more at a time.
+-- Arcs over every list of values and every list of coded values, one more at a time.
 use Rattle.crx_compact.proofs.Words.{◌≡◌, ℕ, ℤ, [], ◌∷◌, zero, suc, Some, None, sym, ◌∙◌, ap, Code, Step}
 use Rattle.crx_compact.proofs.Words.{refl, List, Option, stretch, value_of, Missing, Start, code_at}
 use Rattle.crx_compact.proofs.Words.{arith, since_start, value_since, arc_of_value, arc_of_code, common_steps}
@@ -13,7 +13,7 @@ value-start : (n : ℕ) (v : ℤ) → value_at n (v ∷ []) ≡ v
 value-start zero v = refl
 value-start (suc n) v = value-first n v
 
--- what the number of a code makes of a started arc, or of none
+-- the effect of the number of a coded value on a started arc, or on none
 record Steps (d : ℤ) (o : Option Started) : Type 0 where
   value : (width : ℕ)
       → value_since width (option_map (onto_started d) o) ≡ value_of_code width (Step d) (started_tail o)
@@ -48,7 +48,7 @@ pub arc-next : (o : Option ℤ) (os : List (Option ℤ))
 arc-next None os = refl
 arc-next (Some v) os = (codes-by_tail WRITTEN_ORDER v (stretch os)).tail
 
--- ---- every list of values, and every list of codes
+-- ---- every list of values, and every list of coded values
 
 values-left : (values : List (Option ℤ)) → arc_of_values values ≡ arc_tail WRITTEN_ORDER (stretch values)
 values-left [] = refl

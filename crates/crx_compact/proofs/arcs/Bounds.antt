@@ -1,4 +1,4 @@
--- Differences of values within their columns are numbers that a code can hold.
+-- Differences of values in range are numbers that a coded value can hold.
 use Rattle.crx_compact.proofs.Words.{◌≡◌, ℕ, zero, suc, ◌+◌, ◌^◌, ◌<◌, ◌≤◌, min, true, ℤ, pos, neg_ℤ}
 use Rattle.crx_compact.proofs.Words.{List, [], ◌∷◌, length, AllByRecursion, arith, ints, WRITTEN_ORDER}
 use Rattle.crx_compact.proofs.Words.{DIGITS_LIMIT, IsWithin, IsShort, IsPrintable, code_at}
@@ -7,12 +7,12 @@ use Rattle.std.specs.Prelude.{◌↔◌, ◌≤ℤ◌}
 use Rattle.std.proofs.Math.Nat.{pow-le-pow_right}
 use Rattle.crx_compact.proofs.arcs.Weights.{difference-suc, difference-zero}
 
--- a number is at most so far from 0
+-- a number is at most `bound` away from 0
 pub record IsNear (bound : ℕ) (z : ℤ) : Type 0 where
   pub low : neg_ℤ (pos bound) ≤ℤ z
   pub high : z ≤ℤ pos bound
 
--- a bound, doubled so many times
+-- a bound, doubled `k` times
 abbrev pub doubled : ℕ → ℕ → ℕ
 doubled zero b = b
 doubled (suc k) b = doubled k b + doubled k b
@@ -30,7 +30,7 @@ doubled-more zero (suc n) b h = omega (arith, doubled-more zero n b (omega arith
 doubled-more (suc k) (suc n) b h = omega (arith, doubled-more k n b (omega (arith, h)))
 doubled-more k zero b h = grind arith
 
--- the difference that an arc's code holds
+-- the difference in an arc's coded value
 pub difference-within : (b : ℕ) (x : ℤ) (xs : List ℤ) → AllByRecursion (IsNear b) (x ∷ xs)
     → IsNear (doubled WRITTEN_ORDER b) (difference (min (length xs) WRITTEN_ORDER) (x ∷ xs))
 difference-within b x xs h =
@@ -40,7 +40,7 @@ difference-within b x xs h =
 short : (b : ℕ) (z : ℤ) → b < 10 ^ DIGITS_LIMIT → IsNear b z → IsShort z
 short b z h k = grind arith
 
--- the code of an arc within a bound
+-- the coded value of an arc within a bound
 pub code-printable : (b : ℕ) (xs : List ℤ) → doubled WRITTEN_ORDER b < 10 ^ DIGITS_LIMIT
     → AllByRecursion (IsNear b) xs → IsPrintable (code_at WRITTEN_ORDER xs)
 code-printable b [] h k = tt

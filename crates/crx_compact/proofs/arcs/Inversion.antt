@@ -1,5 +1,4 @@
--- From the codes of an arc come its values: an induction on the order and on the arc, by one recurrence of
--- the sums.
+-- The coded values of an arc stand for its values: an induction on the order and on the arc, by one recurrence of the sums.
 use Rattle.crx_compact.proofs.Words.{◌≡◌, refl, ℕ, zero, suc, ◌+◌, ◌-◌, ◌<◌, ◌≤◌, min, ℤ, pos, List, [], ◌∷◌}
 use Rattle.crx_compact.proofs.Words.{◌++◌, length, take, Some, sym, ◌∙◌, ap, arith, le_of_suc-le-suc}
 use Rattle.crx_compact.proofs.Words.{not-suc-le-zero, rules, ints, length-append, since_start, common_steps}
@@ -25,7 +24,7 @@ abbrev pub oldest : ℤ → List ℤ → ℤ
 oldest x [] = x
 oldest x (y ∷ ys) = oldest y ys
 
--- the numbers of the codes of an arc, newest first
+-- the numbers of the coded values of an arc, newest first
 abbrev pub numbers_of : ℕ → List ℤ → List ℤ
 numbers_of order [] = []
 numbers_of order (x ∷ xs) = difference (min (length xs) order) (x ∷ xs) ∷ numbers_of order xs
@@ -50,7 +49,7 @@ difference-steps (suc k) x y (z ∷ zs) h =
     let second = difference-steps k y z zs (le_of_suc-le-suc h) in
     cc (difference-suc (suc k) x (y ∷ z ∷ zs), difference-suc k (x -ℤ y) (steps (y ∷ z ∷ zs)))
 
--- the numbers but the oldest are those of the steps, of the order below
+-- the numbers except the oldest are those of the steps, of the order below
 pub numbers-steps : (n : ℕ) (xs : List ℤ) → without_oldest (numbers_of (suc n) xs) ≡ numbers_of n (steps xs)
 numbers-steps n (x ∷ y ∷ ys) =
     let order : min (length (y ∷ ys)) (suc n) ≡ suc (min (length ys) n) = omega arith in
@@ -60,7 +59,7 @@ numbers-steps n xs = refl
 
 -- ---- the recurrence of the values
 
--- a last number whose weight is 0 does not count
+-- a last number whose weight is 0 doesn't count
 last-without_weight : (w : ℕ → ℤ) (n : ℕ) (r : List ℤ) (x : ℤ)
     → w (length r) ≡ pos 0 → weighted w (take n (r ++ x ∷ [])) ≡ weighted w (take n r)
 last-without_weight w (suc n) (y ∷ r) x h = cc (last-without_weight (λ i. w (suc i)) n r x h)
@@ -112,8 +111,7 @@ firsts-step n z x r =
     (λ k. pos (binomial (length r) k)) (λ k. omega (arith, ints)) (take n (r ++ x ∷ [])) in
     omega (arith, ints, last-without_weight w n r x (ap pos past))
 
--- the value one epoch later, of an order above 0: the value before it, and the value, of the order below, of
--- all numbers but the oldest
+-- the value one epoch later, of an order above 0: the previous value, and the value, of the order below, of all numbers except the oldest
 pub value-recurs : (n : ℕ) (x : ℤ) (b : List ℤ) (z : ℤ)
     → value_at (suc n) (x ∷ (b ++ z ∷ [])) ≡ value_at (suc n) (b ++ z ∷ []) +ℤ value_at n (x ∷ b)
 value-recurs zero x b z =
@@ -149,7 +147,7 @@ value-step n x y ys =
 pub value-first : (n : ℕ) (d : ℤ) → value_at (suc n) (d ∷ []) ≡ d
 value-first n d = search rules
 
--- the numbers of an arc's codes give its newest value
+-- the numbers of an arc's coded values stand for its newest value
 pub value-numbers : (n : ℕ) (xs : List ℤ) (x : ℤ) → value_at n (numbers_of n (x ∷ xs)) ≡ x
 value-numbers (suc n) (y ∷ ys) x =
     grind (
@@ -163,7 +161,7 @@ value-numbers (suc n) (y ∷ ys) x =
     )
 value-numbers x xs y = grind (arith, common_steps, difference-zero, value-first)
 
--- the codes of an arc have its start, and these numbers
+-- the coded values of an arc have its start, and these numbers
 pub started-codes : (n : ℕ) (xs : List ℤ) (x : ℤ)
     → since_start (codes_of_arc n (x ∷ xs)) ≡ Some (record { order = n; numbers = numbers_of n (x ∷ xs) })
 started-codes n [] x = search rules

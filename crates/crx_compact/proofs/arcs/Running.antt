@@ -27,7 +27,7 @@ order-bound-is (suc k) = omega (arith, order-bound-is k)
 pub order-bound-within : (k : ℕ) → k ≤ 9 → order_bound k ≤ 51200000000000000
 order-bound-within k h = search (rules, pow-le-pow_right, order-bound-is)
 
--- the differences at a next value below the bound are as small as those before
+-- the differences at a next value are within the bounds, if the value and the previous differences are
 pub after-below : (bound : ℕ) (value : ℤ) (ds : List ℤ)
     → IsBelow bound value → AreBelow bound ds → AreBelow bound (differences_after value ds)
 after-below bound value [] h hs = (h, tt)
@@ -48,18 +48,18 @@ total (d ∷ ds) = d +ℤ total ds
 newest-sum : (d : ℤ) (ds : List ℤ) → newest (onto_sum d ds) ≡ d +ℤ newest ds
 newest-sum d ds = grind arith
 
--- the value that the number of a code leads to: the number and all lower differences together
+-- the value after the number of a coded value: the sum of the number and all lower differences
 pub newest-by : (number : ℤ) (ds : List ℤ) → newest (differences_by number ds) ≡ number +ℤ total ds
 newest-by number [] = omega (arith, ints)
 newest-by number (d ∷ ds) = omega (arith, ints, newest-by number ds, newest-sum d (differences_by number ds))
 
--- the differences by a number are those at the value that it leads to
+-- the differences after a number are those after its value
 pub by-after : (number : ℤ) (ds : List ℤ)
     → differences_by number ds ≡ differences_after (newest (differences_by number ds)) ds
 by-after number [] = refl
 by-after number (d ∷ ds) = grind (arith, by-after number ds)
 
--- only the lower differences count for those up to an order
+-- the differences up to an order depend only on the lower ones
 pub take-after : (n : ℕ) (value : ℤ) (ds : List ℤ)
     → take (suc n) (differences_after value ds) ≡ differences_after value (take n ds)
 take-after zero value [] = refl
@@ -67,13 +67,13 @@ take-after zero value (d ∷ ds) = refl
 take-after (suc n) value [] = refl
 take-after (suc n) value (d ∷ ds) = ap (λ r. value ∷ r) (take-after n (value -ℤ d) ds)
 
--- ---- the same place by place, as a loop goes
+-- ---- the same place by place, as in a loop
 
 next-below : (k : ℕ) (ds : List ℤ) → k < length ds → AreBelow (order_bound k) (drop k ds)
     → IsBelow (order_bound k) (slice_index_or ds k (pos 0)) × AreBelow (order_bound (k + 1)) (drop (k + 1) ds)
 next-below k ds h hs = search (rules, from-place (pos 0) k ds h)
 
--- a number that fits is what its bits stand for
+-- a number that fits is the number that its bits stand for
 pub same-bits : (value : ℤ) → FitsSigned w64 value → to_z w64 (of_z w64 value) ≡ value
 same-bits value h = to_z-of_z w64 value h
 
@@ -95,7 +95,6 @@ pub advance-step : (k : ℕ) (target ds : List ℤ) (next : ℤ) → k < length 
     → Advanced (k + 1) target (slice_set ds k next) (next -ℤ slice_index_or ds k (pos 0))
 advance-step k target ds next h a = grind (arith, common_steps, next-below, drop-set-lt)
 
--- all of them
 pub advanced-all : (k : ℕ) (target ds : List ℤ) (next : ℤ) → length ds ≤ k
     → Advanced k target ds next → ds ++ next ∷ [] ≡ target
 advanced-all k target ds next all a = grind (arith, common_steps, take_all, drop_all)
@@ -165,7 +164,7 @@ sum-step k target value ds h s =
     omega (arith, ints) in
     search (rules, from-place (pos 0) k ds h)
 
--- the last one of some differences is the highest
+-- the last of some differences is the highest
 pub highest-last : (ds : List ℤ) (d : ℤ) → highest (ds ++ d ∷ []) ≡ d
 highest-last (e ∷ f ∷ fs) d = highest-last (f ∷ fs) d
 highest-last ds d = refl
@@ -174,7 +173,7 @@ take-take : (n m : ℕ) (ds : List ℤ) → take n (take m ds) ≡ take (min n m
 take-take (suc n) (suc m) (d ∷ ds) = grind (arith, common_steps, take-take n m ds)
 take-take n m ds = grind (arith, common_steps)
 
--- a value that fits its columns is below the bound of all
+-- a value that fits its columns is below the common bound
 pub within-below : (width : ℕ) (value : ℤ) → width ≤ 15 → IsWithin width value → IsBelow value_bound value
 within-below width value few h =
     omega (arith, ints, ten-more (width - 2) 13 (omega arith), ten-more (width - 1) 14 (omega arith))
@@ -191,13 +190,13 @@ lower-taken : (order count last : ℕ) (ds : List ℤ) → last ≡ min order co
     → take order (take count ds) ≡ take last ds
 lower-taken order count last ds e = cc (take-take order count ds, e)
 
--- the differences that a next one needs are as small
+-- the differences that the next one needs are within the bounds
 pub lower-below : (order count last : ℕ) (ds : List ℤ)
     → last ≡ min order count → AreBelow value_bound (take count ds) → AreBelow value_bound (take last ds)
 lower-below order count last ds e h =
     rw (← lower-taken order count last ds e) (take-below value_bound order (take count ds) h)
 
--- the same of an arc of order 3 that has all of its differences
+-- the same for an arc of order 3 with all its differences
 module _ (width order count : ℕ) (ds : List ℤ) (third : (order ≡ 3) × (count ≡ 4))
     (kept : IsArcInRange width order count (take count ds)) (long : length ds ≡ 10) where
   pub third-last : 3 ≡ min order count
@@ -216,7 +215,7 @@ some-kept : (order : ℕ) (value : ℤ) (ds : List ℤ) → Some
 some-kept order value [] = refl
 some-kept order value (d ∷ ds) = refl
 
--- an arc that has values goes on by its next value
+-- an arc with values continues by its next value
 pub record GoesOn (order count last : ℕ) (value : ℤ) (ds : List ℤ) : Type 0 where
   pub code : Step (highest (differences_after value (take last ds)))
       ≡ code_of_value (Some value) (kept_tail order (take count ds))
@@ -233,7 +232,7 @@ goes-on order (suc count) last value (d ∷ ds) e h l =
     )
 goes-on order count last value ds e h l = absurd (omega arith)
 
--- the arc after a next value in range is kept as well
+-- the arc after a next value in range is in range
 newest-after : (width : ℕ) (value : ℤ) (ds : List ℤ)
     → IsWithin width value → IsNewestWithin width (differences_after value ds)
 newest-after width value [] h = h
@@ -245,7 +244,7 @@ pub goes-on-kept : (width order count last : ℕ) (ds ds' : List ℤ) (value : �
 goes-on-kept width order count last ds ds' value e k h after =
     grind (arith, after-below, within-below, lower-below, newest-after)
 
--- an arc that has its first value alone
+-- an arc with only its first value
 pub begun-list : (ds : List ℤ) (value : ℤ) → 0 < length ds → take 1 (slice_set ds 0 value) ≡ value ∷ []
 begun-list [] value h = absurd (omega arith)
 begun-list (d ∷ ds) value h = refl
@@ -254,7 +253,7 @@ pub begun-kept : (width order : ℕ) (ds : List ℤ) (value : ℤ) → 0 < lengt
     → order ≤ 9 → IsWithin width value → IsArcInRange width order 1 (take 1 (slice_set ds 0 value))
 begun-kept width order ds value l few o h = grind (arith, common_steps, begun-list, within-below, newest)
 
--- an arc that has values goes on by the number of its next code
+-- an arc with values continues by the number of its next coded value
 pub record StepsOn (width order count last : ℕ) (number value : ℤ) (ds : List ℤ) : Type 0 where
   pub value_is : in_range width value ≡ value_of_code width (Step number) (kept_tail order (take count ds))
   pub tail : kept_tail order (differences_after value (take last ds))
@@ -266,7 +265,7 @@ pub stepped : (width order count last : ℕ) (number value : ℤ) (ds : List ℤ
 stepped width order count last number value ds e h l v f =
     grind (arith, common_steps, same-bits, lower-taken, some-kept, by-after)
 
--- the highest difference at a next value in range is a number that a code may have
+-- the highest difference at a next value in range is a number that a coded value may have
 highest-below : (k : ℕ) (ds : List ℤ) → length ds + k ≤ 10 → AreBelow (order_bound k) ds
     → IsShort (highest ds)
 highest-below k (d ∷ e ∷ es) few h = highest-below (suc k) (e ∷ es) (omega arith) h.1

@@ -19,7 +19,7 @@ mul-add a b x = ℤ_ind (λ n. (a +ℤ n) *ℤ x ≡ (a *ℤ x) +ℤ (n *ℤ x))
         → (a +ℤ (n +ℤ neg_ℤ (pos 1))) *ℤ x ≡ (a *ℤ x) +ℤ ((n +ℤ neg_ℤ (pos 1)) *ℤ x)
     down n h = rw (-ℤ_one n, +ℤ-pred_ℤ a n, pred_ℤ-*ℤ (a +ℤ n) x, pred_ℤ-*ℤ n x) (omega (arith, ints, h))
 
--- where each weight is the sum of two others
+-- if each weight is the sum of two others
 pub weighted-sum : (u v w : ℕ → ℤ) → ((i : ℕ) → u i ≡ v i +ℤ w i) → (xs : List ℤ)
     → weighted u xs ≡ weighted v xs +ℤ weighted w xs
 weighted-sum u v w each [] = refl

@@ -1,4 +1,4 @@
--- The satellites of the epoch before come again.
+-- The satellites of the previous epoch have rows again.
 use Rattle.crx_compact.proofs.Words.{◌≡◌, ℕ, ◌<◌, ◌≤◌, List, [], Some, length, take, sym}
 use Rattle.crx_compact.proofs.Words.{arith, refl, subst, bytes_eq, Count, satellite_of, RowTail}
 use Rattle.crx_compact.proofs.{Characters.length-is, RowByRow.all-at}
@@ -15,7 +15,7 @@ use Rattle.crx_compact.specs.Placing.{SatelliteTail, row_of_entry}
 use Rattle.crx_header.specs.meaning.ObservationTypes.{count_of}
 use Rattle.crx_header.specs.meaning.Satellites.{is_identifier, types_of_satellite}
 
--- where no row has come, no satellite has
+-- if there are no rows, no satellite is placed
 pub none-placed : (placed live : ℕ) {order places : List ℕ} (es : List Entry)
     → (placed ≤ live) × (live ≤ length es) × IsOrder order places (length es)
     → rows_of placed (in_order order es) ≡ [] → placed ≡ 0
@@ -27,7 +27,7 @@ pub typed-named : (types : List Count) (name : List ℕ) → is_identifier name 
     → types_of_satellite types name ≡ count_of types (get_or name 0 0)
 typed-named types name named = grind (arith, common_steps, types_of_satellite, is_identifier, length-is)
 
--- a satellite of the epoch before has the form of an identifier
+-- a satellite of the previous epoch has a well-formed identifier
 pub named-before : (live : ℕ) (es : List Entry) → All IsAwaitedSatellite (map satellite_of (rows_of live es))
     → (index : ℕ) (e : Entry) → index < live → live ≤ length es → slice_get es index ≡ Some e
     → is_identifier e.0 ≡ true

@@ -1,4 +1,4 @@
--- A satellite comes: what its map's entries show of the rows that have come, and of those that haven't.
+-- A satellite is added: the rows so far, and those without one yet, by the entries of the map.
 use Rattle.crx_compact.proofs.Words.{◌≡◌, ℕ, ◌+◌, ◌<◌, ◌≤◌, Bool, true, false, List, [], ◌∷◌, ◌++◌}
 use Rattle.crx_compact.proofs.Words.{map, take, drop, slice_get, Some, option_map}
 use Rattle.crx_compact.proofs.placing.Ranges.{among-up_to, found-in_range, named-map, none-named, not-before}
@@ -12,7 +12,7 @@ use Rattle.crx_compact.specs.meaning.Sequences.{named}
 use Rattle.crx_compact.specs.Entries.{Entry, IsAt, IsPutNext, key_of, placed_rows}
 use Rattle.crx_compact.specs.Placing.{HasCome, SatelliteTail, row_tail_named, row_of_entry}
 
--- nothing is stored of it any more
+-- its history is dropped
 abbrev pub emptied : SatelliteTail → SatelliteTail
 emptied satellite = record satellite { flags = []; cells = [] }
 
@@ -22,7 +22,7 @@ has_row name rows = is_among (λ (row : RowTail). row.name) name rows
 among-rows : (name : List ℕ) (es : List Entry) → has_row name (map row_of_entry es) ≡ is_among key_of name es
 among-rows name es = among-map (λ (row : RowTail). row.name) row_of_entry name es
 
--- one that isn't known has no row
+-- a satellite that isn't known has no row
 pub unknown-no_row : (name : List ℕ) (count : ℕ) (es : List Entry) → is_among key_of name es ≡ false
     → has_row name (map row_of_entry (take count es)) ≡ false
 unknown-no_row name count es h =
@@ -30,27 +30,26 @@ unknown-no_row name count es h =
     grind (arith, common_steps, list_any-append, all, or_parts, among-rows name (take count es))
 
 module _ (name : List ℕ) (placed live found : ℕ) (os es fs : List Entry) (at : IsAt name os found) where
-  -- it has come already
+  -- it has a row already
   pub repeated : found < placed → has_row name (map row_of_entry (take placed os)) ≡ true
   repeated before = among-rows name _ ∙ among-up_to placed os found (name, at.satellite) at.there before
 
   module _ (apart : IsDistinct bytes_eq (keys_of os)) where
-    -- it hasn't come
+    -- it has no row yet
     pub is-new : placed ≤ found → has_row name (map row_of_entry (take placed os)) ≡ false
     is-new behind = among-rows name _ ∙ not-before placed os found (name, at.satellite) apart at.there behind
 
-    -- the rows, with one more
     rows-more : (entry : Entry) (new : List Entry) → take (placed + 1) new ≡ take placed os ++ entry ∷ []
         → map row_of_entry (take (placed + 1) new)
         ≡ map row_of_entry (take placed os) ++ row_of_entry entry ∷ []
     rows-more entry new e = grind (arith, common_steps, row_of_entry, map-append)
 
-    -- what is found among rows is what is found among their entries
+    -- a search among rows is a search among their entries
     by-entries : (other : List ℕ) (es fs : List Entry) → named key_of other es ≡ named key_of other fs
         → row_tail_named other (map row_of_entry es) ≡ row_tail_named other (map row_of_entry fs)
     by-entries other es fs e = grind (arith, common_steps, named-map, row_of_entry, option_map)
 
-    -- one of the epoch before comes
+    -- a satellite of the previous epoch is added
     pub come-awaited : (new : List Entry) → placed ≤ found → found < live → IsPutNext placed found os new
         → HasCome name (placed_rows placed live os es) (placed_rows (placed + 1) live new fs)
     come-awaited new behind before put =
@@ -64,7 +63,7 @@ module _ (name : List ℕ) (placed live found : ℕ) (os es fs : List Entry) (at
               at.there (other_way other name differs));
         }
 
-    -- any other one comes
+    -- any other satellite is added
     pub come-anew : (revived new : List Entry) → placed ≤ live → live ≤ found → slice_get revived live
         ≡ Some (name, emptied at.satellite) → take live revived ≡ take live os
         → IsPutNext placed live revived new

@@ -25,7 +25,7 @@ pub changed-is : (es : List Entry) (i : ℕ) (name : List ℕ) (before after : S
 changed-is (e ∷ es) (suc i) name before after there = cc (changed-is es i name before after there)
 changed-is es i name before after there = grind (arith, same_Some)
 
--- where it shows the same, all do
+-- if it shows the same, all entries do
 pub shown-same : {X : Type 0} (f : Entry → X) (es : List Entry) (i : ℕ) (name : List ℕ) (before after :
     SatelliteTail)
     → slice_get es i ≡ Some (name, before) → f (name, after) ≡ f (name, before)
@@ -39,7 +39,7 @@ shown-same f es i name before after there same = grind (arith, same_Some)
 module _ {S : Type 0} (m : IndexMap (List ℕ) SatelliteTail S) (i : ℕ) (name : List ℕ)
     (before after : SatelliteTail)
     (unique : IsUnique bytes_eq m) (there : slice_get m.entries i ≡ Some (name, before)) where
-  -- the one at an index is found by its identifier
+  -- the satellite at an index is found by its identifier
   pub room-there : (count : ℕ) → HasRoom name count (rooms_of m.entries) → count ≤ before.room
   room-there count has =
       let own = hash_map_get_place bytes_eq-equiv m i name before unique there in

@@ -1,4 +1,4 @@
--- A satellite is found by its identifier, or added behind the others.
+-- A satellite is found by its identifier, or added after the others.
 use Rattle.std.proofs.Common.{◌≡◌, ℕ, List, [], ◌∷◌, ◌++◌, length, slice_get, get_or, position}
 use Rattle.std.proofs.Common.{Option, Some, None, IfSome, is_some, refl, sym, ◌∙◌, arith}
 use Rattle.std.proofs.{Common.{Bool, false}, lemmas.Slice.Eq.bytes_eq-Decides}
@@ -11,7 +11,6 @@ use Rattle.crx_header.specs.meaning.Satellites.{is_among}
 use Rattle.crx_compact.specs.{Entries.{Entry, IsAt, IsFound, key_of}, Placing.SatelliteTail}
 use Rattle.crx_compact.proofs.{RowByRow.is-there, placing.Rooms.{look_up-among, rooms-kept}}
 
--- where another identifier is there, which is the same
 pub found-same : (name other : List ℕ) (i : ℕ) (es : List Entry) → (satellite : SatelliteTail)
     × (slice_get es i ≡ Some (other, satellite)) → other ≡ name → IsAt name es i
 found-same name other i es there same = grind arith
@@ -51,7 +50,7 @@ found-added name satellite es new is none = rw is (record {
 pub none-there : {X : Type 0} (r : Option X) → is_some r ≡ false → r ≡ None
 none-there r h = grind arith
 
--- where no look-up finds it, it isn't among them
+-- if no look-up finds it, it isn't among them
 pub not-found : (name : List ℕ) (es : List Entry) → is_some (lookup (bytes_eq name) es) ≡ false
     → is_among key_of name es ≡ false
 not-found name es h = sym (look_up-among name es) ∙ h

@@ -13,7 +13,6 @@ use Rattle.crx_header.proofs.Apart.{other_way}
 use Rattle.crx_compact.specs.Entries.{Entry, IsAt, IsOrder, entry_at, in_order, key_of}
 use Rattle.std.proofs.Common.{rules}
 
--- the place of an index where a satellite is
 pub place-is : {order places : List ℕ} {es : List Entry} {name : List ℕ} {index place : ℕ}
     → IsOrder order places (length es) → IsAt name es index → place ≡ get_or places index 0
     → (get_or order place 0 ≡ index) × (place < length es)
@@ -31,7 +30,7 @@ module _ {order places : List ℕ} (es : List Entry) (is : IsOrder order places 
   there-in_order place e within there =
       search (rules, slice_get-map, entry_at, option_map, slice_get-get_or, get_or_from_slice_get)
 
-  -- one that isn't known isn't among them
+  -- a satellite that isn't known isn't among them
   pub none-in_order : (name : List ℕ) → is_among key_of name es ≡ false
       → is_among key_of name (in_order order es) ≡ false
   none-in_order name none =
@@ -76,7 +75,7 @@ module _ {order places : List ℕ} (es : List Entry) (is : IsOrder order places 
       let forth = is.forth q (omega (arith, below, is.counted)) in
       grind (arith, get_or-set_same, get_or-set_other, is.index place within, is.counted))
 
--- one more index is behind the others
+-- one more index is after the others
 pub more-ordered : (order places : List ℕ) (count : ℕ) → IsOrder order places count
     → IsOrder (order ++ count ∷ []) (places ++ count ∷ []) (count + 1)
 more-ordered order places count is = grind (arith, common_steps, get_or_append_left, length-append)

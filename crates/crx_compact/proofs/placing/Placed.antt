@@ -1,4 +1,4 @@
--- What is answered of a satellite that comes.
+-- The answers about a satellite that is to be added.
 use Rattle.crx_compact.proofs.Words.{◌≡◌, slice_index_or, take, ℕ, ◌+◌, ◌<◌, ◌≤◌, Bool, true, false, List}
 use Rattle.crx_compact.proofs.Words.{length, slice_get, refl}
 use Rattle.crx_compact.proofs.Words.{Some, None, ap, arith, sym, rules, bytes_eq, is_among}
@@ -44,7 +44,7 @@ module _ {S : Type 0} (m : IndexMap (List ℕ) SatelliteTail S) (unique : IsUniq
   apart : IsDistinct bytes_eq (keys_of (in_order order m.entries))
   apart = apart-in_order m.entries is unique
 
-  -- it has come already
+  -- it has a row already
   pub placed-again : {count : ℕ} → place < placed → AnswersPlacing name count now now (Some false)
   placed-again before =
       let os = in_order order m.entries in
@@ -62,13 +62,13 @@ module _ {S : Type 0} (m : IndexMap (List ℕ) SatelliteTail S) (unique : IsUniq
     pub placed-not : has ≡ false → AnswersPlacing name count now now None
     placed-not full = search (rules, new-here, little-room)
 
-    -- it has come, and no satellite has less room
+    -- it is added, and no satellite has less room
     come : has ≡ true → {new : PlacedRows} → new.rooms ≡ rooms_of m.entries
         → HasCome name now new → AnswersPlacing name count now new (Some true)
     come roomy rooms has-come =
         grind (arith, new-here, enough-room m index name at unique count has answer roomy)
 
-    -- one of the epoch before comes
+    -- a satellite of the previous epoch is added
     pub placed-next : has ≡ true → place < live → {new : List Entry}
         → IsPutNext placed place (in_order order m.entries) new
         → AnswersPlacing name count now (placed_rows (placed + 1) live new m.entries) (Some true)
@@ -82,7 +82,7 @@ module _ {S : Type 0} (m : IndexMap (List ℕ) SatelliteTail S) (unique : IsUniq
     placed-exchanged roomy before {next} e =
         search (rules, placed-next, entry_at, map-swap, put-exchanged, length-map, apart)
 
-    -- any other one comes
+    -- any other satellite is added
     pub placed-anew : has ≡ true → placed ≤ live → live ≤ place → {after : SatelliteTail}
         → after ≡ emptied at.satellite
         → {moved next others : List ℕ} → moved ≡ swap order place live
@@ -115,7 +115,7 @@ module _ {S : Type 0} (m : IndexMap (List ℕ) SatelliteTail S) (unique : IsUniq
         (apart-in_order es (subst (IsOrder moved others) (sym long) ordered)
         (subst (IsDistinct bytes_eq) (sym (keys-with_value_at m index after)) unique)))))
 
--- one that had no room comes after room was asked for
+-- a satellite that had too little room is added after memory was reserved
 pub placed-asked : {name : List ℕ} {count : ℕ} {old asked new : PlacedRows} {is_new : Bool}
     → is_among (λ (row : RowTail). row.name) name old.rows ≡ false → HasAskedRoom old asked
     → IsPlaced name count asked new is_new → IsPlaced name count old new is_new

@@ -16,13 +16,13 @@ pub rows-same : (es : List Entry) (i : ℕ) (name : List ℕ) (before after : Sa
 rows-same es i name before after there flags cells =
     shown-same row_of_entry es i name before after there (cc (flags, cells))
 
--- the first ones of the entries show what those before showed
+-- the first entries show the same as before
 pub rows-before : (es known new : List Entry) → take (length es) known ≡ es
     → map row_of_entry new ≡ map row_of_entry known
     → take (length es) (map row_of_entry new) ≡ map row_of_entry es
 rows-before es known new front same = cc (front, same, take-map row_of_entry (length es) known)
 
--- all that were there are still there
+-- no entry is lost
 pub none-lost : (old new : List Entry) → take (length old) new ≡ old → length old ≤ length new
 none-lost old new is = grind (arith, common_steps, length-take)
 
@@ -64,7 +64,7 @@ module _ (order places longer : List ℕ) (es new : List Entry) (is : IsOrder or
       ≡ map row_of_entry (drop placed (take live (in_order order es)))
   range-same placed live within = cc (drop-map _ placed _, front-same live within, drop-map _ placed _)
 
--- room that was asked for twice
+-- memory that was reserved twice
 pub asked-more : {one two three : PlacedRows} → HasAskedRoom one two → HasAskedRoom two three
     → HasAskedRoom one three
 asked-more first next = grind (arith, common_steps)

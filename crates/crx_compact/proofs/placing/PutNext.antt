@@ -1,4 +1,4 @@
--- A satellite that comes is put behind those that have come.
+-- A satellite that is added is put after those with a row.
 use Rattle.crx_compact.proofs.placing.EntryChanges.{set-there}
 use Rattle.indexmap.proofs.IndexTableLemmas.Indexes.{swap_self}
 use Rattle.std.proofs.{Common.{◌≤◌, inl, inr, slice_get, Some, subst}, lemmas.Bool.cases_eq}
@@ -10,11 +10,11 @@ use Rattle.crx_compact.specs.Entries.{Entry, IsPutNext, key_of}
 use Rattle.crx_compact.proofs.placing.Ranges.{rest-brought, rest-next, swap-is}
 use Rattle.crx_compact.proofs.{Making.taken_more, RowByRow.{IsThere, is-there}}
 
--- where it is there already
+-- if it is at that place already
 pub put-same : (placed : ℕ) (es : List Entry) → IsPutNext placed placed es es
 put-same placed es = grind (arith, common_steps, taken_more, key_of, rest-next)
 
--- where it is exchanged with the first one that hasn't come
+-- if it is exchanged with the first one without a row
 pub put-exchanged : (placed found : ℕ) (old : List Entry) → placed ≤ found → found < length old
     → IsDistinct bytes_eq (keys_of old) → IsPutNext placed found old (swap old found placed)
 put-exchanged placed found old order is apart =
@@ -34,7 +34,7 @@ put-exchanged placed found old order is apart =
           }
     ]
 
--- one that means nothing is brought to the first place behind those that do
+-- a satellite that isn't in use is put first after those that are
 module _ (live place : ℕ) (old : List Entry) (blank : Entry) (behind : live ≤ place)
     (within : place < length old)
   where

@@ -1,4 +1,4 @@
--- The room of the satellites that are known, by look-ups in their map.
+-- The room of the known satellites, by look-ups in their map.
 use Rattle.crx_compact.proofs.Words.{◌≡◌, ℕ, ◌≤◌, false, List, [], ◌∷◌, Some, option_map, refl, sym}
 use Rattle.crx_compact.proofs.Words.{◌∙◌, arith, rules, bytes_eq, false≢true, is_among}
 use Rattle.crx_compact.proofs.Words.{HasRoom, KeepsRooms, is_some, ap}
@@ -8,13 +8,13 @@ use Rattle.crx_header.proofs.Apart.{other_way}
 use Rattle.crx_compact.specs.{Entries.{Entry, key_of, rooms_of}, meaning.Sequences.named}
 use Rattle.crx_compact.specs.Placing.{SatelliteTail}
 
--- the room of a satellite is that of the one that a look-up finds
+-- the room of a satellite is the room of the one that a look-up finds
 pub room-by_look_up : (name : List ℕ) (es : List Entry) → named (λ (r : List ℕ × ℕ). r.0) name (rooms_of es)
     ≡ option_map (λ (s : SatelliteTail). (name, s.room)) (lookup (bytes_eq name) es)
 room-by_look_up name [] = refl
 room-by_look_up name (e ∷ es) = search (rules, cases_Bool, bytes_eq, other_way, room-by_look_up name es)
 
--- what has room is known, and so is how much
+-- a satellite with room is known, and so is its room
 pub known-room : (name : List ℕ) (count : ℕ) (es : List Entry) → HasRoom name count (rooms_of es)
     → (satellite : SatelliteTail) × (lookup (bytes_eq name) es ≡ Some satellite) × (count ≤ satellite.room)
 known-room name count es h = grind (arith, common_steps, lookup, bytes_eq, room-by_look_up)
@@ -36,7 +36,7 @@ pub look_up-among : (name : List ℕ) (es : List Entry) → is_some (lookup (byt
 look_up-among name [] = refl
 look_up-among name (e ∷ es) = grind (arith, common_steps, cases_Bool, other_way, look_up-among name es)
 
--- one that isn't among them isn't known
+-- a satellite that isn't among them isn't known
 pub unknown : (name : List ℕ) (count : ℕ) (es : List Entry)
     → is_among key_of name es ≡ false → HasRoom name count (rooms_of es) → ⊥
 unknown name count es new has =

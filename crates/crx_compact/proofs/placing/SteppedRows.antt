@@ -1,4 +1,4 @@
--- What is stored of one satellite among those that have come changes: its row, and no other one.
+-- The history of one satellite with a row changes: so does its row, and no other.
 use Rattle.crx_compact.proofs.CellsFor.{cell-there, each_place-below}
 use Rattle.crx_compact.proofs.Words.{◌≡◌, ℕ, suc, ◌-◌, ◌<◌, ◌≤◌, List, [], ◌∷◌, ◌++◌, length, map, take}
 use Rattle.crx_compact.proofs.Words.{slice_get, drop, Option, Some, ap, sym, ◌∙◌, arith, slice_set}
@@ -24,7 +24,7 @@ get-take n i xs within = grind arith
 abbrev pub rows_of : ℕ → List Entry → List RowTail
 rows_of placed es = map row_of_entry (take placed es)
 
--- there are as many rows as satellites that have come
+-- the number of rows is the number of satellites with one
 pub rows-counted : (placed : ℕ) (es : List Entry) → placed ≤ length es → length (rows_of placed es) ≡ placed
 rows-counted placed es within = length-map (take placed es) row_of_entry ∙ length-take-le placed es within
 
@@ -36,7 +36,6 @@ pub row-below : (placed : ℕ) {i : ℕ} (order : List ℕ) (es : List Entry) �
     → length order ≡ length es → i < length es
 row-below placed order es within counted = grind (arith, common_steps, length-map, row_of_entry, length-take)
 
--- the row at an index is that of the entry there
 pub record IsRowAt (placed i : ℕ) (es : List Entry) (e : Entry) : Type 0 where
   pub below : i < placed
   pub there : slice_get (rows_of placed es) i ≡ Some (row_of_entry e)
@@ -54,7 +53,7 @@ pub row-here : {order places : List ℕ} (es : List Entry) → IsOrder order pla
 row-here {order} es is placed {i} within same there = row-at placed within (there-in_order es is i _
     (row-below placed order es within is.counted) (ap (slice_get es) (sym same) ∙ there))
 
--- ---- what is stored of the satellite at a place changes
+-- ---- the history of the satellite at a place changes
 
 module _ {S : Type 0} (m : IndexMap (List ℕ) SatelliteTail S) {order places : List ℕ}
     (is : IsOrder order places (length m.entries)) (placed live : ℕ) {i index : ℕ} {name : List ℕ}
@@ -75,7 +74,7 @@ module _ {S : Type 0} (m : IndexMap (List ℕ) SatelliteTail S) {order places : 
         ∙ ap (λ k. in_order order (set m.entries k (name, after))) same ∙ set-in_order m.entries is i
         (name, after) (row-below placed order m.entries within is.counted)
 
-    -- its row alone changes
+    -- only its row changes
     pub left-at : placed ≤ live
         → IsLeftAt i (placed_rows placed live (in_order order m.entries) m.entries) before after
         (placed_rows placed live (in_order order (set_value_at m.entries index after)) (set_value_at
@@ -95,7 +94,7 @@ module _ {S : Type 0} (m : IndexMap (List ℕ) SatelliteTail S) {order places : 
         let rooms = shown-same room_of_entry m.entries index name before after there (cc roomy) in
         cc (rows, rest, rooms, ap (λ (r : RowTail). r.name) own)
 
--- ---- the satellite that has come last
+-- ---- the satellite of the last row
 
 last-is : {X : Type 0} (xs ys : List X) (x y : X) (i : ℕ) → xs ≡ ys ++ y ∷ [] → i ≡ length xs - 1
     → (slice_get xs i ≡ Some y) × (slice_set xs i x ≡ ys ++ x ∷ [])
@@ -107,8 +106,7 @@ pub last-within : (name : List ℕ) (before come : PlacedRows) (place : ℕ) →
 last-within name before come place has last =
     omega (arith, last, ap length has.rows, length-append before.rows (row_or_blank name before.rest ∷ []))
 
--- what is stored of it is the row of the epoch before, or nothing;
--- where it is left otherwise, so is the last row
+-- its history is the row of the previous epoch, or empty; if it changes, so does the last row
 pub record IsLastStored (name : List ℕ) (place : ℕ) (before come : PlacedRows) (satellite : SatelliteTail)
     : Type 0 where
   pub is : row_tail_of name satellite ≡ row_or_blank name before.rest
@@ -136,7 +134,7 @@ come-stored name place before come satellite has last stored =
 
 -- ---- a row that is written
 
--- as many types as a row has are made first
+-- the satellite first gets the row's number of types
 pub arcs-marked : (cells : List (Option ArcTail)) (values : List (Option ℤ))
     → arcs_of_cells (cells_for (length values) cells) values ≡ arcs_of_cells cells values
 arcs-marked cells values = grind (arith, each_place-below, cell-there)

@@ -16,19 +16,18 @@ satellites-set (r ∷ rs) (suc place) row left there name sized =
     cc (satellites-set rs place row left there name sized)
 satellites-set rows place row left there name sized = grind (arith, same_Some)
 
--- a row that was read
 pub row-announced : (old new : OpenHistory) (place : ℕ) (line : List ℕ)
     → IsRowRead place line old.satellites new.satellites → new ≡ record old { satellites = new.satellites }
     → IsAnnounced old → IsAnnounced new
 row-announced old new place line read same h = search (rules, satellite_of, satellites-set)
 
--- ---- what they are
+-- ---- their properties
 
--- each row has as many cells as a system may have types
+-- each row has a number of cells that is allowed for the types of a system
 pub rows-allowed : (history : OpenHistory) → IsAnnounced history → All HasAllowedCount history.satellites.rows
 rows-allowed history h = grind (arith, common_steps, get_or-map satellite_of)
 
--- they are as few as an epoch may have
+-- they are at most the satellites of an epoch
 pub rows-few : (history : OpenHistory) → IsAnnounced history
     → length history.satellites.rows ≤ SATELLITES_LIMIT
 rows-few history h = grind (arith, common_steps, unwrap_or, satellites_few, columns, length-map, satellite_of)

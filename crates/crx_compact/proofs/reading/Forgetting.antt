@@ -1,4 +1,4 @@
--- A line that begins with > forgets what was read before it.
+-- A line that begins with > forgets the lines before it.
 use Rattle.crx_compact.proofs.Words.{◌≡◌, ◌+◌, length, ℕ, true, List, ◌∷◌, take, map}
 use Rattle.crx_compact.proofs.Words.{rules, arith}
 use Rattle.crx_compact.proofs.Words.{ReadLine, Content, Count, RawEpoch, begins_epoch, Forgets}

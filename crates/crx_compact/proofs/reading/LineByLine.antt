@@ -1,4 +1,4 @@
--- The steps of a reader, line by line, agree with what is at all lines so far.
+-- The steps of a reader, line by line, agree with reading all lines so far at once.
 use Rattle.crx_compact.proofs.Words.{◌≡◌, Satellite, rows_read, tail_named, opened_raw, held_after}
 use Rattle.crx_compact.proofs.Words.{refl, List, [], arith, Fault, Count, Place, Fails, padded}
 use Rattle.crx_compact.proofs.Words.{rules, ℕ, Result, Content, ReadRow, ArcTail, RowTail, RawStep}
@@ -22,16 +22,14 @@ use Rattle.std.proofs.lemmas.Option.{slice_get_past}
 
 -- ---- the satellite lines
 
--- a tail with these rows
 abbrev tail_with : List ℕ → Option ArcTail → List RowTail → Tail
 tail_with text arc rows = record { text = text; clock = arc; rows = rows }
 
--- the epoch that the rows so far make with those of a place after them
+-- the epoch that the rows so far make with those read after them
 abbrev rows_placed : Tail → List ℕ → Option ArcTail → List RowTail → Place (List ReadRow) → Place HeldEpoch
 rows_placed before text arc rows p =
     placed_as (λ more. whole_epoch (tail_with text arc (rows ++ map (held_row before) more))) p
 
--- a row before the others
 abbrev row_onto : ReadRow → List ReadLine → Place (List ReadRow) → Place (List ReadRow)
 row_onto read lines p = then_place p lines (λ more rest. Done (read ∷ more) 0)
 
@@ -41,7 +39,7 @@ one-more : (before : Tail) (text : List ℕ) (arc : Option ArcTail)
     ≡ after_lines (suc count) (rows_placed before text arc rows (after_lines 1 (row_onto read lines p)))
 one-more before text arc rows read lines count p = grind (arith, common_steps, append_assoc)
 
--- the awaited satellites' lines, one step each
+-- the lines of the expected satellites, one step each
 abbrev StepsRead : Tail → List ℕ → Option ArcTail → List RowTail → List Satellite → ℕ → List ReadLine → Type 0
 StepsRead before text arc rows awaited count lines =
     place_of_steps count
@@ -82,12 +80,11 @@ rows-steps before text arc rows (s ∷ ss) count lines = grind (arith, at-seam)
 
 -- ---- the clock line and the epoch line
 
--- an epoch whose line was read
 abbrev read_begun : Tail → List ℕ → List Satellite → BegunEpoch
 read_begun before line satellites =
     record { line = line; past = past_of_tail before; satellites = satellites }
 
--- rows are shown by what they leave
+-- rows are shown by their tails
 rows-shown : (before : Tail) (satellites : List Satellite) (lines : List (List ℕ)) (rows : List ReadRow)
     → Paired (RowFacts (past_of_tail before)) satellites lines rows
     → map (λ (r : ReadRow). r.row) rows ≡ map shown_row (map (held_row before) rows)
@@ -95,7 +92,7 @@ rows-shown before (s ∷ ss) (l ∷ ls) (r ∷ rs) h = cc
     (row-shows before s l r h.0, rows-shown before ss ls rs h.1)
 rows-shown before satellites lines rows h = grind arith
 
--- a clock is shown by what it leaves
+-- a clock is shown by its tail
 clock-shown : (before : Tail) (line : List ℕ) (cell : ReadCell) → clock_line_read (past_of_tail before) line
     ≡ Ok cell → shown_value (arc_of_code cell.code before.clock) ≡ cell.value
 clock-shown before line cell e = grind (arith, common_steps)
@@ -162,7 +159,7 @@ wanted-where_open types tail [] = refl
 wanted-where_open types tail (line ∷ lines) =
     cc (wanted-placed (held_after tail) _, steps-agree types tail (line ∷ lines), wanted-steps 0 _ lines)
 
--- a step more, where the lines so far make an open epoch
+-- one more step, if the lines so far make an open epoch
 step-more : (count : ℕ) (s : RawStep) (lines : List ReadLine) (line : ReadLine) (begun : OpenRawEpoch)
     → open_raw_after s lines ≡ Some begun → (place_of_steps count s (lines ++ line ∷ [])
     ≡ place_of_step (suc (count + length lines)) (next_step begun line))

@@ -1,4 +1,4 @@
--- That memory ran out is no fault of a line of an epoch.
+-- OutOfMemory is no fault of a line of an epoch.
 use Rattle.crx_compact.proofs.Words.{◌≡◌, ℕ, suc, ℤ, [], ◌∷◌, Err, Code, common_steps}
 use Rattle.crx_compact.proofs.Words.{cells_read, OutOfMemory, Content, List, Option, Result, Fault, arith}
 use Rattle.crx_compact.proofs.Words.{step_in, next_step, RowTail, Tail}

@@ -1,5 +1,5 @@
--- The rows of an open epoch: a satellite's line is read after the row that the epoch line leaves of it as
--- after what is kept of the satellite, and what it leaves shows its row.
+-- The rows of an open epoch: a satellite's line is read after the row that the epoch line leaves as after the satellite's history, and the
+-- row after the line shows the line's row.
 use Rattle.crx_compact.proofs.Words.{◌≡◌, None, Some, suc, ◌<◌, ◌*◌, ◌∷◌, map, Tail}
 use Rattle.crx_compact.proofs.Words.{Satellite, flags_held, tail_named, ap, length-map, each_place}
 use Rattle.crx_compact.proofs.Words.{columns, shown_value, past_of_row, after_cells, common_steps}
@@ -19,12 +19,12 @@ use Rattle.crx_compact.specs.HeldRows.{row_after}
 
 -- ---- the row that an epoch line leaves
 
--- its cells are those that are kept
+-- its cells are those of the history
 padded-cell : (s : Satellite) (kept : Option RowTail) (place : ℕ) → place < s.count
     → slice_index_or (padded s kept).cells place None ≡ slice_index_or (arcs_of_tail kept) place None
 padded-cell s kept place h = grind (arith, common_steps, index-each_place, cell-by_kept)
 
--- indicators past those of its types don't matter to those of its types
+-- indicators past those of its types don't matter to these
 flags-padded : (count : ℕ) (flags marks : List ℕ)
     → flags_held count (patched (flags_held count flags) marks) ≡ flags_held count (patched flags marks)
 flags-padded count flags marks = search (rules, same-cut, at-without_end_blanks, at-take, at-by_position)
@@ -33,7 +33,7 @@ columns-padded : (count : ℕ) (flags marks : List ℕ) → columns
     (patched (flags_held count flags) marks) 1 (2 * count) ≡ columns (patched flags marks) 1 (2 * count)
 columns-padded count flags marks = cc (columns-held count _, flags-padded count flags marks)
 
--- what the cells and marks of a line make after it
+-- the row after the cells and marks of a line
 cells-padded : (s : Satellite) (kept : Option RowTail) (marks : List ℕ) (cells : List ReadCell)
     → length cells ≡ s.count → held_from (padded s kept).cells (padded s kept).flags
     (row_of_cells (past_of_row (padded s kept).cells (padded s kept).flags) s.name marks cells)
@@ -52,7 +52,7 @@ row-padded s kept line =
     let many = cells-count (value_at_place (arcs_of_tail kept)) texts in
     grind (arith, common_steps, same, many, cells-padded, texts-count)
 
--- a satellite's line after the row that the epoch line leaves is one after all of the history
+-- a satellite's line after the row that the epoch line leaves is one after the whole history
 pub row-opened : (before : Tail) (s : Satellite) (line : List ℕ)
     → row_held (Some (padded s (tail_named s.name before)))
     (satellite_of (padded s (tail_named s.name before))) line ≡ row_after before s line
@@ -60,7 +60,7 @@ row-opened before s line = search (rules, length-each_place, row-padded, row-by_
 
 -- ---- the row that a line leaves
 
--- the arcs that codes leave show their values
+-- the arcs after coded values show their values
 cells-show : (arcs : ℕ → Option ArcTail) (texts : List (List ℕ)) (cells : List ReadCell)
     → AreReadCells (λ place code. value_of_code OBSERVATION_WIDTH code (arcs place)) texts cells
     → map shown_value
@@ -69,7 +69,7 @@ cells-show : (arcs : ℕ → Option ArcTail) (texts : List (List ℕ)) (cells : 
 cells-show arcs (t ∷ ts) (c ∷ cs) h = search (rules, shown-code, cells-show (λ j. arcs (suc j)) ts cs h.1)
 cells-show arcs texts cells h = grind arith
 
--- what a line leaves of its satellite shows the line's row
+-- the row after a line shows the line's row
 pub row-shows : (before : Tail) (s : Satellite) (line : List ℕ) (read : ReadRow)
     → RowFacts (past_of_tail before) s line read → read.row ≡ shown_row (held_row before read)
 row-shows before s line read h =

@@ -1,4 +1,4 @@
--- The tail of a block of raw epochs decides what the next one stands for, and the next tail.
+-- The tail of a block of raw epochs determines the meaning of the next one, and the next tail.
 use Rattle.std.proofs.lemmas.Grind.{common_steps}
 use Rattle.crx_compact.proofs.Words.{◌≡◌, refl, ℕ, List, [], ◌∷◌, ◌*◌, map, length, Option, Some}
 use Rattle.crx_compact.proofs.Words.{unwrap_or, option_map, sym, ◌∙◌, ap, get_or_past, patched, ReadLine}
@@ -14,7 +14,7 @@ use Rattle.crx_compact.proofs.arcs.Arcs.{value-next, number-next}
 use Rattle.std.proofs.Math.Path.{fun_ext}
 use Rattle.crx_compact.specs.ReadingLaws.{RawByTail}
 
--- ---- what a tail holds of a satellite
+-- ---- a satellite in a tail
 
 cell-found : (rest : List (Option RawRow)) (found : Option RawRow) (j : ℕ)
     → cell_of_tail j (option_map (raw_row_tail (stretch (found ∷ rest))) found)
@@ -54,9 +54,9 @@ row-tail raw block r own =
 pub raw-by_tail : (raw : RawEpoch) (block : List RawEpoch) → HasSingleLines raw → RawByTail raw block
 raw-by_tail raw block own = grind (arith, overlaid-patched, number-next, mapped-same, row-tail)
 
--- ---- what the tail gives to the next lines
+-- ---- the past of the next lines
 
--- a block gives to the next lines what its tail does
+-- the past after a block is the past of its tail
 past-left : (block : List RawEpoch) → past_of_block block ≡ past_of_tail (tail_of_block block)
 past-left block = grind (arith, fun_ext, overlaid-patched, value-next, cell-left, flags-left)
 
@@ -68,12 +68,12 @@ pub line-left : (older : List RawEpoch) (line : List ℕ)
     → past_of_line older line ≡ option_map past_of_tail (tail_for_line (tail_left older) line)
 line-left older line = grind (arith, past-left [], epochs-left older)
 
--- the tail decides what is at the next lines
+-- the tail determines the epoch or the fault at the next lines
 pub place-by_tail : (types : List Count) (older : List RawEpoch) (lines : List ReadLine)
     → epoch_at types older lines ≡ epoch_after types (tail_left older) lines
 place-by_tail types older lines = cc (fun_ext (λ line. line-left older line))
 
--- what a raw epoch leaves
+-- the tail after a raw epoch
 pub left-by_tail : (raw : RawEpoch) (older : List RawEpoch) → HasSingleLines raw → tail_left (raw ∷ older)
     ≡ Some (raw_tail_after (unwrap_or (tail_for_line (tail_left older) raw.line) no_tail) raw)
 left-by_tail raw older own = grind (arith, raw-by_tail raw [] own, raw-by_tail raw (block_of older) own)

@@ -1,4 +1,4 @@
--- A reader of compact epochs by how far the lines of an epoch have come.
+-- A reader of compact epochs, by the lines that were read of an epoch.
 use Rattle.crx_compact.proofs.Words.{◌≡◌, List, Some, None, SatelliteLine, Bool}
 use Rattle.crx_compact.proofs.Words.{true, if◌then◌else◌, tail_of_history}
 use Rattle.crx_compact.proofs.Words.{ℕ, tail_held, with_rows, OpenHistory}
@@ -8,7 +8,7 @@ use Rattle.crx_compact.proofs.Words.{ColumnsState, columns_state}
 use Rattle.crx_compact.specs.OpenEpochs.{awaits_row}
 use Rattle.crx_compact.specs.declared.columns.Expected.TheVariants.{EpochLine}
 
--- ---- what columns store
+-- ---- the parts of columns
 
 pub state-rows : (is_kept : Bool) (expected : Expected) (count : ℕ) (history : OpenHistory)
     → expected ≡ SatelliteLine
@@ -17,7 +17,6 @@ state-rows is_kept expected count history at = cc (at)
 
 module _ (is_kept : Bool) (expected : Expected) (count : ℕ) (history : OpenHistory) (state : ColumnsState)
     (e : columns_state is_kept expected count history ≡ state) where
-  -- between two epochs
   pub stage-idle : is_idle state ≡ true → expected ≡ EpochLine
   stage-idle idle = grind arith
 
@@ -25,11 +24,10 @@ module _ (is_kept : Bool) (expected : Expected) (count : ℕ) (history : OpenHis
       → tail_held state ≡ (if is_kept then Some (tail_of_history history) else None)
   tail-idle idle = search rules
 
-  -- what a line makes in a state, by how far the lines have come
+  -- the step that a line makes in a state, by the lines that were read
   pub step-by-stage : (line : List ℕ)
       → step_in state (Content line) ≡ step_at expected count history (Content line)
   step-by-stage line = grind arith
 
-  -- a satellite's line was awaited
   pub row-was_awaited : expected ≡ SatelliteLine → awaits_row state ≡ true
   row-was_awaited at = cc (e, at)

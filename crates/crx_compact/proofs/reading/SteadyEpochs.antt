@@ -1,4 +1,4 @@
--- What is at compact lines is certain as soon as its last line has come.
+-- An epoch, or its fault, at compact lines doesn't depend on the lines after it.
 use Rattle.crx_compact.proofs.Words.{ℕ, List, [], ◌∷◌, Option, Count, Satellite, Past, BegunEpoch, rows_read}
 use Rattle.crx_compact.proofs.Words.{epoch_after_line, epoch_against, arith, rules}
 use Rattle.crx_rinex.specs.Steady.{IsSteady}

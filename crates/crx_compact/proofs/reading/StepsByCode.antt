@@ -1,4 +1,4 @@
--- What a line makes of an open epoch, by what was read of it into a history.
+-- The step that a line makes in an open epoch, by its effect on a history.
 use Rattle.crx_compact.proofs.Words.{◌≡◌, ◌≤◌, ◌<◌, ℕ, ◌+◌, Some, None, Err, Tail, refl, ap}
 use Rattle.crx_compact.proofs.Words.{◌==◌, false, true, List, length, arith, Fault, Epoch, Reading, RowTail}
 use Rattle.crx_compact.proofs.Words.{Content, row_held, HasMade, RawStep, with_rows, IsRowRead}

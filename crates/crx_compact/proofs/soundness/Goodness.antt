@@ -1,4 +1,4 @@
--- An epoch that was read is whole, and its marks can be before others.
+-- An epoch that was read is whole, and its marks can precede others.
 use Rattle.crx_compact.proofs.Words.{◌≡◌, IsAllowedCount, satellites_few, length-each_place}
 use Rattle.crx_compact.proofs.Words.{refl, unwrap_or, is_system, IsSoundRow, apart-map, Satellite, raw_run_of}
 use Rattle.crx_compact.proofs.Words.{ℕ, ◌+◌, ◌*◌, ℤ, ◌∷◌, map, sym, ◌∙◌, ap, Row, Code, suc, true, None}
@@ -64,7 +64,7 @@ value_of-fits : (width : ℕ) (codes : List Code) (v : Option ℤ) → value_of 
     → IsMissingOrWithin width v
 value_of-fits width codes v e = grind arith
 
--- every value of some cells fits
+-- every value of some cells is in range
 cells-fit : (value : ℕ → Code → Result (Option ℤ) Fault)
     → ((j : ℕ) (c : Code) (v : Option ℤ) → value j c ≡ Ok v → IsValue v) → (texts : List (List ℕ))
     (cells : List ReadCell) → AreReadCells value texts cells

@@ -1,4 +1,4 @@
--- What follows of an epoch from its having been read.
+-- Facts about an epoch that was read.
 use Rattle.crx_compact.proofs.Words.{◌≡◌, suc, List, Some, None, Done, Code, Past, ◌+◌, ◌*◌}
 use Rattle.crx_compact.proofs.Words.{true, length, Option, Result, Count, Place, RawRow, subst}
 use Rattle.crx_compact.proofs.Words.{rules, BegunEpoch, begins_epoch, past_of_line, row_of_cells, Row}
@@ -17,9 +17,9 @@ use Rattle.crx_compact.proofs.{Identifiers.each-own, EpochLines.{differ, names_o
 use Rattle.crx_compact.specs.Expansion.{all_ok, text_of, row_from, rows_from, epoch_of_block}
 use Rattle.crx_compact.specs.ReadingLaws.{ReadsSoundly}
 
--- ---- good answers come from good answers
+-- ---- good results follow from good results
 
--- what is after a first line
+-- the first line is read, and the rest after it
 pub record Begins {X Y : Type 0} (lines : List ReadLine) (read : List ℕ → Result X Fault) (next : X
     → List ReadLine → Place Y) (y : Y) (n : ℕ) : Type 0 where
   pub line : List ℕ
@@ -37,13 +37,12 @@ pub begins : {X Y : Type 0} (lines : List ReadLine) (read : List ℕ → Result 
 begins (Content line ∷ rest) read next y n e = grind arith
 begins lines read next y n e = absurd (cc e)
 
--- the lines that were read
 cut-at : (lines rest : List ReadLine) (line : List ℕ) (n more : ℕ) (own : List (List ℕ))
     → lines ≡ Content line ∷ rest → n ≡ suc more → take more rest ≡ map Content own
     → take n lines ≡ map Content (line ∷ own)
 cut-at lines rest line n more own e k h = cc (h)
 
--- what is made of the last thing
+-- the last thing, and the result that is made of it
 pub ends : {X Y : Type 0} (p : Place X) (lines : List ReadLine) (make : X → Y) (y : Y) (n : ℕ)
     → then_place p lines (λ x rest. Done (make x) 0) ≡ Done y n
     → (from : X) × (p ≡ Done from n) × (make from ≡ y)
@@ -51,7 +50,7 @@ ends p lines make y n e = grind arith
 
 -- ---- cells
 
--- a cell that was read from a text: its code is the text's, and its value is what the code stands for
+-- a cell that was read from a text: its coded value is the text's, and its value is the one that this stands for
 pub record IsReadCell (value : Code → Result (Option ℤ) Fault) (text : List ℕ) (cell : ReadCell) : Type 0
   where
     pub coded : code_of text ≡ Some cell.code
@@ -71,7 +70,7 @@ read-cells : (value : ℕ → Code → Result (Option ℤ) Fault) (texts : List 
 read-cells value [] cells e = grind arith
 read-cells value (text ∷ texts) cells e = grind (arith, read-cell, read-cells (λ j. value (suc j)) texts)
 
--- the values that the codes of some cells stand for
+-- the values that the coded values of some cells stand for
 cells-meant : (value : ℕ → Code → Result (Option ℤ) Fault) (texts : List (List ℕ)) (cells : List ReadCell)
     → AreReadCells value texts cells
     → all_ok (each_place (length (map (λ (c : ReadCell). c.code) cells)) (λ j. value j (slice_index_or
@@ -81,7 +80,6 @@ cells-meant value texts cells h = grind arith
 
 -- ---- a satellite's line
 
--- what is known of a satellite's line that was read
 pub record RowFacts (past : Past) (satellite : Satellite) (line : List ℕ) (read : ReadRow) : Type 0 where
   pub cells : List ReadCell
   pub are_read : AreReadCells (past.value satellite.name) (cells_of satellite.count line) cells
@@ -107,7 +105,7 @@ line-facts past satellite line read e =
       is_read = grind (arith, if-err);
     }
 
--- the row is what the line stands for after those before it
+-- the row is the one that the line stands for after the lines before it
 row-meant : (block : List RawEpoch) (satellite : Satellite) (line : List ℕ) (read : ReadRow)
     → RowFacts (past_of_block block) satellite line read
     → row_from (read.raw ∷ raw_run_of satellite.name block) read.raw ≡ Ok read.row
@@ -145,7 +143,6 @@ rows-facts past (s ∷ ss) lines rows count e =
 
 -- ---- identifiers
 
--- the raw rows, and the rows, have the satellites' identifiers
 pub row-names : (past : Past) (satellites : List Satellite) (lines : List (List ℕ)) (rows : List ReadRow)
     → Paired (RowFacts past) satellites lines rows
     → (map (λ (r : RawRow). r.name) (map (λ (r : ReadRow). r.raw) rows) ≡ names_of satellites)
@@ -155,8 +152,7 @@ row-names past satellites lines rows h = grind arith
 
 -- ---- the epoch
 
--- what is known of an epoch that was read: its lines, and what each was read as against what the epoch line
--- gives
+-- facts about an epoch that was read: its lines, and the past by which each was read
 pub record EpochFacts (types : List Count) (given : List ℕ → Option Past) (past_of : List ℕ → Past)
     (lines : List ReadLine) (read : ReadEpoch) (count : ℕ) : Type 0 where
   pub line : List ℕ
@@ -183,7 +179,7 @@ begun-facts types line (Some past) begun e =
     (λ ss. Ok (record { line = line; past = past; satellites = ss })) begun e in
     search rules
 
--- where an epoch line is given anything, it is given this
+-- if an epoch line has a past, it is this one
 pub facts-against : (types : List Count) (given : List ℕ → Option Past) (past_of : List ℕ → Past)
     (lines : List ReadLine) (read : ReadEpoch) (count : ℕ)
     → ((line : List ℕ) (past : Past) → given line ≡ Some past → past ≡ past_of line)
@@ -217,7 +213,7 @@ facts-against types given past_of lines read count same e =
       is_read = cc (past, begun.0, three.2);
     }
 
--- what the lines of a raw epoch are read against after older ones
+-- the block after which the lines of a raw epoch are read
 abbrev pub block_for : List ℕ → List RawEpoch → List RawEpoch
 block_for line older = if begins_epoch line then [] else block_of older
 

@@ -1,4 +1,4 @@
--- What follows of an epoch and its rows from their being ones that can be written.
+-- Facts about epochs and rows that can be written.
 use Rattle.crx_compact.proofs.Words.{◌≡◌, refl, true, List, Some, at, nat_eq, length, arith}
 use Rattle.crx_compact.proofs.Words.{◌+◌, ◌-◌, ◌*◌, ◌<◌, ℕ, ◌∷◌, map, ◌∙◌, Row, sym, [], Epoch}
 use Rattle.crx_compact.proofs.Words.{epoch_count, columns-are, name-length, common_steps, Count}
@@ -65,7 +65,7 @@ module _ (types : List Count) (e : Epoch) (h : IsWholeEpoch types e) where
 
 -- ---- identifiers
 
--- the identifiers that are from an offset on
+-- the identifiers from an offset on
 pub names-read : (types : List Count) (text : List ℕ) (offset : ℕ) (rows : List Row) → AllByRecursion
     (IsTypedRow types) rows → ((p : ℕ) → at text (offset + p) ≡ at (flat_map (λ (r : Row). r.name) rows) p)
     → each_place (length rows) (λ k. columns text (offset + 1 + 3 * k) 3) ≡ map (λ (r : Row). r.name) rows
@@ -80,7 +80,6 @@ names-read types text offset (r ∷ rs) h e =
     cc (e (3 + p), at-append_past r.name (flat_map (λ (q : Row). q.name) rs) 3 p long)) in
     grind (arith, each_place-same, first, rest)
 
--- the satellites of some rows, with their counts of types
 abbrev pub satellites_of_rows : List Row → List Satellite
 satellites_of_rows rows = map (λ (r : Row). record { name = r.name; count = length r.values }) rows
 

@@ -1,5 +1,5 @@
--- Texts by their characters: what a difference marks comes back, marks laid over one another are patches in
--- turn, and texts and marks can be cut at a width.
+-- Texts by their characters: a patch by a difference returns the text, marks over one another are patches in turn, and texts and marks can
+-- be cut at a width.
 use Rattle.crx_compact.proofs.Words.{◌≡◌, is_blank, character_of, each_place, latest_mark, overlaid}
 use Rattle.crx_compact.proofs.Words.{refl, ◌≢◌, List, length, mark_of, patched, shown, longest, columns}
 use Rattle.crx_compact.proofs.Words.{ℕ, ◌≤◌, [], ◌∷◌, All, ◌∙◌, ap, at, ◌<◌, map, take}
@@ -77,7 +77,7 @@ overlaid-take n marks =
 
 -- ---- columns
 
--- the first columns of marks don't ask for what is past them
+-- the first columns of marks don't depend on later ones
 pub columns-cut : (n : ℕ) (marks : List (List ℕ))
     → columns (overlaid (map (take n) marks)) 1 n ≡ columns (overlaid marks) 1 n
 columns-cut n marks = search (rules, same-columns, at-overlaid, latest-take)

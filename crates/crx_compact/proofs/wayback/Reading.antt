@@ -1,4 +1,4 @@
--- The text of an epoch's line is read as its columns and satellites; and texts of codes.
+-- The text of an epoch line is read as its columns and satellites; and texts of coded values.
 use Rattle.crx_compact.proofs.Words.{◌≡◌, refl, true, false, List, ◌∷◌, [], ℕ, drop}
 use Rattle.crx_compact.proofs.Words.{Ok, ◌+◌, ◌*◌, arith, and_parts, rules, length, Row}
 use Rattle.crx_compact.proofs.Words.{Epoch, Count, IsWholeEpoch, begins_epoch}
@@ -29,7 +29,7 @@ text-good types e h =
     rw (text-columns types e h, head-counted types e h, rest, names)
     (satellites-good types [] e.rows rows (none-earlier (λ (r : Row). r.name) e.rows) h.sound.apart)
 
--- ---- lines of codes
+-- ---- lines of coded values
 
 pub text-other : (text : List ℕ) → list_all is_code_character text ≡ true → begins_epoch text ≡ false
 text-other x h = grind (arith, common_steps)

@@ -26,14 +26,14 @@ pub use Rattle.crx_compact.proofs.SoundTexts.{difference-length}
 use Rattle.std.proofs.{lemmas.Fmt.length-decimal-le, Math.Nat.pow-le-pow_right}
 use Rattle.std.proofs.lemmas.Fmt.{decimal_digit}
 
--- ---- numbers and codes
+-- ---- numbers and coded values
 
 signed-length : (k b : ℕ) (z : ℤ)
     → 0 < k → k ≤ DIGITS_LIMIT → b < 10 ^ k → IsNear b z → length (signed_decimal z) ≤ k + 1
 signed-length k b x some few h near = grind (arith, common_steps, pow-le-pow_right, length-decimal-le)
 
--- a code of an arc whose values fit so many columns: a first value has two characters before it, and a
--- difference one digit more than a value
+-- the coded value of an arc whose values fit `j + 2` columns: a first value has two characters before it, and a difference one digit more
+-- than a value
 pub code-length : (j : ℕ) (xs : List ℤ)
     → 0 < j → j + 2 ≤ DIGITS_LIMIT → doubled WRITTEN_ORDER (10 ^ (j + 1)) < 10 ^ (j + 2)
     → AllByRecursion (IsWithin (j + 2)) xs → length (code_text (code_at WRITTEN_ORDER xs)) ≤ j + 3
@@ -66,7 +66,7 @@ text-short types e h = grind (arith, length-text types e h, few-satellites types
 
 -- ---- lines
 
--- the most bytes of a written line: so many codes of 15 characters, each with a blank and two indicators
+-- the most bytes of a written line: TYPES_LIMIT coded values of 15 characters, each with a blank and two indicators
 abbrev most : ℕ
 most = 18 * TYPES_LIMIT
 

@@ -1,4 +1,4 @@
--- The tail of the epochs decides the next epoch's lines and the next tail: so an epoch is coded after others.
+-- The tail of the epochs determines the next epoch's lines and the next tail: so an epoch is coded after others.
 use Rattle.crx_compact.proofs.Words.{◌≡◌, text_difference, satellite_line, index-each_place, lines_after_tail}
 use Rattle.crx_compact.proofs.Words.{refl, [], Option, Epoch, Marked, run_of, arc_of, tail_of, no_tail}
 use Rattle.crx_compact.proofs.Words.{ℕ, ℤ, Bool, true, List, ◌∷◌, map, Some, Row, Tail, common_steps}
@@ -11,7 +11,7 @@ use Rattle.crx_compact.proofs.{Lists.mapped-same, wayback.Rows.run-begins, Ident
 use Rattle.crx_compact.proofs.{wayback.Runs.{marked, named-made, rows_before}, SoundTexts.before-trimmed}
 use Rattle.crx_compact.specs.{Tails.{row_tail, tail_or_nothing}, Laws.{EpochByTail}}
 
--- ---- what a tail holds of a satellite
+-- ---- a satellite in a tail
 
 abbrev start : Bool → List Marked → Tail
 start full older = if full then no_tail else tail_of older

@@ -3,7 +3,7 @@ use Rattle.crx_compact.specs.ArcSteps.{differences_after}
 use Rattle.crx_compact.proofs.arcs.Running.{Advanced}
 use Rattle.crx_compact.proofs.arc.go_on.Given as goal
 
--- the differences up to the order go on place by place
+-- the differences up to the order are replaced place by place
 abbrev pub invariant-loop-index : goal.invariant-loop-index
 invariant-loop-index l = record {
   made : Advanced l.index (differences_after l.fn.value (take l.order l.initial.differences))

@@ -2,7 +2,7 @@ use Rattle.std.specs.Prelude.{◌≡◌, ◌≤◌, ◌-◌, length, vec_capacit
 use Rattle.crx_compact.specs.Placing.{cells_for}
 use Rattle.crx_compact.proofs.cells.keep_arcs.Given as goal
 
--- those that there were, and as many more without values
+-- the old arcs, and new ones without values
 abbrev pub invariant-loop-arcs : goal.invariant-loop-arcs
 invariant-loop-arcs l = record {
   longer : length l.initial.arcs.items ≤ length l.arcs.items;

@@ -15,7 +15,7 @@ use Rattle.std.proofs.lemmas.Grind.{common_steps}
 use Rattle.crx_compact.proofs.cells.read_cell_fast.Goals.{After-index-arcs-index}
 use Rattle.std.proofs.lemmas.List.{get_or_default}
 
--- what a cell takes with its blank, where one is in the line
+-- the length of a cell with its blank, if the line has one
 taken : (line : List ℕ) (at n len more : ℕ) → at ≤ length line → n ≡ length (first_cell (drop at line))
     → len ≡ length line → more ≡ bool_byte (ltb (at + n) len)
     → (drop (n + more) (drop at line) ≡ after_cell (drop at line)) × (n + more ≤ length (drop at line))
@@ -32,7 +32,7 @@ nothing : (xs : List ℕ) → 0 ≡ length xs → xs ≡ []
 nothing [] none = refl
 nothing (x ∷ xs) none = absurd (omega (arith, none))
 
--- a difference, and the same as it is held, whose value is there
+-- a difference, as a text and as a number, that has a value
 stepped : (before : List (Option ArcTail)) (place : ℕ) (text : List ℕ) (number held : ℤ) (answer : Option ℤ)
     (arc arc' : Option ArcTail) (taken : ℕ)
     → IfSome answer (λ value. value_of_code OBSERVATION_WIDTH (Step held) arc ≡ Ok (Some value))

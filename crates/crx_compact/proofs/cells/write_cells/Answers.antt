@@ -12,14 +12,14 @@ use Rattle.crx_compact.specs.Placing.{cells_for}
 use Rattle.crx_compact.proofs.arcs.Running.{same-bits}
 use Rattle.crx_compact.proofs.cells.write_cells.Goals as goal
 
--- there is an arc for each value that may be there
+-- there is an arc for each value that may be present
 kept : (c : After-as_mut_slice-arcs)
     → (c.as_mut_slice-arcs.result.now ≡ cells_for c.args.filled c.args.arcs.now.items)
     × (length c.as_mut_slice-arcs.result.now ≡ c.args.filled)
     × (length (take c.args.filled c.args.values.now) ≡ c.args.filled)
 kept c = grind (arith, common_steps, same-cells, length-each_place, length-take-le)
 
--- the place of a turn is that of an arc, and of a value of the row
+-- the index of a turn is that of an arc, and of a value of the row
 there : (c : After-index-arcs-index) → (c.loop-index.index < c.args.filled)
     × (get_or c.args.values.now c.loop-index.index None
     ≡ get_or (take c.args.filled c.args.values.now) c.loop-index.index None)

@@ -16,7 +16,7 @@ use Rattle.crx_compact.proofs.history.read_names.Goals.{After-unwrap, Joined-pla
 use Rattle.crx_compact.proofs.history.read_names.Goals as goal
 use Rattle.std.proofs.lemmas.Grind.{common_steps}
 
--- whether a satellite has come already
+-- whether a satellite has a row already
 come-already : (before rows : List RowTail) (found : List Satellite) (name : List ℕ) (is_new b : Bool)
     → rows ≡ map (padded_among before) found
     → is_new ≡ not (is_among (λ (row : RowTail). row.name) name rows) → is_new ≡ b
@@ -31,7 +31,7 @@ pub returns-in_default : goal.returns-in_default
 returns-in_default c =
     search (rules, bad)
 
--- the satellite has come, or had come already
+-- the satellite is added, or had a row already
 placed : (c : Joined-place)
     → IsPlaced c.identifier-name.result c.in-Some.cells c.loop-index.satellites c.match-place.satellites
     c.match-place.is_new
@@ -47,7 +47,7 @@ returns-then-not-is_new c =
     found.0 c.identifier-name.result c.match-place.is_new false found.2 come.answer c.if-not-is_new.true) in
     grind (arith, common_steps, found, come, twice)
 
--- what is stored of the satellite that has come
+-- the history of the satellite that was added
 stored : (c : After-unwrap) → HasCome c.identifier-name.result c.loop-index.satellites
     c.match-place.satellites
     → IsLastStored c.identifier-name.result (c.placed-last.result - 1) c.loop-index.satellites

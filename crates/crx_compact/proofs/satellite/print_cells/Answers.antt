@@ -10,7 +10,6 @@ use Rattle.crx_compact.specs.ArcTails.{ArcTail}
 use Rattle.crx_compact.specs.{Placing.cells_for, ShownRows.AreFirstPrinted}
 use Rattle.crx_compact.proofs.satellite.print_cells.Goals as goal
 
--- one cell more
 next : (arcs : List (Option ArcTail)) (count k at : ℕ) (flags old new after : List ℕ)
     (arc : Option ArcTail) (value : Option ℤ) → k < length arcs → length arcs ≤ count
     → length flags ≡ 2 * count → arc ≡ get_or arcs k arc → value ≡ shown_value arc

@@ -2,7 +2,7 @@ use Rattle.crx_compact.proofs.Words.{◌≡◌, ◌≤◌, ◌*◌, ℕ, length,
 use Rattle.crx_compact.specs.{Placing.cells_for, ShownRows.AreFirstPrinted}
 use Rattle.crx_compact.proofs.satellite.print_cells.Given as goal
 
--- two cells more were printed with each turn
+-- each turn prints two more cells
 abbrev pub invariant-loop-pair : goal.invariant-loop-pair
 invariant-loop-pair l = record {
   cells : (count : ℕ) → length l.flags ≡ 2 * count → length l.arcs ≤ count

@@ -2,7 +2,7 @@ use Rattle.crx_compact.proofs.Words.{◌≡◌, ◌+◌, ◌*◌, ◌++◌, None
 use Rattle.crx_text.specs.meaning.PrintedCells.{printed_cells}
 use Rattle.crx_compact.proofs.satellite.print_missing.Given as goal
 
--- the cells that are left complete the bytes up to the end
+-- the remaining cells complete the bytes up to the end
 abbrev pub invariant-loop-index : goal.invariant-loop-index
 invariant-loop-index l = record {
   cells : take (l.at + 16 * l.index) l.bytes ++ printed_cells (drop l.index (replicate l.count None))

@@ -18,7 +18,7 @@ returns-clause-found c =
 pub returns-clause-order : goal.returns-clause-order
 returns-clause-order c = grind (arith, common_steps, none-there, length-append, more-ordered)
 
--- it wasn't there, and nothing changed
+-- it wasn't known, and nothing changed
 pub returns-in_err-reserve-clause-unknown : goal.returns-in_err-reserve-clause-unknown
 returns-in_err-reserve-clause-unknown c = grind (arith, common_steps, err_from_is_err_and, not-found)
 

@@ -59,7 +59,7 @@ returns-else-not-is_within-2-clause-ok g c =
     let on' = on g (goal.at.returns-else-not-is_within-2-clause-ok g c).After-value_after-value in
     search (rules, same-bits)
 
--- what is said of any codes so far, by what is said of the arc
+-- the clause for any earlier coded values, by the arc
 every : (width : ℕ) (code : Code) (codes : List Code) (old new : Option ArcTail) (result : Result
     (Option ℤ) Fault)
     → result ≡ value_of_code width code old → new ≡ (if is_ok result then arc_of_code code old else old)

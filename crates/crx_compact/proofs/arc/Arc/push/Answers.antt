@@ -9,7 +9,7 @@ use Rattle.crx_compact.proofs.arc.Arc.push.{Given.Over, Goals.In-Some}
 use Rattle.crx_compact.proofs.arc.Arc.push.Goals as goal
 use Rattle.crx_compact.proofs.arcs.Running.{below-short}
 
--- what is said of any values so far, by what is said of the arc
+-- the clause for any earlier values, by the arc
 every : (value : Option ℤ) (values : List (Option ℤ)) (old new : Option ArcTail) (code : Code)
     → code ≡ code_of_value value old → new ≡ arc_of_value value old → old ≡ arc_of_values values
     → (code ≡ code_at WRITTEN_ORDER (stretch (value ∷ values))) × (new ≡ arc_of_values (value ∷ values))

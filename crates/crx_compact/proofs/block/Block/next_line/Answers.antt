@@ -7,7 +7,7 @@ use Rattle.std.proofs.{Math.ListN.drop_of_length-le, lemmas.List.get_or-take}
 use Rattle.crx_compact.proofs.block.Block.next_line.Goals as goal
 use Rattle.std.proofs.lemmas.Grind.{common_steps}
 
--- not all lines were borrowed yet, so there is a next one
+-- not all lines are borrowed yet, so there is a next one
 line-there : (lengths bytes : List ℕ) (many filled past past_bytes front memory count : ℕ)
     → IsBlock lengths bytes many filled past past_bytes front memory
     → (past ≡ many → ⊥) → count ≡ get_or lengths past count

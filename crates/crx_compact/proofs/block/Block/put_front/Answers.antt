@@ -3,7 +3,7 @@ use Rattle.crx_compact.proofs.{LineTexts.{PutFront, put-front}, block.Block.put_
 use Rattle.crx_compact.proofs.block.Block.put_front.Goals as goal
 use Rattle.std.proofs.lemmas.Grind.{common_steps}
 
--- the line is put in front of those that are pending, where there is room for one as long as a line may be
+-- the line is put in front of the pending ones, into the space for a line of the greatest length
 front-put : (c : After-put_line) → PutFront c.self.inside.lengths.items c.self.inside.bytes.items
     c.put_line.new.bytes c.args.line.now c.self.inside.count c.self.inside.filled c.self.inside.handed_out
     (c.self.inside.handed_out - 1) c.self.inside.handed_out_bytes

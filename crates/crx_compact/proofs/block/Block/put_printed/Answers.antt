@@ -7,7 +7,7 @@ use Rattle.crx_compact.proofs.block.Block.put_printed.Goals.{After-print_line-le
 use Rattle.crx_compact.proofs.block.Block.put_printed.Goals as goal
 use Rattle.std.proofs.lemmas.Grind.{common_steps}
 
--- the bytes are the block's own again
+-- the bytes are back in the block
 stored : (c : After-print_line-length)
     → let line = set c.print_line-length.new.bytes (c.self.inside.filled + c.print_line-length.result) 10 in
     take c.use_bytes.new.bytes.len (line ++ drop (length line) c.use_bytes.new.bytes.items) ≡ line

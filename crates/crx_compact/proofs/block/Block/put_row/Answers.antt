@@ -5,7 +5,7 @@ use Rattle.crx_compact.specs.Placing.{line_after}
 use Rattle.crx_compact.proofs.block.Block.put_row.Goals.{After-write_line-length}
 use Rattle.crx_compact.proofs.block.Block.put_row.Goals as goal
 
--- the bytes are the block's own again
+-- the bytes are back in the block
 stored : (c : After-write_line-length)
     → let line = set c.write_line-length.new.bytes (c.self.inside.filled + c.write_line-length.result) 10 in
     take c.use_bytes.new.bytes.len (line ++ drop (length line) c.use_bytes.new.bytes.items) ≡ line

@@ -6,7 +6,7 @@ use Rattle.crx_compact.proofs.{reading.Blocks.{begun-block, begun-refused}}
 use Rattle.crx_compact.proofs.reading.Stages.{tail-idle}
 use Rattle.crx_compact.proofs.columns.Columns.begin.Goals as goal
 
--- there is a history, which the line is read after
+-- there is a history, after which the line is read
 before-line : (c : After-read_epoch_line) → tail_for_line (tail_held c.args.self.now) c.args.line.now
     ≡ Some (tail_of_history c.if-is_full.self-inside.history)
 before-line c = elim c.if-is_full.branch [

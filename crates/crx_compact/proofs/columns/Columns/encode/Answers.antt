@@ -9,7 +9,7 @@ use Rattle.crx_compact.proofs.columns.Columns.encode.Goals.{After-encode}
 use Rattle.crx_compact.proofs.columns.Columns.encode.Goals as goal
 use Rattle.std.proofs.lemmas.Grind.{common_steps}
 
--- an epoch is in full where that is asked for, or where nothing is kept
+-- an epoch is full if that was requested or no epoch is kept
 in-full : (full is_kept : Bool) (tail : Tail)
     → (if (if full then true else not is_kept) then no_tail else tail)
     ≡ tail_written_after full (if is_kept then Some tail else None)
@@ -19,7 +19,7 @@ means : (c : After-encode)
     → c.if-full.in_full ≡ (if c.args.full then true else not c.self.inside.is_kept)
 means c = search rules
 
--- the tail that an epoch is written after, by what idle columns store
+-- the tail that an epoch is written after, by the parts of idle columns
 after : (c : After-encode)
     → (if c.if-full.in_full then no_tail else tail_of_history c.self.inside.history)
     ≡ tail_written_after c.args.full (tail_held c.args.self.now)

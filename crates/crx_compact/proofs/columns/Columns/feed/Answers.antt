@@ -32,7 +32,7 @@ returns-in-Err-epoch-clause-memory c = λ out.
           (search (rules, step-by-stage, c.self.view_is, c.in-Ok-true.ensures.ok)) (omega (arith, come)),
     )
 
--- the line has a fault, which is none of memory
+-- the line has a fault, which isn't OutOfMemory
 pub returns-in-Err-clause-memory : goal.returns-in-Err-clause-memory
 returns-in-Err-clause-memory c = λ out. absurd (no-memory-in-epoch c.args.self.now c.args.line.now
     c.in-Err.fault (search (rules, step-by-stage, c.self.view_is, c.in-Err.ensures.err)) out)

@@ -1,4 +1,4 @@
--- `of` makes a value of no bytes, at the tail of the history that it is given. The history stays as it was.
+-- `of` returns a value without bytes, at the tail of the history. The history doesn't change.
 use Rattle.crx_compact.proofs.Words.{[], ◌∷◌, refl, tail_of_history}
 use Rattle.std.proofs.raw_atomic.Walks.{proved}
 use mir.Syntax.{named}

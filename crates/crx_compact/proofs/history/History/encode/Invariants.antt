@@ -13,8 +13,7 @@ invariant-loop-wanting l = record {
 abbrev pub decreases-loop-wanting : goal.decreases-loop-wanting
 decreases-loop-wanting l = length l.epoch.rows - l.prepared
 
--- the rows up to an index are written, there is room for the satellites of all,
--- and place for the others' lines
+-- the rows up to an index are written, and there is room for the satellites of all rows and space for the other lines
 abbrev pub invariant-loop-row : goal.invariant-loop-row
 invariant-loop-row l = record {
   written : AreRowsWritten (if l.in_full then no_tail else tail_of_history l.fn.self) (take l.index

@@ -11,11 +11,11 @@ use Rattle.crx_compact.proofs.history.History.end_rows.Goals.{After-bytes-2}
 use Rattle.crx_compact.proofs.history.History.end_rows.Goals as goal
 use Rattle.std.proofs.lemmas.Grind.{common_steps}
 
--- an empty text has room for a code
+-- an empty text has space for a coded value
 pub unwrap-requires : goal.unwrap-requires
 unwrap-requires c = search (rules, ok-unless, code_text_length)
 
--- the first lines are no longer than the text of an epoch
+-- the first lines are at most as long as an epoch text
 pub put_front-requires-clause-short : goal.put_front-requires-clause-short
 put_front-requires-clause-short c = search (rules, code_text, c.bytes.ensures.value, code_text_length)
 
@@ -24,7 +24,7 @@ marks : (c : After-bytes-2) → c.bytes-2.result.now
     ≡ text_difference (take c.self.inside.length c.self.inside.text) c.trim_end-next_text.result.now
 marks c = grind (arith, common_steps)
 
--- the new text is no longer than the text of an epoch
+-- the new text is at most as long as an epoch text
 pub put_front-requires-2-clause-short : goal.put_front-requires-2-clause-short
 put_front-requires-2-clause-short c = grind (arith, difference-length 3038)
 

@@ -21,7 +21,7 @@ row-requires c =
     )) in
     record { named = sound.named; allowed = sound.counted }
 
--- no identifier is there twice, so a row is refused for want of memory alone
+-- no identifier occurs twice, so a row is refused only if memory is
 pub returns-in-Err-clause-memory : goal.returns-in-Err-clause-memory
 returns-in-Err-clause-memory c =
     let index = c.loop-index.index in

@@ -8,7 +8,7 @@ use Rattle.crx_text.specs.meaning.Numbers as numbers
 use Rattle.crx_compact.proofs.history.History.print_first_line.Goals as goal
 use Rattle.std.proofs.lemmas.Grind.{common_steps}
 
--- the columns without their end blanks are no more than the columns
+-- the columns without the blanks at their end are no longer than the columns
 few : (text line : List ℕ) → line ≡ without_end_blanks (columns text 1 HEAD_WIDTH) → length line ≤ 41
 few text line is = omega (
   arith,

@@ -20,7 +20,7 @@ same : (c : After-bytes-text)
     ≡ satellites_of_text c.args.types.now c.bytes-text.result.now
 same c = grind (arith, common_steps)
 
--- the text is no longer than an epoch's
+-- the text is at most as long as an epoch text
 pub put_first-requires : goal.put_first-requires
 put_first-requires c =
     let at = (goal.at.put_first-requires c).After-bytes-text in
@@ -31,12 +31,12 @@ put_first-requires c =
     omega (arith, few, ap (λ (t : List ℕ). length t) (text at)) in
     search (rules, short)
 
--- the rows of the epoch before are awaited
+-- the rows of the previous epoch are expected
 awaited : (c : After-bytes-text) → c.begin.new.self.rest ≡ c.args.self.now.satellites.rows
 awaited c = ap (λ (p : PlacedRows). p.rest) c.begin.ensures.begun
     ∙ ap (λ (h : OpenHistory). h.satellites.rows) c.self.view_is
 
--- where no mark is in the columns of their identifiers, the text names the satellites that are awaited
+-- if no mark is in the columns of their identifiers, the text names the expected satellites
 pub read_satellites-requires-clause-named : goal.read_satellites-requires-clause-named
 read_satellites-requires-clause-named c both =
     let at = (goal.at.read_satellites-requires-clause-named c).After-bytes-text in

@@ -10,7 +10,7 @@ use Rattle.crx_compact.proofs.history.History.write_row.Goals.{After-unwrap-sate
 use Rattle.crx_compact.proofs.history.History.write_row.Goals as goal
 use Rattle.std.proofs.lemmas.Grind.{common_steps}
 
--- the satellite has come, or had come already, and nothing but the satellites has changed
+-- the satellite is added, or had a row already, and only the satellites have changed
 placed : (c : Joined-place) → IsPlaced c.args.name.now (length c.args.values.now) c.self.inside.satellites
     c.match-place.self-inside.satellites c.match-place.is_new
     × KeepsRooms c.self.inside.satellites.rooms c.match-place.self-inside.satellites.rooms
@@ -53,7 +53,7 @@ returns-then-not-is_new-clause-written c = λ after rows written.
       };
     }
 
--- what is stored of the satellite that has come
+-- the history of the satellite that was added
 stored : (c : After-unwrap-satellite) → HasCome c.args.name.now c.self.inside.satellites
     c.match-place.self-inside.satellites
     → IsLastStored c.args.name.now (c.placed-last.result - 1) c.self.inside.satellites

@@ -6,7 +6,6 @@ use Rattle.std.proofs.lemmas.List.{length-take}
 use Rattle.crx_compact.specs.{HeldRows.AreHeldFlags, Placing.SatelliteTail}
 use Rattle.crx_compact.proofs.satellite.SatelliteHistory.change_indicators.Goals as goal
 
--- the row's indicators are put
 put : (c : After-put_first) → take (2 * c.self-2.inside.count) c.put_first.new.bytes ≡ c.args.flags.now
 put c =
     let inside = c.self-2.inside in

@@ -2,7 +2,7 @@ use Rattle.std.specs.Prelude.{◌≡◌, ◌≤◌, ◌*◌, ◌-◌, ℕ, lengt
 use Rattle.crx_base.specs.declared.limits.TheConstants.{TYPES_LIMIT}
 use Rattle.crx_compact.proofs.satellite.SatelliteHistory.make_room.Given as goal
 
--- those that were there stay, and there is room for the others
+-- the old indicators stay, and there is room for the others
 abbrev pub invariant-loop-indicators : goal.invariant-loop-indicators
 invariant-loop-indicators l = record {
   within : length l.indicators.items ≤ 2 * l.count;

@@ -11,7 +11,7 @@ use Rattle.crx_text.specs.meaning.PrintedCells.{printed_cells}
 use Rattle.crx_compact.specs.Placing.{SatelliteTail, cells_for}
 use Rattle.crx_compact.proofs.satellite.SatelliteHistory.print_line.Goals as goal
 
--- its cells are those of its arcs, and the others
+-- its cells are those of its arcs, then empty ones
 cells : (c : After-self) → c.args.self.now.cells ≡ cells_for c.self.inside.count
     c.self.inside.arcs.items
 cells c = sym (ap (λ (t : SatelliteTail). t.cells) c.self.view_is)

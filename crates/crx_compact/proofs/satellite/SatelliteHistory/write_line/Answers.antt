@@ -7,7 +7,7 @@ use Rattle.crx_compact.specs.Cells.{codes_of_cells}
 use Rattle.crx_text.proofs.WrittenTexts.{line-written}
 use Rattle.crx_compact.proofs.satellite.SatelliteHistory.write_line.Goals as goal
 
--- it has as many types as the row
+-- it has the row's number of types
 marked : (c : After-self) → (cells_for (length c.args.values.now)
     c.self.inside.arcs.items
     ≡ cells_for (length c.args.values.now) c.args.self.now.cells)
