@@ -158,7 +158,7 @@ impl Block {
         ensures taken { HasTakenLine self.old self.new }
     {
         use_bytes(&mut self.bytes, self.filled, LINE_ROOM);
-        // Both are read before the line is written: no second load.
+        // Read before the line is written, because afterwards both would be loaded again.
         let start = self.filled;
         let bytes = self.bytes.as_mut_slice();
         let length = satellite.write_line(values, filled, flags, scratch, bytes, start);

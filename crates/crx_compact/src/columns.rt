@@ -123,7 +123,8 @@ impl Columns {
             ≡ Idle (Some (tail_after (tail_written_after full (tail_held self.old)) epoch))) }
         ensures refused { IfErr result (λ refused. (refused.0 ≡ epoch) × (refused.1 ≡ Fault.OutOfMemory)
             × (self.new ≡ self.old)) }
-        // By these two a file's compact text is made epoch by epoch. `epochs`: those so far, newest first.
+        // By these two clauses a file's compact text is made epoch by epoch. `epochs`: those so far, newest
+        // first.
         ensures left { (epochs : List Marked) → tail_held self.old ≡ tail_or_nothing epochs
             → OnOk result (self.new ≡ Idle
             (tail_or_nothing (record { in_full = full; epoch = epoch } ∷ epochs))) }

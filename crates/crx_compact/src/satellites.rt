@@ -134,9 +134,9 @@ impl Satellites {
                     self.next += 1;
                     return Some(true);
                 }
-                // Those before it are missing so far. If it is at the last place, a satellite that was
-                // absent took its own: the one that follows it is then the first without a row, which is
-                // moved to the last place here.
+                // The satellites before `next` have no row so far. If `next` is the last place, an absent
+                // satellite was put at the place of the expected one: then the satellite after that is the
+                // first without a row, which this moves to the last place.
                 exchange(&mut self.order, &mut self.places, self.placed, self.next);
                 self.placed += 1;
                 self.next = (self.next + 1).min(self.live - 1);

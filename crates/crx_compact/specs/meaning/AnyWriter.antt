@@ -66,18 +66,18 @@ epoch_now written = record {
   rows = map row_now written.rows;
 }
 
---- the epoch before a full one: an empty text, no arcs and no satellites
+--- the empty epoch, which a full epoch refers to: an empty text, no arcs and no satellites
 abbrev pub nothing_written : WrittenEpoch
 nothing_written = record { head = []; clock = None; rows = [] }
 
---- the epoch that an epoch line refers to: the empty one if the line begins with >, whichever epochs precede it; otherwise the epoch
---- before, or none
+--- the epoch that an epoch line refers to: the empty one if the line begins with >, whichever epochs precede it; otherwise the previous
+--- epoch, or none
 abbrev pub goes_on_from : Option WrittenEpoch → List ℕ → Option WrittenEpoch
 goes_on_from before line = if begins_epoch line then Some nothing_written else before
 
 -- ---- lines
 
---- a satellite's arc at a place, counted from 0, and its indicators in the epoch before; none if that epoch doesn't hold it
+--- a satellite's arc at a place, counted from 0, and its indicators in the previous epoch; none if that epoch doesn't hold it
 abbrev pub arc_in : Option WrittenRow → ℕ → Option Arc
 arc_in None place = None
 arc_in (Some row) place = slice_index_or row.arcs place None
@@ -113,7 +113,7 @@ pub record AreLinesAfter (before now : WrittenEpoch) (line clock : List ℕ) (ro
   pub follows : MayFollow before.clock now.clock
   pub satellites : AreRowLines before now.rows rows
 
---- the lines of epoch `now` after the epoch before, if there is one: `now` may always be full, and has to be if there is none
+--- the lines of epoch `now` after the previous epoch, if there is one: `now` may always be full, and has to be if there is none
 abbrev pub AreEpochLines : Option WrittenEpoch → WrittenEpoch → List (List ℕ) → Type 0
 AreEpochLines before now (line ∷ clock ∷ rows) =
     (base : WrittenEpoch) × (goes_on_from before line ≡ Some base) × AreLinesAfter base now line clock rows
