@@ -34,7 +34,7 @@ pub record IsOrder (order places : List ℕ) (count : ℕ) : Type 0 where
   pub forth : (place : ℕ) → place < count → slice_index_or places (slice_index_or order place 0) 0 ≡ place
   pub back : (index : ℕ) → index < count → slice_index_or order (slice_index_or places index 0) 0 ≡ index
 
--- the rows so far, of the first `placed` entries in an order, and those without one yet, up to the first `live`
+-- by an order of the entries: the rows so far, which are the first `placed`, and the rest, which goes up to `live`
 abbrev pub placed_rows : ℕ → ℕ → List Entry → List Entry → PlacedRows
 placed_rows placed live ordered entries =
     record {

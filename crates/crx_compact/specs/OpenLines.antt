@@ -25,7 +25,7 @@ IsSoundState SatelliteLine count history = IsAnnounced history × (count < lengt
 abbrev pub step_at : Expected → ℕ → OpenHistory → ReadLine → RawStep
 step_at expected count history line = step_in (columns_state true expected count history) line
 
--- a line of an open epoch was read, of whose rows `come` have been read now: more are expected, or the epoch is whole; the rows before the
+-- a line of an open epoch was read, with which `come` rows have been read: more are expected, or the epoch is whole; the rows before the
 -- last one stay
 pub record IsLineTaken (line : List ℕ) (expected : Expected) (count : ℕ) (history : OpenHistory)
     (after : Expected) (come : ℕ) (new : OpenHistory) (is_whole : Bool) : Type 0 where

@@ -127,7 +127,7 @@ pub record AsksRoom {E : Type 0} (has_room : List (List ℕ × ℕ) → Type 0) 
   pub asked : HasAskedRoom old new
   pub room : OnOk answer (has_room new.rooms)
 
--- a satellite has a row: it is the last one and has the satellite's history, and the others without a row keep theirs
+-- a satellite was added: its row, with its history, is the last one, and the rest has the same row of each other satellite
 pub record HasCome (name : List ℕ) (before after : PlacedRows) : Type 0 where
   pub rows : after.rows ≡ before.rows ++ row_or_blank name before.rest ∷ []
   pub others : (other : List ℕ) → bytes_eq other name ≡ false → row_tail_named other after.rest ≡ row_tail_named other before.rest
@@ -145,7 +145,7 @@ pub record IsUnplaced (name : List ℕ) (count : ℕ) (old new : PlacedRows) : T
   pub unchanged : new ≡ old
   pub known : HasRoom name count old.rooms → ⊥
 
--- whether the satellite is new, if it has a row now; no answer if it needs more room
+-- whether the satellite had no row; no answer if it needs memory first
 pub record AnswersPlacing (name : List ℕ) (count : ℕ) (old new : PlacedRows) (answer : Option Bool) : Type 0 where
   pub placed : IfSome answer (IsPlaced name count old new)
   pub unplaced : answer ≡ None → IsUnplaced name count old new

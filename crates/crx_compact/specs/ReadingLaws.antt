@@ -22,7 +22,7 @@ use Rattle.crx_compact.specs.OpenEpochs.{placed_as, held_after, place_of_step, p
 use Rattle.crx_compact.specs.OpenEpochs.{open_raw_with}
 use Rattle.crx_compact.specs.Laws.{AreWhole}
 
--- ---- reading what was written
+-- ---- reading the written text
 
 -- the compact lines of an epoch, as a reader of lines returns them
 abbrev pub lines_of_epoch : List Marked → List ReadLine
@@ -170,7 +170,7 @@ abbrev pub has_no_lines : List ReadLine → Bool
 has_no_lines [] = true
 has_no_lines (line ∷ lines) = false
 
--- all lines at once and line by line, the same is read, and the same tail is left
+-- some lines, read at once or line by line, have the same place and leave the same tail
 abbrev pub StepsAgree : List Count → Option Tail → List ReadLine → Type 0
 StepsAgree types tail lines = placed_as (held_after tail) (epoch_after types tail lines)
     ≡ place_by_steps types tail lines
@@ -180,7 +180,7 @@ abbrev pub WantedWhereOpen : List Count → Option Tail → List ReadLine → Ty
 WantedWhereOpen types tail lines =
     is_wanted (epoch_after types tail lines) ≡ (has_no_lines lines || is_some (open_raw_with types tail lines))
 
--- a step from an open epoch is the place of its lines with one more
+-- the step that one more line makes from an open epoch is the place of all its lines
 pub record StepFromOpen (types : List Count)
     (tail : Option Tail) (lines : List ReadLine) (line : ReadLine) (begun : OpenRawEpoch) : Type 0 where
   pub place : placed_as (held_after tail) (epoch_after types tail (lines ++ line ∷ []))
