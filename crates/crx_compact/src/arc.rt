@@ -152,7 +152,7 @@ impl<const WIDTH: usize> Arc<WIDTH> {
 
     /// Codes `value` like [`Arc::push`] if its coded value is a difference of order 3, and returns that
     /// difference: no loop, no other coded value to try, and the order and the count aren't written.
-    /// Returns `None` if the arc has another order or fewer values; then it is unchanged.
+    /// Returns `None` if the arc has another order or fewer than four values; then it is unchanged.
     #[inline(always)]
     pub(crate) fn push_third(&mut self, value: i64) -> Option<i64>
         requires { IsWithin WIDTH value }
@@ -219,7 +219,7 @@ impl<const WIDTH: usize> Arc<WIDTH> {
 
     /// Applies the difference `number` like [`Arc::apply`] if it is of order 3, and returns the value: no
     /// loop, and the order and the count aren't written. Returns `None` if the arc has another order or
-    /// fewer values, or if the value doesn't fit the columns; then it is unchanged.
+    /// fewer than four values, or if the value doesn't fit the columns; then it is unchanged.
     #[inline(always)]
     pub(crate) fn apply_third(&mut self, number: i64) -> Option<i64>
         requires { IsShort number }

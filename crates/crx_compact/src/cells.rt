@@ -148,7 +148,7 @@ fn read_cell_fast(arcs: &mut [ObsArc], index: usize, line: Padded<'_>, at: usize
     let characters = cell_length(line, at);
     let taken = characters + usize::from(at + characters < line.len());
     let arc = &mut arcs[index];
-    // Most cells aren't empty: only the others are tested.
+    // Most cells aren't empty: only those without a difference are tested for it.
     let Some(number) = step_of_length(line, at, characters) else {
         if characters == 0 {
             arc.end();
@@ -170,7 +170,7 @@ fn read_cell_fast(arcs: &mut [ObsArc], index: usize, line: Padded<'_>, at: usize
 /// The first cell with a fault decides: returns `BadField` if its text is no coded value, then `NoArc` and
 /// `OutOfRange` like [`ObsArc::apply`]. The arcs before it have then changed.
 ///
-/// The calls for the few other cells are in the loop, because a loop without calls was slower
+/// The calls for the few other cells are in the loop, because a loop without calls cost more
 /// (bench/README.md).
 #[inline(always)]
 pub(crate) fn read_cells(

@@ -78,7 +78,7 @@ row_of_cells past name marks cells =
       };
     }
 
--- a satellite's line, or its first fault: it begins an epoch, then the first cell with a fault decides, then the marks
+-- a satellite's line, or its first fault: of a line that begins an epoch, then of the first cell with a fault, then of the marks
 abbrev pub satellite_line_read : Past → Satellite → List ℕ → Result ReadRow Fault
 satellite_line_read past satellite line =
     if begins_epoch line then Err Truncated else
