@@ -1,4 +1,4 @@
-//! The check of a RINEX file, line by line: what a line adds to what is found.
+//! The check of a RINEX file, line by line.
 
 ghost use Rattle.std.specs.Option.{is_some};
 ghost use Rattle.std.specs.Prelude.{◌≡◌, ◌<◌, ◌+◌, ℕ, List, [], true, false};
@@ -34,32 +34,32 @@ use crx_text::columns::end_trimmed;
 use std::alloc::Global;
 use std::marker::Model;
 
-/// What a check has noted of the lines so far.
+/// The findings of a check so far, with its buffers.
 #[derive(Drop)]
 pub struct Noted {
-    /// The identifiers of the rows that have come of the last epoch with satellites.
+    /// The identifiers read so far of the last epoch that has satellites.
     names: Identifiers,
-    /// How many observations they have.
+    /// How many observations the rows of these satellites have.
     observed: u64,
     totals: Totals,
     /// The number of the first line that isn't standard.
     not_standard: Option<u64>,
-    /// A printed line.
+    /// The buffer for a printed line.
     text: Text,
 }
 
-/// What a check keeps between two lines.
+/// The state of a check between two lines.
 #[derive(Drop)]
 pub struct Checking {
     reader: RinexReader,
     noted: Noted,
-    /// How many lines of the report were handed out; all before the end.
+    /// How many lines of the report have been lent; before the end of the input, all of them.
     handed_out: usize,
 }
 
-/// Checks a RINEX file, whose lines it takes one at a time, and skips no fault, whatever its options are;
-/// once the whole input was accepted, the lines of the report are borrowed from it. The faults are those of
-/// a [`Compactor`](crate::Compactor).
+/// A check of a RINEX file that takes its lines one at a time. It skips no fault, whatever its options are.
+/// After the whole input was accepted, it lends the lines of the report. Its faults are the faults of a
+/// [`Compactor`](crate::Compactor).
 pub type Checker = Lender<Checking>;
 
 impl Model for Checking {
@@ -73,7 +73,8 @@ impl Model for Checking {
 }
 
 impl Noted {
-    /// Notes a row that the reader has taken, its epoch's last one or another.
+    /// Counts the observations of the reader's last row and, if `is_last`, the row's epoch. Then notes
+    /// whether `line`, from which the row was read, is standard.
     #[inline(always)]
     fn note_row(&mut self, reader: &RinexReader, is_last: bool, line: Line<'_>)
         requires behind { IsBehindARow self.old.observed (line_shown line).content reader.now }
@@ -103,8 +104,9 @@ impl Noted {
         self.not_standard = Some(line.number());
     }
 
-    /// Notes a line that the reader has taken and that is no row, by what it is; those that aren't of epochs
-    /// are copied.
+    /// Notes a line that isn't a satellite line: stores the version, or counts an event or an epoch without
+    /// satellites, and notes whether `line` is standard. Only an epoch line is compared with its printed
+    /// form, because all others are copied. `step`: the reader's answer to `line`.
     fn note(&mut self, reader: &RinexReader, step: RinexStep, line: Line<'_>)
         requires within { self.old.totals.epochs + self.old.totals.events < INPUT_LIMIT }
         requires held { step ≡ RinexStep.Begun → is_some reader.now.head ≡ true }
@@ -133,7 +135,7 @@ impl Noted {
                 } else {
                     self.totals.epochs += 1;
                 }
-                // Most epochs have no clock offset: their columns are printed as they are.
+                // Usually there is no clock offset, and the columns are the printed line.
                 if head.clock().is_none() {
                     line.bytes() == end_trimmed(head.columns(), 1, HEAD_WIDTH)
                 } else {
@@ -150,7 +152,7 @@ impl Noted {
     }
 }
 
-/// The options that every check goes by: none.
+/// Returns the options of every check: none is chosen.
 pub fn no_options() -> Options
     ensures value { result ≡ no_choices }
 {
@@ -278,7 +280,7 @@ impl Direction for Checking {
 }
 
 impl LineEngine<Checking> {
-    /// The number of the first line that isn't standard, among the lines so far.
+    /// Returns the number of the first line so far that isn't standard.
     pub fn not_standard(&self) -> Option<u64>
         ensures value { result ≡ self.now.direction.noted.not_standard }
     {

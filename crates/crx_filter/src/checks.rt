@@ -15,10 +15,10 @@ use crx_runs::start::start;
 use crx_runs::{Outcome, Run};
 use std::alloc::Global;
 
-/// Checks a RINEX file: writes its report once the whole input is accepted, and else reports the fault that
-/// ended the check. The status is 0 where the file is standard, 2 where it isn't, and 1 after a fault: one of
-/// a line, or `ReadFailed`, `WriteFailed`, `InputTooLong` and `OutOfMemory` where a device or memory failed
-/// or the input is longer. A file with status 0 comes back from its compact text byte for byte.
+/// Checks a RINEX file and writes its report after the whole input was accepted, or reports the fault that
+/// ended the check. The status is 0 if the file is standard, 2 if it isn't, and 1 after a fault. A fault is
+/// an error in a line, or `ReadFailed`, `WriteFailed` or `OutOfMemory` if a device or memory failed, or
+/// `InputTooLong`. A file with status 0 is restored byte for byte from its compact text.
 #[inline(never)]
 pub fn check<R: Source, W: Sink, M: Sink>(
     alloc: Global,
@@ -43,7 +43,7 @@ pub fn check<R: Source, W: Sink, M: Sink>(
             Ok(input) => {
                 let mut begun = Run::over(engine, input);
                 let Outcome { status, fault } = run(&mut begun, reader, writer, messages);
-                // If no fault has ended it, the status says whether the file is standard.
+                // If no fault has ended the run, the status says whether the file is standard.
                 let status = match (fault, begun.engine().not_standard()) {
                     (None, None) => 0,
                     (None, Some(_)) => 2,

@@ -1,5 +1,5 @@
-//! Compact RINEX 3.0, one line at a time: what each line is, the observation types in force, and the epoch
-//! whose lines come.
+//! Compact RINEX 3.0, one line at a time: the kind of each line, the observation types in force, and the open
+//! epoch.
 
 ghost use Rattle.std.specs.Prelude.{◌≡◌, ◌≢◌, ◌≤◌, ◌⊎◌, if◌then◌else◌, [], true, false, length};
 ghost use Rattle.crx_base.specs.declared.limits.TheConstants.{LINE_LIMIT};
@@ -22,7 +22,7 @@ use crx_header::{Types, is_labelled};
 use crx_rinex::{begins_epoch, is_event_line};
 use crx_text::columns::trimmed;
 
-/// Reads compact text one line at a time.
+/// A reader of compact text, one line at a time.
 #[derive(Drop)]
 pub struct CompactReader {
     pub stage: Stage,
@@ -35,10 +35,10 @@ impl CompactReader {
     ghost use Rattle.crx_base.specs.Padded.{line_in};
     ghost use Rattle.crx_filter.specs.CompactReaders.{ReadsCompactLine, line_copied};
 
-    /// Takes a line of the epoch that is open. `true` says that it is the last one, and that the lines of the
-    /// epoch are ready.
+    /// Reads a line of the open epoch. `Ok(true)`: it was the last one, and the epoch's lines of RINEX are
+    /// ready.
     ///
-    /// The refusals are those of [`Columns::feed_into`].
+    /// Returns the faults of [`Columns::feed_into`]; after a fault no epoch is open.
     #[inline(always)]
     pub(crate) fn go_on(&mut self, line: Padded<'_>, lines: &mut Block) -> Result<bool, Fault>
         requires open { self.old.stage ≡ Open }
@@ -61,21 +61,21 @@ impl CompactReader {
         }
     }
 
-    /// Takes a line where no epoch is open; `true` says that it is copied into RINEX as it is.
+    /// Reads a line when no epoch is open. `Ok(true)`: the line is copied into RINEX as it is.
     ///
-    /// `NotCompact` comes where the first line isn't that of Compact RINEX 3.0, `BadProgLine` where the
-    /// second one has another label. In the header the faults of its first line come first, then
-    /// `BadTypesLine`; among an event's records `BadTypesLine`, where types lines count. Where an epoch or an
-    /// event may begin, `BadEpoch` comes where an event's count is none; then the refusals of
-    /// [`Columns::begin`]. `OutOfMemory` comes only at a line without a fault: the first types line that
-    /// counts, and an epoch's first line.
+    /// Returns `NotCompact` if the first line isn't the first line of Compact RINEX 3.0, and `BadProgLine` if
+    /// the second line has another label; in the header the faults of its first line, then `BadTypesLine`;
+    /// among an event's records `BadTypesLine`, if types lines count there; when an epoch or an event may
+    /// begin, `BadEpoch` if an event's count is malformed, or the faults of [`Columns::begin`]. `OutOfMemory`
+    /// is returned only at a line without a fault: the first types line that counts, or an epoch's first
+    /// line.
     #[inline(never)]
     pub(crate) fn read_between(&mut self, line: &[u8]) -> Result<bool, Fault>
         requires running { is_ended self.old.stage ≡ false }
         requires between { self.old.stage ≢ Open }
         requires short { length line.now ≤ LINE_LIMIT }
         ensures reads { ReadsCompactLine self.old line.now result (line_copied line.now result) self.new }
-        // Of an epoch that the line begins no line is printed yet.
+        // If the line begins an epoch, none of the epoch's lines is printed yet.
         ensures unprinted { (block : PendingLines) → is_open_stage self.new.stage ≡ true
             → ArePrinted self.new.columns.value block }
     {
@@ -115,7 +115,8 @@ impl CompactReader {
         }
     }
 
-    /// Takes a line where an epoch or an event may begin; `true` says that it is an event's.
+    /// Reads a line that may begin an epoch or an event. `Ok(true)`: it begins an event. Returns `BadEpoch`
+    /// if an event's count is malformed, and the faults of [`Columns::begin`].
     #[inline(never)]
     fn begin(&mut self, line: &[u8]) -> Result<bool, Fault>
         requires stage { (self.old.stage ≡ Between)

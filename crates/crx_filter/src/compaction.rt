@@ -1,4 +1,4 @@
-//! Compaction, line by line: what a line of RINEX makes.
+//! Compaction of RINEX, line by line.
 
 ghost use Rattle.std.specs.Prelude.{◌≡◌, [], Some, IfOk, IfErr, true};
 ghost use Rattle.crx_base.specs.Padded.{line_in};
@@ -19,7 +19,7 @@ use crx_runs::HandedOut;
 use std::alloc::Global;
 use std::marker::Model;
 
-/// What a compaction keeps between two lines.
+/// The state of a compaction between two lines.
 #[derive(Drop)]
 pub struct Compaction {
     /// How many epochs were accepted.
@@ -28,16 +28,16 @@ pub struct Compaction {
     encoder: Encoder,
 }
 
-/// Makes Compact RINEX 3.0 of the lines of a RINEX file, which it takes one at a time; the lines to be
-/// written are borrowed from it.
+/// A compaction into Compact RINEX 3.0. It takes the lines of a RINEX file one at a time and lends the
+/// compact lines.
 ///
-/// The faults of a line are in the header `MissingVersion`, `UnsupportedVersion` and `NotObservation` at the
-/// first line, and `BadTypesLine`; `BadTypesLine` among an event's records, where types lines count; and
-/// where faults aren't skipped `NotAnEpoch`, `BadEpoch` and `BadClock` where an epoch or an event may begin,
-/// and `Truncated`, `BadSatellite`, `BadField`, `BadFlags` and `RepeatedSatellite` in an epoch. `OutOfMemory`
-/// comes only where a growth was refused, at a types line that counts or in an epoch. At the end the fault is `MissingVersion` before the first line,
-/// `NoEndOfHeader` in the header, `Truncated` among an event's records, and in an epoch where faults aren't
-/// skipped.
+/// The faults of a line are `MissingVersion`, `UnsupportedVersion` and `NotObservation` at the first line;
+/// `BadTypesLine` in the header, and among an event's records if types lines count there; and, unless faults
+/// are skipped, `NotAnEpoch`, `BadEpoch` and `BadClock` when an epoch or an event may begin, and `Truncated`,
+/// `BadSatellite`, `BadField`, `BadFlags` and `RepeatedSatellite` in an epoch. `OutOfMemory` is returned only
+/// if a growth was refused, at a types line that counts or in an epoch. At the end the fault is
+/// `MissingVersion` before the first line, `NoEndOfHeader` in the header, and `Truncated` among an event's
+/// records and, unless faults are skipped, in an epoch.
 pub type Compactor = Lender<Compaction>;
 
 impl Model for Compaction {
@@ -50,7 +50,7 @@ impl Model for Compaction {
     ghost invariant = { λ c. BelongTogether c.reader c.encoder };
 }
 
-/// Whether an epoch of this index, from 0, is in full because the user wants one at every so many.
+/// Returns whether the user's choice of `every` makes the epoch at `index`, counted from 0, a full one.
 fn is_at_every(every: Option<u32>, index: u64) -> bool
     ensures { result ≡ is_at_every every index }
 {
@@ -60,8 +60,9 @@ fn is_at_every(every: Option<u32>, index: u64) -> bool
     }
 }
 
-/// Takes a line of an open epoch, whose row is written as soon as it is read: `true` says that it is the
-/// epoch's last. After a want of memory the open epoch is forgotten.
+/// Reads a satellite line of the open epoch and encodes its row. `Ok(true)`: it was the epoch's last. Returns
+/// the faults of [`RinexReader::read_row`], `RepeatedSatellite`, and `OutOfMemory`, after which the open
+/// epoch is dropped.
 #[inline(always)]
 fn compact_row(
     reader: &mut RinexReader,
@@ -81,14 +82,14 @@ fn compact_row(
         Ok(true) => Ok(reader.take_row()),
         Ok(false) => Err(Fault::RepeatedSatellite),
         Err(refused) => {
-            // The encoder has forgotten the open epoch.
+            // The encoder has dropped the open epoch.
             reader.stage = Stage::Looking;
             Err(Fault::from(refused))
         }
     }
 }
 
-/// Makes the compact lines of an epoch whose rows have all come.
+/// Makes the compact lines of an epoch whose rows have all been encoded.
 fn end_epoch(reader: &RinexReader, encoder: &mut Encoder)
     requires whole { HasWholeEpoch reader.now encoder.old }
     ensures ends { (head : ObservationHead) → reader.now.head ≡ Some head → EndsEpoch head encoder.old encoder.new }
@@ -147,7 +148,7 @@ impl Direction for Compaction {
     }
 
     fn new(alloc: Global) -> Result<Compaction, Refused> {
-        // `?` would clear a place as long as an encoder.
+        // `?` would need a temporary as large as an encoder.
         match Encoder::new(alloc) {
             Ok(encoder) => Ok(Compaction {
                 index: 0,

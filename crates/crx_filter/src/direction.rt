@@ -1,4 +1,4 @@
-//! What differs between the directions of an engine.
+//! The part of an engine that differs by direction.
 
 ghost use Rattle.std.specs.Prelude.{◌≡◌, ◌≤◌, ◌↔◌, ℕ, Bool, List, [], None, drop, slice_get, Result, if◌then◌else◌, is_some, IfErr, IfOk, OnErr, IfSome, IsTrue, true, false};
 ghost use Rattle.std.specs.Borrow.{sem};
@@ -22,18 +22,17 @@ use crx_lines::Line;
 use crx_runs::HandedOut;
 use std::alloc::Global;
 
-/// A direction of an engine: what it makes of a line, what it forgets after a fault, and the lines that are
-/// ready.
+/// A direction of an engine: compaction, expansion or check.
 pub trait Direction: Drop {
-    // What a whole epoch gives, the state of an open one, and that of the epochs before.
+    // A whole epoch, the state of an open one, and the state kept from the epochs before.
     ghost Whole: { Type 0 };
 
     ghost Open: { Type 0 };
 
     ghost Kept: { Type 0 };
 
-    // The direction that it is line by line, the user's choices as it takes them, the state after some lines,
-    // the lines that it hands out at a good end after them, and what it writes and reports.
+    // The direction's definition line by line, the user's options as it uses them, its state after some
+    // lines, the lines that it makes ready if the input ends without a fault, and its output and messages.
     ghost by_line: { DirectionByLine Whole Open Kept };
 
     ghost chosen: { Choices → Choices };
@@ -44,39 +43,39 @@ pub trait Direction: Drop {
 
     ghost filter: { Choices → Filter };
 
-    // What it has between two lines.
+    // Its state between two lines.
     ghost parts: { Self → DirectionParts Open Kept };
 
-    // The lines that are pending, and those that a good end would make ready.
+    // The pending lines, and the lines that an end without a fault would make ready.
     ghost ready: { Self → List (List ℕ) };
 
     ghost closing: { Self → List (List ℕ) };
 
-    // How many units it has counted, at most one a line.
+    // How many units it has counted, at most one per line.
     ghost counted: { Self → ℕ };
 
-    // Whether what it has open was begun by these choices; so it is where nothing is open.
+    // Whether the open epoch was begun with these options; true if no epoch is open.
     ghost was_begun_by: { Self → Choices → Bool };
 
-    // Whether it takes memory before the first line.
+    // Whether it allocates memory before the first line.
     ghost takes_at_start: { Bool };
 
-    // What a check has noted of these lines, taken by these choices; other directions have nothing to say.
+    // A check's notes are right for these lines, read with these options; trivial for other directions.
     ghost notes: { Self → Choices → List InputLine → Type 0 };
 
-    // At a good end its report is that of these lines; a direction without one has nothing to say.
+    // After an end without a fault its report is the report of these lines; trivial without a report.
     ghost report_is: { Self → List InputLine → Type 0 };
 
-    // One that skips faults has nothing to find.
+    // If faults are skipped, nothing has to be known about the report.
     ghost skipping: { (d : Self) (choices : Choices) (lines : List InputLine)
         → chosen choices ≡ choices → choices.skip ≡ true → report_is d lines };
 
-    /// The user's choices, as it takes them.
+    /// Returns the user's options as the direction uses them.
     fn chosen(options: Options) -> Options
         ensures value { result ≡ chosen options }
         ensures same { chosen result ≡ result };
 
-    /// A direction before the first line of its input.
+    /// Returns a direction before the first line of its input, or `Refused`.
     fn new(alloc: Global) -> Result<Self, Refused>
         ensures state { (choices : Choices) → chosen choices ≡ choices
             → IfOk result (λ d. state_by choices 0 (parts d) ≡ state_after_lines choices []) }
@@ -86,14 +85,14 @@ pub trait Direction: Drop {
         ensures knows { (choices : Choices) → IfOk result (λ d. notes d choices []) }
         ensures asked { OnErr result (takes_at_start ≡ true) };
 
-    /// Where it is between two lines.
+    /// Returns the stage between two lines.
     fn stage(&self) -> Stage
         ensures value { result ≡ (parts self.now).stage }
         ensures held { is_held result (parts self.now).begun ≡ true }
         ensures lawful { IsLawfulDirection by_line chosen closing_after state_after_lines filter }
         ensures passes { KnowsStill by_line chosen state_after_lines (parts self.now) (notes self.now) };
 
-    /// Takes a line of an open epoch: `true` says that lines are ready.
+    /// Takes a line of the open epoch. `Ok(true)`: lines are ready. Returns the line's fault.
     fn take_in_epoch(&mut self, line: Line<'_>) -> Result<bool, Fault>
         requires open { is_open_stage (parts self.old).stage ≡ true }
         requires asked { AwaitsLine (ready self.old) (counted self.old) }
@@ -102,8 +101,8 @@ pub trait Direction: Drop {
             result (ready self.new) (parts self.new) (was_begun_by self.new) (counted self.old) (counted self.new)
             (notes self.old) (notes self.new) };
 
-    /// Takes a line where no epoch is open, and answers what it hands out: a line that is copied, after those
-    /// that are ready.
+    /// Takes a line when no epoch is open, and returns its output: nothing, the ready lines, or these and
+    /// then the line itself. Returns the line's fault.
     fn take_elsewhere(&mut self, options: &Options, line: Line<'_>) -> Result<HandedOut, Fault>
         requires running { is_ended (parts self.old).stage ≡ false }
         requires closed { is_open_stage (parts self.old).stage ≡ false }
@@ -113,7 +112,7 @@ pub trait Direction: Drop {
             (hands_out result) (handed_out_by result (line_shown line.entry).content (ready self.new)) (parts self.new)
             (was_begun_by self.new) (counted self.old) (counted self.new) (notes self.old) (notes self.new) };
 
-    /// Goes to a stage after a fault, and forgets the epochs before, but not what is noted of lines.
+    /// Enters `stage` after a fault and drops all epochs, but not the notes of a check.
     fn end_with(&mut self, stage: Stage)
         requires settled { is_settled stage ≡ true }
         requires drained { ready self.old ≡ [] }
@@ -126,7 +125,7 @@ pub trait Direction: Drop {
         ensures stays { (choices : Choices) (lines : List InputLine)
             → notes self.old choices lines → notes self.new choices lines };
 
-    /// Takes a good end of the input: `true` says that lines are ready.
+    /// Ends the input without a fault. `true`: lines are ready.
     fn conclude(&mut self) -> bool
         requires running { is_ended (parts self.old).stage ≡ false }
         requires good { fault_at_end_in (bare_phase (parts self.old).stage) ≡ None }
@@ -141,19 +140,19 @@ pub trait Direction: Drop {
             → notes self.old choices lines
             → (closing self.old ≡ closing_after choices lines) × report_is self.new lines };
 
-    /// Whether none of the lines that were ready is pending.
+    /// Returns whether no ready line is pending.
     fn is_drained(&self) -> bool
         ensures value { IsTrue result ↔ (ready self.now ≡ []) };
 
-    /// Borrows the next of the lines that are ready, without its line end; `None` once none is pending.
+    /// Lends the next ready line, without its line end; `None` if none is pending.
     fn next_line(&mut self) -> Option<&[u8]>
         ensures value { option_copied result ≡ slice_get (ready self.old) 0 }
         ensures* after_borrow { sem 𝓛 (Rests Self.row self.entry (λ new.
             (ready new ≡ drop 1 (ready self.old)) × KeepsAllBeside (parts self.old) (parts new) (counted self.old) (counted new)
             (was_begun_by self.old) (was_begun_by new) (notes self.old) (notes new) (report_is self.old) (report_is new))) };
 
-    /// Borrows all lines that are ready as one text, each followed by LF; after `None` they stay, and
-    /// [`Direction::next_line`] gives them.
+    /// Lends all ready lines as one text, each followed by LF. After `None` they stay pending, for
+    /// [`Direction::next_line`].
     fn take_text(&mut self) -> Option<&[u8]>
         ensures value { IfSome result (λ text. text.now ≡ lines_text (ready self.old)) }
         ensures* after_borrow { sem 𝓛 (Rests Self.row self.entry (λ new.

@@ -1,5 +1,4 @@
-//! Engines of every direction, as runs have them: they take the lines of an input one at a time, and answer
-//! what is to be written.
+//! Engines of every direction, as runs use them.
 
 ghost use Rattle.std.specs.Prelude.{◌≡◌, ◌≤◌, true};
 ghost use Rattle.crx_base.specs.declared.limits.TheConstants.{INPUT_LIMIT, LINE_LIMIT};
@@ -14,16 +13,16 @@ use crx_runs::{HandedOut, Step};
 use std::alloc::Global;
 use std::marker::Model;
 
-/// An engine of a direction, as a run has it: it takes the lines of an input one at a time. The lines that it
-/// makes are borrowed from it. A line that is copied it hands out as it is, and keeps none; a
-/// [`Lender`](crate::lender::Lender) keeps a copy.
+/// An engine of one direction, as a run uses it. It takes the lines of an input one at a time and lends the
+/// lines that it makes. A copied line isn't kept but output as it is; a [`Lender`](crate::lender::Lender)
+/// keeps a copy.
 #[derive(Drop)]
 pub struct LineEngine<D: Direction> {
     options: Options,
-    /// The number of the last line that counts.
+    /// The number of the last line that counts: a line that has to be fed again doesn't.
     number: u64,
     pub(crate) direction: D,
-    /// The answer to the line with a fault that was taken last.
+    /// The answer to the last line that had a fault.
     answer: Result<Step, At>,
 }
 
@@ -52,14 +51,15 @@ impl<D: Direction> LineEngine<D> {
     ghost use Rattle.crx_filter.specs.declared.stage.Stage.{Stage};
     ghost use Rattle.crx_runs.specs.Engines.{IsNextLine, Stays, answer_given, lines_handed_out};
 
-    /// Returns an engine before the first line of its input, with the memory that its direction begins with.
+    /// Returns an engine before the first line of its input. Returns `Refused` if the direction's memory is
+    /// refused.
     pub fn new(alloc: Global, options: Options) -> Result<LineEngine<D>, Refused>
         ensures state { IfOk result (λ e. engine_state D.Direction e ≡ D.state_after_lines (D.chosen options) []) }
         ensures drained { IfOk result (λ e. engine_ready D.Direction e ≡ []) }
         ensures knows { IfOk result (λ e. D.notes e.direction e.options []) }
         ensures asked { OnErr result (D.takes_at_start ≡ true) }
     {
-        // `?` would clear a place as long as a direction, and copy the direction out of it.
+        // `?` would need a temporary as large as a direction.
         match D::new(alloc) {
             Ok(direction) => Ok(LineEngine {
                 options: D::chosen(options),
@@ -71,9 +71,9 @@ impl<D: Direction> LineEngine<D> {
         }
     }
 
-    /// Stores the answer to a fault of the line that was counted last: it is given whether the stage may be
-    /// skipped and is that of an open epoch, and whether reading may go on at the line. A place for the stage
-    /// would be cleared at every line, by 2 instructions.
+    /// Stores the answer to `fault` in the current line. `skips`: faults may be skipped at this stage;
+    /// `is_open`: an epoch is open; `goes_on`: reading may resume at this line. Flags instead of the stage
+    /// need no temporary at each line.
     #[cold]
     #[inline(never)]
     fn fail(&mut self, skips: bool, is_open: bool, fault: Fault, goes_on: bool)
@@ -95,16 +95,15 @@ impl<D: Direction> LineEngine<D> {
             self.answer = Err(notice);
             return;
         }
-        // A line that is to come again doesn't count yet.
+        // A line that has to be fed again doesn't count yet.
         let again = is_open & goes_on;
         self.direction.end_with(Stage::Looking);
         self.number -= u64::from(again);
         self.answer = Ok(Step::Warned { notice, again });
     }
 
-    /// Takes a line: see [`Lender::feed`](crate::lender::Lender::feed). It answers what the line hands out;
-    /// `None` after a fault, to which the answer is stored, and asked for by another call. An answer that
-    /// held a notice would be copied from call to call at every line.
+    /// Takes a line as [`Lender::feed`](crate::lender::Lender::feed) does and returns its output. After a
+    /// fault it stores the answer and returns `None`: no notice is copied per line.
     #[inline(always)]
     pub(crate) fn answer_line(&mut self, line: Line<'_>) -> Option<HandedOut>
         requires next { IsNextLine (engine_ready D.Direction self.old) self.old.number (line_number line) }
@@ -121,15 +120,15 @@ impl<D: Direction> LineEngine<D> {
             Ok(false) => Some(HandedOut::Nothing),
             Ok(true) => Some(HandedOut::Lines),
             Err(fault) => {
-                // An open epoch may be skipped.
+                // Faults may be skipped in an open epoch.
                 self.fail(true, true, fault, begins_epoch(line.bytes()));
                 None
             }
         }
     }
 
-    /// Takes a line where no epoch is open as [`LineEngine::answer_line`] does, by its parts. An answer
-    /// that took its place within that one, or a place for the line, would be set to zero at every line.
+    /// Takes a line when no epoch is open, as [`LineEngine::answer_line`] does. A separate call that gets the
+    /// line's parts needs no temporary at each line.
     #[inline(never)]
     fn take_between(
         &mut self,
@@ -164,8 +163,8 @@ impl<D: Direction> LineEngine<D> {
         }
     }
 
-    /// Takes a line that is too long, by its number: it has the fault `LineTooLong`, unless a line that
-    /// begins with `>` is looked for: then it is passed over.
+    /// Takes line `number`, which is too long. Returns the answer to the fault `LineTooLong`, or `Quiet` if
+    /// the engine is looking for a line that begins with `>`.
     pub(crate) fn overlong(&mut self, number: u64) -> Result<Step, At>
         requires next { IsNextLine (engine_ready D.Direction self.old) self.old.number number }
         ensures steps { step_made result [] (engine_state D.Direction self.new)
@@ -188,8 +187,9 @@ impl<D: Direction> LineEngine<D> {
         }
     }
 
-    /// Takes the end of the input. Lines are ready then where its direction hands out some at a good end, as
-    /// a check does.
+    /// Takes the end of the input. `Ready`: the direction has lines if the input ends without a fault, as a
+    /// check does. `Warned`: the fault at the end is skipped. Returns the fault at the end, or the fault that
+    /// had ended the run.
     pub(crate) fn end(&mut self) -> Result<Step, At>
         requires drained { engine_ready D.Direction self.old ≡ [] }
         ensures takes { TakesEnd D.Direction self.old result (engine_ready D.Direction self.new) self.new }

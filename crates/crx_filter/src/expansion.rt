@@ -1,4 +1,4 @@
-//! Expansion, line by line: what a line of compact text makes.
+//! Expansion of compact text, line by line.
 
 use crate::compact_reader::CompactReader;
 use crate::direction::Direction;
@@ -13,11 +13,11 @@ use crx_runs::HandedOut;
 use std::alloc::Global;
 use std::marker::Model;
 
-/// What an expansion keeps between two lines.
+/// The state of an expansion between two lines.
 #[derive(Drop)]
 pub struct Expansion {
     reader: CompactReader,
-    /// The lines that are ready, or those of the open epoch that are printed already.
+    /// The ready lines, or the lines already printed of the open epoch.
     lines: Block,
 }
 
@@ -31,21 +31,22 @@ impl Model for Expansion {
 
     ghost view = { λ e. record { reader = e.reader; lines = e.lines } };
 
-    // Of an open epoch what can be printed is printed.
+    // If an epoch is open, all of its lines that can be printed are printed.
     ghost invariant = { λ e. is_open_stage e.reader.stage ≡ true → ArePrinted e.reader.columns.value e.lines };
 }
 
-/// Makes RINEX of the lines of Compact RINEX 3.0, which it takes one at a time; the lines to be written are
-/// borrowed from it.
+/// An expansion of Compact RINEX 3.0 into RINEX. It takes the compact lines one at a time and lends the lines
+/// of RINEX.
 ///
-/// The faults of a line are those of the first two lines, `NotCompact` and `BadProgLine`; `MissingVersion`,
+/// The faults of a line are `NotCompact` and `BadProgLine` at the first two lines; `MissingVersion`,
 /// `UnsupportedVersion`, `NotObservation` and `BadTypesLine` in the header; `BadTypesLine` among an event's
-/// records, where types lines count; and where faults aren't skipped those of an event's first line and of
-/// [`Columns::begin`](crx_compact::Columns::begin) and [`Columns::feed`](crx_compact::Columns::feed).
-/// `OutOfMemory` comes only at a line without a fault: the first types line that counts, and the first line
-/// of an epoch with a satellite that no accepted epoch had with as many types. At the end the fault is
-/// `NotCompact` before the first line, `BadProgLine` before the second, `MissingVersion` before the header,
-/// `NoEndOfHeader` in it, `Truncated` among an event's records, and in an epoch where faults aren't skipped.
+/// records, if types lines count there; and, unless faults are skipped, the faults of an event's first line,
+/// of [`Columns::begin`](crx_compact::Columns::begin) and of [`Columns::feed`](crx_compact::Columns::feed).
+/// `OutOfMemory` is returned only at a line without a fault: the first types line that counts, or the first
+/// line of an epoch with a satellite that no accepted epoch had with the same number of types. At the end the
+/// fault is `NotCompact` before the first line, `BadProgLine` before the second, `MissingVersion` before the
+/// header, `NoEndOfHeader` in it, and `Truncated` among an event's records and, unless faults are skipped, in
+/// an epoch.
 pub type Expander = Lender<Expansion>;
 
 impl Direction for Expansion {

@@ -1,4 +1,4 @@
-//! Both filters over a whole input.
+//! Whole runs of both filters.
 
 ghost use Rattle.std.specs.Prelude.{◌≡◌, None};
 ghost use Rattle.crx_filter.specs.meaning.Accounts.{AccountsForFile, AccountsForText, HasShortBlocks};
@@ -26,17 +26,19 @@ use crx_runs::Outcome;
 use crx_runs::start::start;
 use std::alloc::Global;
 
-/// Compacts a RINEX 3.0x observation file into Compact RINEX 3.0: reads it once from front to back, writes
-/// each line as soon as it is ready, and reports warnings and the fault that ends the run, one line each.
+/// Compacts a RINEX 3.0x observation file into Compact RINEX 3.0. It reads the file once from front to back,
+/// writes each line as soon as it is ready, and reports warnings and the fault that ends the run, one line
+/// each.
 ///
-/// Where no device failed and memory didn't run out, the output, the messages, the status and the fault are
-/// those of the compaction of the whole input, of at most [`INPUT_LIMIT`](crx_base::limits::INPUT_LIMIT)
-/// bytes. `ReadFailed`, `WriteFailed`, `InputTooLong` and `OutOfMemory` come where a device or memory failed
-/// or the input is longer; what was written by then is a prefix of the defined output.
+/// If no device failed and memory didn't run out, the output, the messages, the status and the fault are
+/// exactly those of the compaction of the whole input, of at most
+/// [`INPUT_LIMIT`](crx_base::limits::INPUT_LIMIT) bytes. If a device or memory failed or the input is longer,
+/// the fault is `ReadFailed`, `WriteFailed`, `OutOfMemory` or `InputTooLong`, and the output is a prefix of
+/// the defined output.
 ///
-/// Of the RINEX text of units that make a file it writes their compact text. Files that have the same normal
-/// form have the same compact text. If no fault ends the run, each unit is what is read from its own lines, and
-/// a warning drops the others, never past the next `>`. The file without the dropped lines has no fault.
+/// The RINEX text of units that make a file becomes their compact text. Files with the same normal form have
+/// the same compact text. If no fault ends the run, each unit is read from its own lines, and a warning drops
+/// the other lines, never past the next `>`. The file without the dropped lines has no fault.
 #[inline(never)]
 pub fn compact<R: Source, W: Sink, M: Sink>(
     alloc: Global,
@@ -71,19 +73,15 @@ pub fn compact<R: Source, W: Sink, M: Sink>(
     )
 }
 
-/// Expands Compact RINEX 3.0 into RINEX 3.0x, in the same way; of the options it uses alone whether faults
-/// are skipped.
+/// Expands Compact RINEX 3.0 into RINEX 3.0x, in the same way: under the conditions of [`compact`] the
+/// output, the messages, the status and the fault are those of the expansion of the whole input. The only
+/// option that it uses is whether faults are skipped.
 ///
-/// Where no device failed and memory didn't run out, the output, the messages, the status and the fault are
-/// those of the expansion of the whole input, of at most [`INPUT_LIMIT`](crx_base::limits::INPUT_LIMIT)
-/// bytes. `ReadFailed`, `WriteFailed`, `InputTooLong` and `OutOfMemory` come where a device or memory failed
-/// or the input is longer; what was written by then is a prefix of the defined output.
-///
-/// A file that a check passes comes back from its compact text byte for byte, and of the compact text of
-/// units that make a file it writes their RINEX text. Compact text that follows the format is read as what it
-/// means, whoever wrote it, and nothing else ends with status 0. Whatever text is expanded, what is written
-/// without a fault is a standard file, unless a line of it ends in CR. Then each unit is what is read from its own
-/// lines after the first two, and a warning drops the others, never past the next `>`.
+/// A file that passes a check is restored byte for byte from its compact text, and the compact text of units
+/// that make a file becomes their RINEX text. Compact text that follows the format is read as it means,
+/// whoever wrote it, and no other text ends with status 0. If no fault ends the run, whatever the text, the
+/// output is a standard file unless a line of it ends in CR. Then each unit is read from its own lines after
+/// the first two, and a warning drops the other lines, never past the next `>`.
 #[inline(never)]
 pub fn expand<R: Source, W: Sink, M: Sink>(
     alloc: Global,

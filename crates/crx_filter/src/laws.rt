@@ -1,4 +1,4 @@
-//! Laws over the definitions of this crate: each is the contract of a function that does nothing.
+//! Laws about the definitions of this crate: each is the contract of a function without code.
 
 ghost use Rattle.std.specs.Prelude.{◌≡◌};
 ghost use Rattle.crx_filter.specs.Holdings.{options_with, rinex_reader_with, compaction_with, compaction_inside_with, compact_reader_with, compacting_engine_with, engine_inside_with, expanding_engine_with, expansion_with, expansion_inside_with, checking_engine_with, checking_with, checking_inside_with, lender_inside_with};
@@ -14,15 +14,15 @@ ghost use Rattle.crx_filter.specs.declared.lender.Lender.TheInside.{Inside as Le
 ghost use Rattle.crx_filter.specs.declared.checking.Checking.TheInside.{Inside as CheckingInside};
 ghost use Rattle.crx_filter.specs.CheckingParts.{CheckingState};
 
-/// What the parts of engines hold, each in full: one that takes over these parts of another is that other. So
-/// there is no part beside them, in which a record of the past lines could grow.
+/// Says that the parts of engines hold nothing but the named fields: a value that takes over these fields
+/// from another equals the other. So no further field exists in which a record of past lines could grow.
 pub fn readers_hold()
     ensures options { (one other : OptionsInside) → options_with one other ≡ other }
     ensures reader { (one other : RinexReader) → rinex_reader_with one other ≡ other }
 {}
 
-/// What an engine holds, in full: one that takes over these parts of another is that other. So there is no
-/// part beside them, in which a record of the past lines could grow.
+/// Says the same of engines and their named parts: no further part exists in which a record of past lines
+/// could grow.
 pub fn engines_hold()
     ensures compaction { (one other : CompactionInside) → compaction_inside_with one other ≡ other }
     ensures compacting { (one other : EngineInside CompactionState)

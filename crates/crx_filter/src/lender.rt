@@ -1,5 +1,4 @@
-//! Engines of every direction for callers that feed lines and borrow those that are to be written: a line
-//! that is copied is lent too.
+//! Engines of every direction for callers that feed lines and borrow the output lines, copied ones too.
 
 ghost use Rattle.std.specs.Prelude.{◌≡◌};
 
@@ -14,14 +13,14 @@ use crx_text::appending::append;
 use std::alloc::{AllocError, Global};
 use std::marker::Model;
 
-/// An engine of a direction for a caller that feeds lines, and borrows those that are to be written: a line
-/// that is copied comes out of memory of its own, after those that are ready before it.
+/// An engine of one direction for a caller that feeds lines and borrows the output lines. A copied line is
+/// lent from memory of its own, after the lines that were ready before it.
 #[derive(Drop)]
 pub struct Lender<D: Direction> {
     pub(crate) engine: LineEngine<D>,
-    /// The line that was copied last.
+    /// The last line that was copied.
     copied: Box<Text>,
-    /// Whether it is pending.
+    /// Whether `copied` is pending.
     is_pending: bool,
 }
 
@@ -50,7 +49,8 @@ impl<D: Direction> Lender<D> {
     ghost use Rattle.crx_filter.specs.contracts.lender.Lender.{the_row};
     ghost use Rattle.crx_runs.specs.Engines.{IsNextLine};
 
-    /// Returns an engine before the first line of its input, with the memory for a line.
+    /// Returns an engine before the first line of its input, with memory for one line. Returns `AllocError`
+    /// if memory is refused.
     pub fn new(alloc: Global, options: Options) -> Result<Lender<D>, AllocError>
         ensures state { IfOk result (λ e. lender_state D.Direction e ≡ D.state_after_lines (D.chosen options) []) }
         ensures drained { IfOk result (λ e. lender_ready D.Direction e ≡ []) }
@@ -65,8 +65,8 @@ impl<D: Direction> Lender<D> {
         })
     }
 
-    /// Takes a line that is too long, by its number: [`Lender::feed`] with the fault `LineTooLong`, unless a
-    /// line that begins with `>` is looked for: then it is passed over.
+    /// Takes line `number`, which is too long: as [`Lender::feed`] with the fault `LineTooLong`, or `Quiet`
+    /// if the engine is looking for a line that begins with `>`.
     pub fn overlong(&mut self, number: u64) -> Result<Step, At>
         requires next { IsNextLine (lender_ready D.Direction self.old) self.old.engine.number number }
         ensures steps { step_made result [] (lender_state D.Direction self.new)
@@ -78,9 +78,9 @@ impl<D: Direction> Lender<D> {
         self.engine.overlong(number)
     }
 
-    /// Takes the end of the input. Lines are ready then where its direction hands out some at a good end, as
-    /// a check does. A second end is answered as a good one, with the same lines, or by the fault that has
-    /// ended the run.
+    /// Takes the end of the input. `Ready`: the direction has lines if the input ends without a fault, as a
+    /// check does. `Warned`: the fault at the end is skipped. Returns the fault at the end. A second call
+    /// succeeds with the same lines, or returns the fault that ended the run.
     pub fn end(&mut self) -> Result<Step, At>
         requires drained { lender_ready D.Direction self.old ≡ [] }
         ensures takes { TakesEnd D.Direction self.old.engine result (lender_ready D.Direction self.new) self.new.engine }
@@ -88,10 +88,10 @@ impl<D: Direction> Lender<D> {
         self.engine.end()
     }
 
-    /// Takes the next line. `Quiet`: nothing is to be written yet; `Ready`: [`Lender::next_line`] gives the
-    /// lines; `Warned`: a fault is skipped, and where reading goes on at this very line, it doesn't count yet
-    /// and is to be fed once more. The error is the fault that ends the run, at this line; from then on each
-    /// call answers the same, and no line is ready.
+    /// Takes the next line. `Quiet`: nothing is to be written yet. `Ready`: [`Lender::next_line`] lends the
+    /// output lines. `Warned`: a fault is skipped; with `again` reading resumes at this very line, which
+    /// doesn't count yet and has to be fed again. Returns the fault that ends the run at this line; from then
+    /// on each call returns it, and no line is ready.
     pub fn feed(&mut self, line: Line<'_>) -> Result<Step, At>
         requires next { IsNextLine (lender_ready D.Direction self.old) self.old.engine.number (line_number line) }
         ensures takes { TakesLine D.Direction self.old.engine (line_shown line.entry) (Content
@@ -110,17 +110,17 @@ impl<D: Direction> Lender<D> {
         }
     }
 
-    /// Whether none of the lines that were ready is pending.
+    /// Returns whether no ready line is pending.
     pub fn is_drained(&self) -> bool
         ensures value { IsTrue result ↔ (lender_ready D.Direction self.now ≡ []) }
     {
         !self.is_pending && self.engine.direction.is_drained()
     }
 
-    /// Borrows the next of the lines that are ready, without its line end; `None` once none is pending.
+    /// Lends the next ready line, without its line end; `None` if none is pending.
     pub fn next_line(&mut self) -> Option<&[u8]>
         ensures value { option_copied result ≡ slice_get (lender_ready D.Direction self.old) 0 }
-        // The direction itself changes: it counts the lines that it has handed out.
+        // The direction changes too: it counts the lines that it has lent.
         ensures* after_borrow { sem 𝓛 (Rests (the_row D.row D.Direction) self.entry (λ new. (lender_ready D.Direction new
             ≡ drop 1 (lender_ready D.Direction self.old)) × (lender_state D.Direction new ≡ lender_state D.Direction self.old)
             × ((choices : Choices) (lines : List InputLine) → D.notes self.old.engine.direction choices lines

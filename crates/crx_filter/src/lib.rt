@@ -1,5 +1,5 @@
-//! What files mean, unit by unit, and what both filters and the check make of them: the readers of RINEX and
-//! of compact text, the engines line by line, and whole runs of them, from a reader to a writer and messages.
+//! The meaning of files, unit by unit, and the filters and the check that follow it: readers of RINEX and of
+//! compact text, engines that take lines, and whole runs from a reader to a writer and messages.
 #![tactic(auto)]
 
 pub mod checking;

@@ -1,5 +1,4 @@
-//! RINEX observation files, one line at a time: what each line is, the types in force, and the row that was
-//! read last.
+//! RINEX observation files, one line at a time: the kind of each line, the types in force, and the last row.
 
 ghost use Rattle.std.specs.Prelude.{ℕ, List, ◌≡◌, ◌≤◌, length, true};
 ghost use Rattle.crx_base.specs.declared.limits.TheConstants.{SATELLITES_LIMIT};
@@ -12,38 +11,38 @@ use crx_header::Types;
 use crx_rinex::{EpochLine, Head, RowBuffer, RowsSoFar, begins_epoch};
 use std::alloc::Global;
 
-/// What a line of RINEX is that is no row of an epoch, where it has no fault.
+/// The kind of a valid line that isn't a satellite line.
 #[derive(Clone, Copy)]
 pub enum RinexStep {
     /// A line that was passed over.
     Nothing,
     /// A header line.
     Header {
-        /// Whether it is the first.
+        /// Whether it is the first line.
         is_first: bool,
     },
     /// An event's first line.
     Event,
     /// A record of an event.
     Record,
-    /// The line of an epoch; no satellite line of it has come.
+    /// An epoch line; none of the epoch's satellite lines has been read.
     Begun,
 }
 
-/// Reads RINEX one line at a time. Of an epoch it has the line and the row that was read last; whoever takes
-/// the rows looks whether a satellite comes twice.
+/// A reader of RINEX, one line at a time. Of an epoch it keeps the epoch line and the last row. It doesn't
+/// look for repeated satellites: its caller does.
 #[derive(Drop)]
 pub struct RinexReader {
     pub stage: Stage,
     /// The types in force.
     pub(crate) types: Types,
-    /// The line of the epoch whose rows come, or of the last one.
+    /// The epoch line of the open epoch, or of the last one.
     pub(crate) head: Option<EpochLine>,
-    /// How many rows of it have come.
+    /// How many rows of this epoch have been read.
     pub(crate) count: usize,
-    /// The row that was read last.
+    /// The last row that was read.
     pub(crate) row: RowBuffer,
-    /// The rows that have come.
+    /// The rows of this epoch that have been read.
     rows: RowsSoFar,
     ghost consistent: { is_rinex_stage stage head count rows.rows ≡ true },
     ghost few: { length rows.rows ≤ SATELLITES_LIMIT },
@@ -63,7 +62,7 @@ impl RinexReader {
     ghost use Rattle.crx_filter.specs.Stages.{is_ended};
     ghost use Rattle.crx_filter.specs.RinexReaders.{reader_phase, made_at, IsSameReader, ReadsRinexLine, TakesRow};
 
-    /// A reader before the first line.
+    /// Returns a reader before the first line.
     pub fn new(alloc: Global) -> RinexReader
         ensures phase { reader_phase result ≡ InHeader true }
         ensures types { result.types ≡ [] }
@@ -79,13 +78,13 @@ impl RinexReader {
         }
     }
 
-    /// Takes a line that is no row of an open epoch, where no fault has ended the reading; while a line that
-    /// begins with `>` is looked for, others are passed over.
+    /// Reads a line that isn't a satellite line and returns its kind. While the reader is looking for a line
+    /// that begins with `>`, it passes over others.
     ///
-    /// In the header: the faults of [`header_first`](crx_header::header_first) for the first line, then
-    /// `BadTypesLine`. Among an event's records `BadTypesLine`, where types lines count. Where an epoch or an
-    /// event may begin, the faults of [`Head::read`]. `OutOfMemory` comes only at a types line that counts.
-    /// After a fault the reader is as it was.
+    /// Returns, in the header, the faults of [`header_first`](crx_header::header_first) for the first line,
+    /// then `BadTypesLine`; among an event's records `BadTypesLine`, if types lines count there; when an
+    /// epoch or an event may begin, the faults of [`Head::read`]. `OutOfMemory` is returned only at a types
+    /// line that counts. After a fault the reader is unchanged.
     #[inline(always)]
     pub fn take(&mut self, line: &[u8]) -> Result<RinexStep, Fault>
         requires running { is_ended self.old.stage ≡ false }
@@ -115,7 +114,7 @@ impl RinexReader {
         }
     }
 
-    /// Takes a line where an epoch or an event may begin.
+    /// Reads a line that has to begin an epoch or an event. Returns the faults of [`Head::read`].
     #[inline(always)]
     fn begin(&mut self, line: &[u8]) -> Result<RinexStep, Fault>
         requires stage { (self.old.stage ≡ Stage.Between)
@@ -141,9 +140,9 @@ impl RinexReader {
         }
     }
 
-    /// Reads a line of an open epoch: `Truncated` where it begins with `>`, else the faults of
-    /// [`RowBuffer::read`]. Whether the satellite has come already isn't looked at: where it has, the line's
-    /// fault is `RepeatedSatellite`, else [`RinexReader::take_row`] takes the row.
+    /// Reads a satellite line of the open epoch. Returns `Truncated` if it begins with `>`, otherwise the
+    /// faults of [`RowBuffer::read`]. The caller then checks whether the satellite is repeated, for the fault
+    /// `RepeatedSatellite`, and calls [`RinexReader::take_row`] if it isn't.
     #[inline(always)]
     pub fn read_row(&mut self, line: Padded<'_>) -> Result<(), Fault>
         requires open { is_open_stage self.old.stage ≡ true }
@@ -163,7 +162,7 @@ impl RinexReader {
         self.row.read(&self.types, line)
     }
 
-    /// Takes the row that was read last, the next one of the open epoch: `true` says that it is its last.
+    /// Counts the last row that was read as a row of the open epoch. Returns whether it is the epoch's last.
     #[inline(always)]
     pub fn take_row(&mut self) -> bool
         requires open { is_open_stage self.old.stage ≡ true }

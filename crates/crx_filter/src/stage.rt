@@ -1,4 +1,4 @@
-//! Where a run is between two lines, in either direction.
+//! The stage of a run between two lines, in either direction.
 
 ghost use Rattle.std.specs.Prelude.{◌≡◌, Some, true};
 ghost use Rattle.crx_filter.specs.LineByLine.{fault_at_end_in, may_skip, with_records_left};
@@ -8,55 +8,55 @@ ghost use Rattle.crx_filter.specs.RinexStages.{is_open_stage};
 
 use crx_base::{At, Fault};
 
-/// Where a run is between two lines.
+/// The stage of a run between two lines.
 #[derive(Clone, Copy)]
 pub enum Stage {
-    /// In the first lines of compact text.
+    /// In the two lines before the header of compact text.
     FirstLines {
-        /// How many of them have come.
+        /// How many of them have been read.
         count: usize,
     },
-    /// In the header, before its first line or later.
+    /// In the header.
     Header {
-        /// Whether no line has come yet.
+        /// Whether no header line has been read yet.
         is_first: bool,
     },
-    /// Where an epoch or an event may begin.
+    /// Between two units after the header: an epoch or an event may begin.
     Between,
     /// Among the records of an event.
     Event {
-        /// How many records are still to come.
+        /// How many records are still to be read.
         left: usize,
-        /// Whether types lines count among them.
+        /// Whether types lines among them count.
         counted: bool,
     },
-    /// In an epoch whose lines have come in part.
+    /// In an epoch: some of its lines have been read.
     Open,
-    /// After a warning: a line that begins with `>` is looked for.
+    /// After a warning: looking for a line that begins with `>`.
     Looking,
     /// After the end of the input.
     Closed,
-    /// Ended by a fault.
+    /// After a fault that ended the run.
     Ended(At),
 }
 
 impl Stage {
-    /// Whether an epoch's lines have come in part.
+    /// Returns whether an epoch is open: some of its lines have been read.
     pub fn is_in_epoch(&self) -> bool
         ensures value { result ≡ is_open_stage self.now }
     {
         matches!(self, Stage::Open)
     }
 
-    /// Whether faults may be skipped: outside the header and the records of events.
+    /// Returns whether faults may be skipped: after the header, outside the records of events.
     pub fn may_skip(&self) -> bool
         ensures value { result ≡ may_skip (bare_phase self.now) }
     {
         matches!(self, Stage::Between | Stage::Open | Stage::Looking)
     }
 
-    /// What the end of the input means: a fault before the header has ended, among an event's records and in
-    /// an epoch.
+    /// Returns the fault that an end of the input means at this stage: before the header has ended, among an
+    /// event's records, and in an epoch; otherwise `None`.
     pub fn fault_at_end(&self) -> Option<Fault>
         ensures value { result ≡ fault_at_end_in (bare_phase self.now) }
         ensures open { is_open_stage self.now ≡ true → result ≡ Some Fault.Truncated }
@@ -72,7 +72,8 @@ impl Stage {
     }
 }
 
-/// The stage with so many records of an event still to come.
+/// Returns the stage with `left` records of an event still to be read. `counted`: types lines among them
+/// count.
 pub fn with_records_left(left: usize, counted: bool) -> Stage
     ensures stage { IsClosedStage result (with_records_left left counted) (with_records_left left counted) }
 {
@@ -83,7 +84,8 @@ pub fn with_records_left(left: usize, counted: bool) -> Stage
     }
 }
 
-/// Whether types lines count among the records of an event: the flag in column 32 of its line is from 2 to 5.
+/// Returns whether types lines among an event's records count: the flag in column 32 of `line`, the event's
+/// first line, is from 2 to 5.
 pub fn counts_types(line: &[u8]) -> bool
     ensures value { result ≡ counts_types line.now }
 {

@@ -1,4 +1,4 @@
-//! Lines that may declare observation types, in either direction: header lines, and records of events.
+//! Lines that may declare observation types, in either direction: header lines and records of events.
 
 ghost use Rattle.std.specs.Option.{is_some};
 ghost use Rattle.std.specs.Prelude.{◌≡◌, ◌⊎◌, ◌&&◌, None, Some, true, false, if◌then◌else◌, OnOk, OnErr, IfOk, IfErr};
@@ -14,8 +14,8 @@ use crate::stage::Stage;
 use crx_base::Fault;
 use crx_header::{Types, header_first, is_end, is_types};
 
-/// Takes in a header line and gives the stage after it, or answers what is wrong with it: the first line has
-/// checks of its own. After a fault the types are as they were. `OutOfMemory` comes only at a types line.
+/// Reads a header line and returns the stage after it. Returns the faults of [`header_first`] if `is_first`,
+/// then `BadTypesLine`, and `OutOfMemory` only at a types line. After a fault `types` is unchanged.
 pub fn accept_header_line(types: &mut Types, is_first: bool, line: &[u8]) -> Result<Stage, Fault>
     ensures stage { IfOk result (λ stage. IsClosedStage stage
         (if is_end_of_header line.now then BetweenUnits else InHeader false)
@@ -36,8 +36,9 @@ pub fn accept_header_line(types: &mut Types, is_first: bool, line: &[u8]) -> Res
     Ok(Stage::Header { is_first: false })
 }
 
-/// Takes in a record of an event: types lines among them count where this is said, and `true` says that it is
-/// one that counts. After a fault the types are as they were. `OutOfMemory` comes only at one that counts.
+/// Reads a record of an event. `counted`: types lines among the records count. Returns whether the record is
+/// a types line that counts; at such a line `BadTypesLine` or `OutOfMemory`. After a fault `types` is
+/// unchanged.
 pub fn accept_record(types: &mut Types, counted: bool, line: &[u8]) -> Result<bool, Fault>
     ensures types { IfOk result (λ is_accepted. is_accepted ≡ empties_state counted line.now) }
     ensures good { OnOk result ((if counted then types_fault line.now else None) ≡ None) }
