@@ -1,4 +1,4 @@
--- What has to be believed: the definitions that the promises stand on. docs/READING.md says how to read them.
+-- The definitions that the promises rest on, which a reader has to believe. docs/READING.md says how to read them.
 pub mod Items
 pub mod UnitPlaces
 pub mod Reading

@@ -1,5 +1,5 @@
--- Nothing is lost in silence: each line of an input is one from which an accepted unit was read, or a warning drops it.
--- Lists of items have the newest first.
+-- Nothing is lost in silence: each line of an input belongs to an accepted unit, or a warning drops it. Lists of
+-- items have the newest first.
 use Rattle.std.specs.Prelude.{ℕ, ◌≡◌, ◌<◌, ◌≤◌, Bool, false, List, [], ◌∷◌, ◌++◌, Some, None, ⊤, length, map, reverse}
 use Rattle.crx_base.specs.meaning.AsRead.{ReadLine, as_read}
 use Rattle.crx_base.specs.meaning.Choices.{Choices}
@@ -17,8 +17,8 @@ use Rattle.crx_runs.specs.meaning.Results.{FilterResult, status_after}
 
 -- ---- what is written and reported for the lines
 
--- a result accounts for some lines, the first of which has this number, by the items that were read from them: the items
--- own the lines, the output is the text of the items, and the messages are their warnings. So a status of 0 says that no
+-- `result` accounts for `lines`, the first of which has this `number`, by the items that were read from them: the
+-- items own the lines, the output is the text of the items, and the messages are their warnings. So with status 0 no
 -- line was dropped
 pub record AccountsForLines {E : Type 0} (place : List (Item E) → List ReadLine → Place (Unit E))
     (unit_lines : List (Item E) → Unit E → List (List ℕ)) (number : ℕ) (items : List (Item E)) (lines : List ReadLine)
@@ -34,8 +34,8 @@ abbrev pub AccountsForFile : Choices → List ℕ → FilterResult → Type 0
 AccountsForFile choices file result = result.fault ≡ None → AccountsForLines rinex_place (compact_unit choices) 1
     (whole_rinex choices.skip (map as_read (lines_of file))).items (map as_read (lines_of file)) result
 
--- and an expansion, by whether it skips faults, for all lines of its text after the first two, which have the format
--- and the date
+-- if no fault ended it, an expansion accounts for all lines of its text after the first two, which hold the format
+-- and the date. `skip`: whether it skips faults
 abbrev pub AccountsForText : Bool → List ℕ → FilterResult → Type 0
 AccountsForText skip text result = result.fault ≡ None
     → (first : ReadLine) × (second : ReadLine) × (rest : List ReadLine)
@@ -45,26 +45,26 @@ AccountsForText skip text result = result.fault ≡ None
 
 -- ---- how long a block is
 
--- some epochs after these items, the oldest first
+-- the items with some later epochs, the oldest first
 abbrev pub with_epochs : List (Item Epoch) → List Epoch → List (Item Epoch)
 with_epochs before [] = before
 with_epochs before (epoch ∷ later) = with_epochs (Accepted (Observation epoch) ∷ before) later
 
--- none of some epochs after these items is in full
+-- none of these epochs, read after the items, is full
 abbrev pub AreContinued : Choices → List (Item Epoch) → List Epoch → Type 0
 AreContinued choices before [] = ⊤
 AreContinued choices before (epoch ∷ later) = (is_in_full choices.every before ≡ false)
     × AreContinued choices (Accepted (Observation epoch) ∷ before) later
 
--- of some items, an epoch with those after it none of which is in full is never more than n
+-- in these items, an epoch and the epochs after it of which none is full are never more than n
 abbrev pub HaveShortBlocks : Choices → ℕ → List (Item Epoch) → Type 0
 HaveShortBlocks choices n items =
     (before after : List (Item Epoch)) (first : Epoch) (others : List Epoch)
     → items ≡ after ++ with_epochs before (first ∷ others)
     → AreContinued choices (Accepted (Observation first) ∷ before) others → length (first ∷ others) ≤ n
 
--- with every n-th epoch in full, an output is the compact text of what was read of its file, whose blocks have at most
--- n epochs
+-- with every n-th epoch full, the output is the compact text of the items read from the file, and its blocks have at
+-- most n epochs
 abbrev pub HasShortBlocks : Choices → List ℕ → FilterResult → Type 0
 HasShortBlocks choices file result = (n : ℕ) → choices.every ≡ Some n → 0 < n
     → (result.output ≡ lines_text (compact_lines choices (whole_rinex choices.skip (map as_read (lines_of file))).items))

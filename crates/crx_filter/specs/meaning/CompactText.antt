@@ -1,5 +1,6 @@
--- Compact text of a file's units, whoever wrote it: Hatanaka's Compact RINEX 3.0. Its first two lines, and then, unit after unit, the
--- lines of a RINEX file (RINEX 3.05, sections 5 and 6): those of epochs as any writer may write them. Lists of units have the newest first.
+-- Compact text of a file's units, whoever wrote it: Hatanaka's Compact RINEX 3.0. Its first two lines are followed by
+-- the lines of each unit in order (RINEX 3.05, sections 5 and 6); the lines of an epoch are any that a writer may
+-- choose. Lists of units have the newest first.
 use Rattle.std.specs.Prelude.{◌≡◌, ℕ, true, List, [], ◌∷◌, ◌++◌, map, Option, None, Some, Ok, ⊤, if◌then◌else◌}
 use Rattle.crx_base.specs.meaning.AsRead.{Content, as_read}
 use Rattle.crx_base.specs.meaning.Lines.{lines_of}
@@ -14,8 +15,9 @@ use Rattle.crx_runs.specs.meaning.Results.{FilterResult}
 
 -- ---- lines
 
---- the lines of a unit after some items, by the epoch that its lines may go on from, and the epoch that later lines may go on from: a unit
---- of one line is copied; events leave the epoch before them as it is, unless types change there; and an epoch's lines are any of it
+--- the lines of a unit after some items. `before`: the epoch that these lines may continue from; `now`: the epoch
+--- that later lines may continue from. A unit of one line is copied. An event leaves the previous epoch, unless types
+--- change in the event. An epoch's lines are any that mean it
 abbrev pub AreLinesOfUnit : List (Item Epoch) → Option WrittenEpoch → FileUnit Epoch → List (List ℕ) → Option WrittenEpoch → Type 0
 AreLinesOfUnit items before (HeaderLine line) lines now = (lines ≡ line ∷ []) × (now ≡ None)
 AreLinesOfUnit items before (EventLine line) lines now = (lines ≡ line ∷ []) × (now ≡ before)
@@ -24,14 +26,14 @@ AreLinesOfUnit items before (EventRecord line) lines now = (lines ≡ line ∷ [
 AreLinesOfUnit items before (Observation epoch) lines now = (written : WrittenEpoch)
     × (epoch_now written ≡ epoch) × (now ≡ Some written) × AreEpochLines before written lines
 
---- those of all units, one unit's after the other's
+--- the lines of all units, in order
 abbrev pub AreLinesOf : List (FileUnit Epoch) → List (List ℕ) → Option WrittenEpoch → Type 0
 AreLinesOf [] lines now = (lines ≡ []) × (now ≡ None)
 AreLinesOf (unit ∷ units) lines now = (before : Option WrittenEpoch) × (first : List (List ℕ)) × (more : List (List ℕ))
     × AreLinesOf units first before × (lines ≡ first ++ more) × AreLinesOfUnit (as_items units) before unit more now
 
---- a text whose lines, none too long, are two that compact text may begin with, and lines of these units; each line may end with LF or
---- with CR and LF, and the last one with neither
+--- a text whose lines, none too long, are two lines that compact text may begin with, and lines of these units. Each
+--- line may end with LF or with CR and LF, and the last one with neither
 pub record IsCompactTextOf (units : List (FileUnit Epoch)) (text : List ℕ) : Type 0 where
   pub version : List ℕ
   pub program : List ℕ
@@ -44,7 +46,7 @@ pub record IsCompactTextOf (units : List (FileUnit Epoch)) (text : List ℕ) : T
 
 -- ---- whole files
 
---- each unit is in its place after those before it
+--- each unit is in its place after the units before it
 abbrev pub AreUnitsInPlace : List (FileUnit Epoch) → Type 0
 AreUnitsInPlace [] = ⊤
 AreUnitsInPlace (unit ∷ before) = IsInPlace (as_items before) unit × AreUnitsInPlace before
@@ -59,8 +61,8 @@ pub record AreWholeFile (units : List (FileUnit Epoch)) : Type 0 where
 abbrev pub IsCompactText : List ℕ → Type 0
 IsCompactText text = (units : List (FileUnit Epoch)) × AreWholeFile units × IsCompactTextOf units text
 
---- whoever wrote this as compact text of a whole file, it is read as what it means: the result is the RINEX text of the units, with no
---- message and status 0
+--- compact text of a whole file is read as it means, whoever wrote it: the result is the RINEX text of the units,
+--- with no message and status 0
 abbrev pub ReadsAnyText : (FilterResult → Type 0) → List ℕ → Type 0
 ReadsAnyText is_result text = (units : List (FileUnit Epoch)) → AreWholeFile units → IsCompactTextOf units text
     → is_result (written_well (rinex_text units))

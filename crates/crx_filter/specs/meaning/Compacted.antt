@@ -17,7 +17,7 @@ use Rattle.crx_filter.specs.meaning.Reading.{WholeReading, whole_reading}
 use Rattle.crx_runs.specs.meaning.Results.{FilterResult}
 use Rattle.crx_filter.specs.meaning.Written.{written_lines, result_of}
 
--- what is at a line of a RINEX file, after these items
+-- the unit that these lines of a RINEX file begin with, after these items
 abbrev pub rinex_place : List (Item Epoch) → List ReadLine → Place (Unit Epoch)
 rinex_place before lines = unit_place (λ (items : List (Item Epoch)). epoch_place (types_in_force items)) before lines
 
@@ -32,7 +32,7 @@ epochs_accepted (Accepted (EventRecord line) ∷ before) = epochs_accepted befor
 epochs_accepted (Accepted (Observation epoch) ∷ before) = epochs_accepted before + 1
 epochs_accepted (Warned at ∷ before) = epochs_accepted before
 
--- whether the next epoch is the first, or an event or a warning is between it and the epoch before it
+-- whether the next epoch is the first, or follows an event or a warning
 abbrev pub is_interrupted : {E : Type 0} → List (Item E) → Bool
 is_interrupted [] = true
 is_interrupted (Accepted (HeaderLine line) ∷ before) = true
@@ -46,11 +46,11 @@ abbrev pub is_at_every : Option ℕ → ℕ → Bool
 is_at_every None index = false
 is_at_every (Some n) index = nat_lt 0 n && (index % n == 0)
 
--- whether the epoch after these items is in full
+-- whether the epoch after these items is full
 abbrev pub is_in_full : Option ℕ → List (Item Epoch) → Bool
 is_in_full every before = is_interrupted before || is_at_every every (epochs_accepted before)
 
--- the accepted epochs, newest first, each with its mark
+-- the accepted epochs, newest first, each marked whether it is full
 abbrev pub marked_epochs : Option ℕ → List (Item Epoch) → List Marked
 marked_epochs every [] = []
 marked_epochs every (Accepted (HeaderLine line) ∷ before) = marked_epochs every before
@@ -76,11 +76,11 @@ compact_unit choices before (Observation epoch) = compact_epoch
 abbrev pub whole_rinex : Bool → List ReadLine → WholeReading Epoch
 whole_rinex skip lines = whole_reading rinex_place skip 1 lines
 
--- the lines of the compact text for some items
+-- the lines of the compact text of some items
 abbrev pub compact_lines : Choices → List (Item Epoch) → List (List ℕ)
 compact_lines choices items = written_lines (compact_unit choices) items
 
--- the compaction of some lines, which are all lines of an input
+-- the compaction of `lines`, all lines of an input
 abbrev pub compaction_result : Choices → List ReadLine → FilterResult
 compaction_result choices lines = result_of (compact_unit choices) (whole_rinex choices.skip lines)
 

@@ -1,5 +1,5 @@
--- Damaged compact text, whoever wrote it: in one block, in place of the lines of an epoch and of those after
--- it up to the next line that begins with >. Lists of units have the newest first.
+-- Damaged compact text, whoever wrote it, if one block is damaged: other lines replace the lines of an epoch and of
+-- the units after it, up to the next line that begins with >. Lists of units have the newest first.
 use Rattle.std.specs.Prelude.{ℕ, ◌≡◌, Bool, true, false, not, ⊤, List, [], ◌∷◌, ◌++◌, ◌≤◌, Option, None, map, length}
 use Rattle.std.specs.List.{AllByRecursion, list_all, flat_map}
 use Rattle.crx_base.specs.declared.fault.At.{At}
@@ -24,14 +24,13 @@ abbrev pub is_inside : ReadLine → Bool
 is_inside Overlong = false
 is_inside (Content line) = not (begins_epoch line)
 
--- the lines of a block: the first one begins no event, and none of the others begins with >
+-- the lines of a block: the first one begins no event, none of the others begins with >, and none is too long
 abbrev pub AreBlockLines : List ReadLine → Type 0
 AreBlockLines [] = ⊤
 AreBlockLines (Overlong ∷ lines) = ⊥
 AreBlockLines (Content line ∷ lines) = (is_event_line line ≡ false) × (list_all is_inside lines ≡ true)
 
--- a text that is damaged in one stretch: lines come in place of those of the units that are lost, and after the
--- first one none that begins a unit with >
+-- a text that is damaged in one stretch: the lines that replace the lines of the lost units are the lines of a block
 pub record IsDamaged (before : List (FileUnit Epoch)) (s : Stretch) (damaged : List ℕ) : Type 0 where
   pub stretch : HasStretches before (s ∷ []) damaged
   pub block : AreBlockLines s.instead
@@ -46,10 +45,10 @@ epochs_among (EventLine line ∷ before) = epochs_among before
 epochs_among (EventRecord line ∷ before) = epochs_among before
 epochs_among (Observation epoch ∷ before) = epochs_among before ++ epoch ∷ []
 
--- what an expansion that skips faults writes and reports of such a text: the exact text of all units before
--- the block, then the text of some epochs, and then the exact text of all units after it, with at most one
--- warning. Each of the epochs is whole, by the types in force at the block. They are first those whose lines
--- stand at the block's beginning
+-- the output and messages of an expansion of such a text that skips faults: the exact text of all units before the
+-- block, then the text of some epochs, and then the exact text of all units after it, with at most one warning. Each
+-- of these epochs is whole, by the types in force at the block. The first of them are the epochs whose lines are at
+-- the block's beginning
 pub record IsSalvaged (before : List (FileUnit Epoch)) (s : Stretch) (damaged : List ℕ)
     (damage : IsDamaged before s damaged) (result : FilterResult) : Type 0 where
   pub epochs : List Epoch

@@ -1,4 +1,4 @@
--- Both directions and the check as filters: what is written and reported for the lines so far, and for all lines of an
+-- Both directions and the check as filters: the output and messages for the lines so far, and for all lines of an
 -- input. Lists of items have the newest first.
 use Rattle.std.specs.Prelude.{List, ℕ, ◌+◌, Bool, false, [], drop, map, reverse, Option, Some, None}
 use Rattle.crx_base.specs.meaning.AsRead.{ReadLine, as_read}
@@ -35,7 +35,7 @@ compact_reading skip lines =
       | NeedsMore ↦ record { items = []; stop = AtLines 1 lines }
     ]
 
--- what is written and reported for a reading as far as it goes, by what is written for each unit after the items before
+-- the output, warnings and fault of an unfinished reading. `unit_lines`: the lines of a unit, after the items before
 -- it
 abbrev pub course_so_far : {E : Type 0} → (List (Item E) → Unit E → List (List ℕ)) → Reading E → Course
 course_so_far unit_lines r = record {
@@ -44,7 +44,8 @@ course_so_far unit_lines r = record {
   fault = fault_of_stop r.stop;
 }
 
--- the warning of an epoch that a line cuts off, by what is at the lines up to it: it comes before all else of that line
+-- the warning of an epoch that a line cuts off, which is reported before anything else of that line. The last
+-- argument is the unit that the lines up to it begin with
 abbrev pub warned_first : {E : Type 0} → Bool → List (Item E) → ℕ → ReadLine → Place (Unit E) → List At
 warned_first skip items number line (Fails offset fault) =
     if is_skipped skip items fault && (nat_lt 0 offset && can_go_on line)
@@ -60,7 +61,7 @@ cut_off_by place skip r line =
       | Looking number ↦ []
     ]
 
--- compaction
+-- a compaction with these options
 abbrev pub compaction_filter : Choices → Filter
 compaction_filter choices = record {
   so_far = λ lines. course_so_far (compact_unit choices) (rinex_reading choices.skip (map as_read lines));
@@ -69,7 +70,7 @@ compaction_filter choices = record {
       Some (cut_off_by rinex_place choices.skip (rinex_reading choices.skip (map as_read lines)) (as_read line));
 }
 
--- expansion
+-- an expansion with these options
 abbrev pub expansion_filter : Choices → Filter
 expansion_filter choices = record {
   so_far = λ lines. course_so_far expanded_unit (compact_reading choices.skip (map as_read lines));
@@ -88,7 +89,7 @@ abbrev pub report_unless : Option At → Findings → List ℕ
 report_unless None found = lines_text (report_lines found)
 report_unless (Some at) found = []
 
--- a check writes nothing before the end, and then the report, or nothing where there is a fault; it warns of nothing
+-- a check: at the end it writes the report, or nothing if there is a fault, and it never warns
 abbrev pub check_filter : Filter
 check_filter = record {
   so_far = λ lines. record { output = []; warnings = []; fault = fault_so_far lines };

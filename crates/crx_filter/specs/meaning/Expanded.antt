@@ -26,12 +26,12 @@ use Rattle.crx_filter.specs.meaning.Written.{result_of}
 
 -- ---- the reader's state
 
--- whether an accepted record empties the reader's state: a types line does, where types lines count
+-- whether an accepted record empties the reader's state: a types line does, if types lines count
 abbrev pub empties_state : Bool → List ℕ → Bool
 empties_state counts_types record_line = counts_types && is_types_line record_line
 
--- the raw epochs accepted since the reader's state was last emptied, newest first: a warning empties it, and so does a
--- types line among an event's records; an event without one leaves it
+-- the raw epochs accepted since the reader's state was last emptied, newest first. A warning empties it, and so does
+-- a types line among an event's records; an event without one leaves it
 abbrev pub raws_kept : List (Item ReadEpoch) → List RawEpoch
 raws_kept [] = []
 raws_kept (Accepted (HeaderLine line) ∷ before) = []
@@ -43,7 +43,7 @@ raws_kept (Warned at ∷ before) = []
 
 -- ---- places
 
--- an event's first line, or what is wrong with it
+-- an event's first line, or its fault
 abbrev pub event_line : {E : Type 0} → List ℕ → Result (Unit E) Fault
 event_line line = elim (records_in line) [ Some count ↦ Ok (EventLine line) | None ↦ Err BadEpoch ]
 
@@ -53,7 +53,8 @@ as_observation (Done epoch count) = Done (Observation epoch) count
 as_observation (Fails offset fault) = Fails offset fault
 as_observation NeedsMore = NeedsMore
 
--- what is where an epoch or an event may begin: whether a line is an event's first one shows on its own bytes
+-- the unit that these lines begin with, if an epoch or an event may begin there. A line's own bytes show whether it
+-- is an event's first line
 abbrev pub compact_epoch_place : List Count → List RawEpoch → List ReadLine → Place (Unit ReadEpoch)
 compact_epoch_place types older [] = NeedsMore
 compact_epoch_place types older (Overlong ∷ lines) = as_observation (epoch_at types older (Overlong ∷ lines))
@@ -61,7 +62,7 @@ compact_epoch_place types older (Content line ∷ lines) =
     if is_event_line line then one_line (event_line line)
     else as_observation (epoch_at types older (Content line ∷ lines))
 
--- what is at a line of compact text from its third line on, after these items
+-- the unit that these lines of compact text begin with, from the third line on, after these items
 abbrev pub compact_place : List (Item ReadEpoch) → List ReadLine → Place (Unit ReadEpoch)
 compact_place before lines = unit_place
     (λ (items : List (Item ReadEpoch)). compact_epoch_place (types_in_force items) (raws_kept items)) before lines
@@ -84,13 +85,13 @@ first_lines lines =
     then_place (first_line others crinex_program) others (λ program rest.
     Done (version ∷ program ∷ []) 0))
 
--- what the end of the input means after so many of them
+-- the fault if the input ends after `count` of them
 abbrev pub fault_in_first_lines : ℕ → Fault
 fault_in_first_lines count = if count == 0 then NotCompact else BadProgLine
 
 -- ---- whole files
 
--- the reading of all lines of compact text: a fault in the first two ends it, whether faults are skipped or not
+-- the reading of all lines of compact text. A fault in the first two ends it, whether faults are skipped or not
 abbrev pub whole_compact : Bool → List ReadLine → WholeReading ReadEpoch
 whole_compact skip lines =
     elim (first_lines lines) [
@@ -102,7 +103,7 @@ whole_compact skip lines =
       }
     ]
 
--- a unit of compact text as the unit of RINEX that it stands for
+-- a unit of compact text as the unit of RINEX that it means
 abbrev pub rinex_unit : Unit ReadEpoch → Unit Epoch
 rinex_unit (HeaderLine line) = HeaderLine line
 rinex_unit (EventLine line) = EventLine line
@@ -113,7 +114,7 @@ rinex_unit (Observation read) = Observation read.epoch
 abbrev pub expanded_unit : List (Item ReadEpoch) → Unit ReadEpoch → List (List ℕ)
 expanded_unit before unit = printed_unit (rinex_unit unit)
 
--- the expansion of some lines, which are all lines of an input; of the choices it uses alone whether faults are skipped
+-- the expansion of `lines`, all lines of an input. The only option that it uses is whether faults are skipped
 abbrev pub expansion_result : Choices → List ReadLine → FilterResult
 expansion_result choices lines = result_of expanded_unit (whole_compact choices.skip lines)
 

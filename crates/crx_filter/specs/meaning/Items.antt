@@ -1,5 +1,5 @@
--- What has been read of a file so far, and what follows from it for the next line: RINEX 3.05, sections 5 and 6.
--- Lists of items have the newest first. E is what is known of an observation epoch.
+-- The items read from a file so far, and their consequences for the next line: RINEX 3.05, sections 5 and 6. Lists of
+-- items have the newest first. E holds the data of an observation epoch.
 use Rattle.std.specs.Prelude.{ℕ, Bool, true, false, ◌||◌, ◌&&◌, ◌-◌, List, [], ◌∷◌, ◌++◌, if◌then◌else◌, nat_le}
 use Rattle.std.specs.Prelude.{unwrap_or}
 use Rattle.crx_base.specs.declared.fault.At.{At}
@@ -9,12 +9,12 @@ use Rattle.crx_header.specs.meaning.Header.{is_end_of_header}
 use Rattle.crx_header.specs.meaning.EpochColumns.{records_in}
 use Rattle.crx_header.specs.meaning.ObservationTypes.{Count, types_of}
 
--- a unit that was accepted, or a warning in the place of one
+-- an accepted unit, or a warning instead of one
 pub data Item (E : Type 0) : Type 0 where
   Accepted : Unit E → Item E
   Warned : At → Item E
 
--- whether nothing was read yet
+-- whether nothing has been read yet
 abbrev pub is_at_start : {E : Type 0} → List (Item E) → Bool
 is_at_start [] = true
 is_at_start (item ∷ before) = false
@@ -36,7 +36,7 @@ header_has_ended (item ∷ before) = ends_header item || header_has_ended before
 abbrev pub records_announced : List ℕ → ℕ
 records_announced line = unwrap_or (records_in line) 0
 
--- how many records of the last event are still to come
+-- how many records of the last event are still to be read
 abbrev pub records_left : {E : Type 0} → List (Item E) → ℕ
 records_left [] = 0
 records_left (Accepted (HeaderLine line) ∷ before) = 0
@@ -45,11 +45,12 @@ records_left (Accepted (EventRecord line) ∷ before) = records_left before - 1
 records_left (Accepted (Observation epoch) ∷ before) = 0
 records_left (Warned at ∷ before) = 0
 
--- types lines count among the records of events of flags 2 to 5, and not among cycle slip records (flag 6)
+-- whether types lines count among an event's records: they do for flags 2 to 5, and not for cycle slip records (flag
+-- 6)
 abbrev pub counts_types : List ℕ → Bool
 counts_types event = nat_le 50 (character_at event 32) && nat_le (character_at event 32) 53
 
--- whether types lines count among the records that come now
+-- whether types lines count among the records that are read now
 abbrev pub records_count_types : {E : Type 0} → List (Item E) → Bool
 records_count_types [] = false
 records_count_types (Accepted (HeaderLine line) ∷ before) = false

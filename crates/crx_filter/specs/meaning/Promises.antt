@@ -1,5 +1,4 @@
--- What runs bring back, save and judge: the laws of the way back, of damage and of standard files, as promises about
--- runs.
+-- Promises about runs: an expansion restores files and saves undamaged units, and a check recognizes standard files.
 use Rattle.std.specs.Prelude.{◌≡◌, ◌≤◌, ◌↔◌, ℕ, List, [], ◌++◌, length, map, Option, None, true}
 use Rattle.crx_base.specs.meaning.Lines.{lines_of}
 use Rattle.crx_base.specs.meaning.AsRead.{as_read}
@@ -21,38 +20,39 @@ use Rattle.crx_filter.specs.meaning.Standard.{Findings, IsStandard, normal_form,
 use Rattle.crx_runs.specs.meaning.Spans.{Input, Device}
 use Rattle.crx_runs.specs.meaning.Runs.{FaultIs, IsResult, NoneFailed, Ran}
 
--- a promise about whole inputs holds of a run whose reader gave these bytes
+-- a promise about whole inputs holds of a run whose reader returned the bytes `given`
 pub record IsPromiseKept (promise : List ℕ
     → Type 0) (input : Input) (given : List ℕ) (writer messages : Device) (fault : Option At) : Type 0 where
-  -- where no device failed and memory didn't run out: for every input within the limit that begins with these bytes,
-  -- and is these bytes where its end was reported
+  -- if no device failed and memory didn't run out: for every input within the limit that begins with these bytes, and
+  -- only for these bytes if the reader has reported their end
   pub whole : NoneFailed input.start.failures input.counted.failures
       → NoneFailed writer.before.failures writer.after.failures
       → NoneFailed messages.before.failures messages.after.failures → (FaultIs OutOfMemory fault → ⊥)
       → (rest : List ℕ) → (input.at_end → rest ≡ []) → length (given ++ rest) ≤ INPUT_LIMIT → promise (given ++ rest)
-  -- where there is no fault: for these bytes
+  -- if there is no fault: for these bytes
   pub good : fault ≡ None → promise given
 
--- the reader gave some bytes, and with these the run keeps a promise about whole inputs
+-- the reader returned some bytes, and with these the run keeps a promise about whole inputs
 abbrev pub Keeps : (List ℕ → Type 0) → Input → Device → Device → Option At → Type 0
 Keeps promise input writer messages fault = (given : List ℕ)
     × input.gave given × IsPromiseKept promise input given writer messages fault
 
--- the same of a run that is over, where the promise speaks of what it wrote, reported and answered
+-- the same of a run that has ended, for a promise about its output, messages, status and fault
 abbrev pub KeepsPromise : (Device → Device → ℕ → Option At → List ℕ → Type 0) → Ran → Type 0
 KeepsPromise promise run = Keeps (promise run.writer run.messages run.status run.fault) run.input run.writer
     run.messages run.fault
 
 -- ---- the way back
 
--- an expansion brings a file back from what its compaction wrote, whatever was chosen for that
+-- an expansion restores a file from the output of its compaction, with any options
 pub record BringsBack (writer messages : Device)
     (status : ℕ) (fault : Option At) (text : List ℕ) (file : List ℕ) (compacting : Choices) : Type 0 where
-  -- a standard file byte for byte, with no message and status 0
+  -- a standard file is restored byte for byte, with no message and status 0
   pub standard : IsStandard file → IsResult (written_well file) writer messages status fault
-  -- any other that is read to its good end in its normal form, unless a copied line ends in CR
+  -- any other file that is read to its end without a fault is restored in its normal form, unless a copied line ends
+  -- in CR
   pub normal : HasNormalForm file → IsResult (written_well (normal_form file)) writer messages status fault
-  -- where faults were skipped, all units that were accepted, as RINEX prints them
+  -- if faults were skipped, all accepted units are restored, as RINEX prints them
   pub accepted :
       let whole : WholeReading Epoch = whole_rinex compacting.skip (map as_read (lines_of file)) in
       whole.fault ≡ None → HaveNoReturns whole.items
@@ -65,8 +65,8 @@ BringsBackWhatWasCompacted writer messages status fault text =
 
 -- ---- damage
 
--- an expansion that skips faults saves all but the block that is damaged, whoever wrote the text: what it
--- wrote, reported and answered is what `IsSalvaged` says of the damaged text
+-- an expansion that skips faults saves everything except the damaged block, whoever wrote the text: it wrote,
+-- reported and returned a result that `IsSalvaged` describes
 abbrev pub SavesAllElse : Choices → Device → Device → ℕ → Option At → List ℕ → Type 0
 SavesAllElse expanding writer messages status fault damaged =
     (before : List (FileUnit Epoch)) (s : Stretch) → expanding.skip ≡ true → (damage : IsDamaged before s damaged)
@@ -77,16 +77,17 @@ SavesAllElse expanding writer messages status fault damaged =
 
 -- a check said whether a file is standard
 pub record IsJudged (writer : Device) (status : ℕ) (file : List ℕ) : Type 0 where
-  -- the lines of its report were written, and the last one says yes exactly where the status is 0
+  -- its report was written, and the last line says yes if and only if the status is 0
   pub found : Findings
   pub report : writer.took (lines_text (report_lines found))
   pub says_yes : (status ≡ 0) ↔ (found.not_standard ≡ None)
-  -- that is where the file is standard
+  -- the status is 0 if and only if the file is standard
   pub standard : (status ≡ 0) ↔ IsStandard file
-  -- and where expanding its compaction gives it back byte for byte, by any choices
+  -- the status is 0 if and only if expanding the file's compact text restores the file byte for byte, with any
+  -- options
   pub comes_back : (compacting expanding : Choices) → is_date compacting.date ≡ true
       → (status ≡ 0) ↔ ((expanded (compacted file compacting).output expanding).output ≡ file)
 
--- it does so of every file that is read to its good end
+-- this holds for every file that is read to its end without a fault
 abbrev pub JudgesStandard : Device → ℕ → List ℕ → Type 0
 JudgesStandard writer status file = (whole_of file).fault ≡ None → IsJudged writer status file

@@ -1,5 +1,5 @@
--- The reading of a file: its units one after another, with warnings between them where faults are skipped.
--- What is at a line is an argument, so that both directions read in this one way.
+-- The reading of a file: its units in order, with warnings between them if faults are skipped. The rule that finds
+-- the next unit is an argument, so both directions read in the same way.
 use Rattle.std.specs.Prelude.{ℕ, Bool, true, false, ◌&&◌, ◌+◌, max, List, [], ◌∷◌, ◌==◌, Option, Some, None}
 use Rattle.std.specs.Prelude.{if◌then◌else◌, nat_lt, not, suc, zero, length, drop}
 use Rattle.crx_base.specs.meaning.AsRead.{ReadLine, Content, Overlong}
@@ -12,35 +12,34 @@ use Rattle.crx_rinex.specs.meaning.Places.{Place, Done, Fails, NeedsMore}
 use Rattle.crx_rinex.specs.meaning.Units.{Unit}
 use Rattle.crx_filter.specs.meaning.Items.{Item, Accepted, Warned, header_has_ended, records_left}
 
--- where a reading stops: at a fault; where more lines could make a unit, with the number of the next unit's first line
--- and the lines from there on; or where it looks for a line that begins with >, with the number of the line after the
--- last
+-- a reading stops at a fault; at lines that could become a unit with more lines, with the number of the first of
+-- them; or while it looks for a line that begins with >, with the number of the next line
 pub data Stop : Type 0 where
   AtFault : At → Stop
   AtLines : ℕ → List ReadLine → Stop
   Looking : ℕ → Stop
 
--- the units and warnings, newest first, and where they stop
+-- the units and warnings, newest first, and where the reading stops
 pub record Reading (E : Type 0) : Type 0 where
   pub items : List (Item E)
   pub stop : Stop
 
--- they are skipped where the user wants it, outside the header and an event's records
+-- whether a fault is skipped: the user wants it, and the fault isn't in the header or an event's records
 abbrev pub is_skipped : {E : Type 0} → Bool → List (Item E) → Fault → Bool
 is_skipped skip items fault = skip && (header_has_ended items && ((records_left items == 0) && is_skippable fault))
 
--- reading goes on at a line that begins with > and isn't too long
+-- whether reading can resume at a line: it begins with > and isn't too long
 abbrev pub can_go_on : ReadLine → Bool
 can_go_on (Content line) = begins_epoch line
 can_go_on Overlong = false
 
--- what is read from the first line on where reading can go on; where there is none, one is looked for
+-- the reading from the first line on at which it can resume; if none follows, the reading looks for one
 abbrev pub looked_for : {E : Type 0} → (ℕ → List ReadLine → Reading E) → List (Item E) → ℕ → List ReadLine → Reading E
 looked_for read items number [] = record { items = items; stop = Looking number }
 looked_for read items number (line ∷ lines) =
     elim (can_go_on line) [ true ↦ read number (line ∷ lines) | false ↦ looked_for read items (number + 1) lines ]
 
--- a fault that is skipped is a warning, and reading goes on at the first line that begins with >, isn't the dropped
+-- a fault that is skipped is a warning, and reading resumes at the first line that begins with >, isn't the dropped
 -- unit's own first line and isn't before the fault's line
 abbrev pub after_fault : {E : Type 0}
     → Bool → (List (Item E) → ℕ → List ReadLine → Reading E) → List (Item E) → ℕ → List ReadLine → ℕ → Fault → Reading E
@@ -52,7 +51,7 @@ after_fault skip read items number lines offset fault =
       | false ↦ record { items = items; stop = AtFault at }
     ]
 
--- the reading after some items, from the line of this number on, with a bound on how many units there are
+-- the reading after some items, from line `number` on, of at most `units` units
 abbrev pub reading_within : {E : Type 0}
     → (List (Item E) → List ReadLine → Place (Unit E)) → Bool → ℕ → List (Item E) → ℕ → List ReadLine → Reading E
 reading_within place skip zero items number lines = record { items = items; stop = AtLines number lines }
@@ -63,7 +62,7 @@ reading_within place skip (suc units) items number lines =
       | NeedsMore ↦ record { items = items; stop = AtLines number lines }
     ]
 
--- the reading after some items: each unit has at least one line
+-- the reading after some items. Each unit has at least one line, which bounds their number
 abbrev pub reading_from : {E : Type 0}
     → (List (Item E) → List ReadLine → Place (Unit E)) → Bool → List (Item E) → ℕ → List ReadLine → Reading E
 reading_from place skip items number lines = reading_within place skip (length lines + 1) items number lines
@@ -76,15 +75,15 @@ fault_of_stop (Looking number) = None
 
 -- ---- the end of the input
 
--- what the end of the input means where more lines could make a unit: before the first line, in the header, among an
--- event's records or inside an epoch it is a fault, else it is good
+-- the fault if the input ends at lines that could become a unit: before the first line, in the header, among an
+-- event's records and inside an epoch; otherwise none
 abbrev pub fault_at_end : {E : Type 0} → List (Item E) → List ReadLine → Option Fault
 fault_at_end [] lines = Some MissingVersion
 fault_at_end (item ∷ before) [] = if not (header_has_ended (item ∷ before)) then Some NoEndOfHeader
     else if nat_lt 0 (records_left (item ∷ before)) then Some Truncated else None
 fault_at_end (item ∷ before) (line ∷ lines) = Some Truncated
 
--- a file read to its end: the units and warnings, newest first, and the fault that ended it
+-- a file read to its end: the units and warnings, newest first, and the fault that ended the reading
 pub record WholeReading (E : Type 0) : Type 0 where
   pub items : List (Item E)
   pub fault : Option At
@@ -96,7 +95,8 @@ ended_with skip items number (Some fault) =
     then record { items = Warned (record { line = number; fault = fault }) ∷ items; fault = None }
     else record { items = items; fault = Some (record { line = number; fault = fault }) }
 
--- a fault at the end has the number of the last line plus 1; where a line is looked for, the end is good
+-- a fault at the end has the number of the last line plus 1. While a line that begins with > is looked for, the end
+-- is no fault
 abbrev pub ended_reading : {E : Type 0} → Bool → Reading E → WholeReading E
 ended_reading skip r =
     elim (r.stop) [
@@ -105,7 +105,7 @@ ended_reading skip r =
       | Looking number ↦ record { items = r.items; fault = None }
     ]
 
--- the reading of the lines of a file from the line of this number on, to their end
+-- the reading of a file from line `number` on, to its end
 abbrev pub whole_reading : {E : Type 0}
     → (List (Item E) → List ReadLine → Place (Unit E)) → Bool → ℕ → List ReadLine → WholeReading E
 whole_reading place skip number lines = ended_reading skip (reading_from place skip [] number lines)

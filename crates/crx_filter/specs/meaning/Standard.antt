@@ -1,5 +1,5 @@
--- Standard files: those whose lines are what printing gives back; the normal form of the others; and what is reported
--- of a file. Lists of items have the newest first.
+-- Standard files, whose lines are as RINEX prints them; the normal form of other files; and the report of a check.
+-- Lists of items have the newest first.
 use Rattle.std.specs.Prelude.{ℕ, ◌≡◌, ◌+◌, Bool, true, false, ◌&&◌, List, [], ◌∷◌, ◌++◌, map, Option, Some, None}
 use Rattle.std.specs.Prelude.{if◌then◌else◌, codes, decimal}
 use Rattle.std.specs.List.{list_all, flat_map}
@@ -24,7 +24,7 @@ use Rattle.crx_filter.specs.meaning.Compacted.{epochs_accepted, whole_rinex}
 abbrev pub printed_items : List (Item Epoch) → List (List ℕ)
 printed_items items = written_lines (λ (before : List (Item Epoch)). printed_unit) items
 
--- the reading of all lines of a file, nothing being skipped
+-- the reading of all lines of a file, without skipping faults
 abbrev pub whole_reading_of : List InputLine → WholeReading Epoch
 whole_reading_of lines = whole_rinex false (map as_read lines)
 
@@ -32,9 +32,9 @@ whole_reading_of lines = whole_rinex false (map as_read lines)
 abbrev pub whole_of : List ℕ → WholeReading Epoch
 whole_of input = whole_reading_of (lines_of input)
 
--- a standard file is read to its good end; each of its lines ends with LF and no CR before it; and printing gives back
--- its lines: header lines, event lines and records as they are, an epoch line and satellite lines with each number in
--- its one printed spelling and no blanks at their ends
+-- a standard file is read to its end without a fault; each of its lines ends with LF and no CR before it; and its
+-- lines are as RINEX prints them: header lines, event lines and records unchanged, epoch lines and satellite lines
+-- with each number in its one printed spelling and no blanks at their ends
 pub record IsStandard (input : List ℕ) : Type 0 where
   pub good : (whole_of input).fault ≡ None
   pub plain : list_all (λ (line : InputLine). line.is_plain) (lines_of input) ≡ true
@@ -63,7 +63,7 @@ abbrev pub systems_text : List Count → List ℕ
 systems_text [] = codes " none"
 systems_text (c ∷ counts) = flat_map count_text (c ∷ counts)
 
--- how many events were accepted, cycle slip records (flag 6) among them
+-- how many events were accepted, including cycle slip records (flag 6)
 abbrev pub events_accepted : List (Item Epoch) → ℕ
 events_accepted [] = 0
 events_accepted (Accepted (HeaderLine line) ∷ before) = events_accepted before
@@ -72,7 +72,7 @@ events_accepted (Accepted (EventRecord line) ∷ before) = events_accepted befor
 events_accepted (Accepted (Observation epoch) ∷ before) = events_accepted before
 events_accepted (Warned at ∷ before) = events_accepted before
 
--- how many values of the accepted epochs aren't missing; the clock is none of them
+-- how many values of the accepted epochs aren't missing, without the clock
 abbrev pub observations_accepted : List (Item Epoch) → ℕ
 observations_accepted [] = 0
 observations_accepted (Accepted (HeaderLine line) ∷ before) = observations_accepted before
@@ -81,11 +81,11 @@ observations_accepted (Accepted (EventRecord line) ∷ before) = observations_ac
 observations_accepted (Accepted (Observation epoch) ∷ before) = observations_accepted before + observations_in epoch
 observations_accepted (Warned at ∷ before) = observations_accepted before
 
--- a line that ends with LF and no CR before it, and that printing gives back
+-- whether a line ends with LF and no CR before it, and is as RINEX prints it
 abbrev pub is_standard_line : InputLine → List ℕ → Bool
 is_standard_line line printed = line.is_plain && bytes_eq line.content printed
 
--- the number of the first line that isn't standard, the lines and what printing gives for each side by side
+-- the number of the first line that isn't standard. `printed`: the printed lines, one for each
 abbrev pub first_not_standard : ℕ → List InputLine → List (List ℕ) → Option ℕ
 first_not_standard number [] printed = None
 first_not_standard number (line ∷ lines) [] = Some number
@@ -96,9 +96,9 @@ abbrev pub standard_text : Option ℕ → List ℕ
 standard_text None = codes " yes"
 standard_text (Some number) = codes " no " ++ decimal number
 
--- what a check finds: the version; the systems and their counts of types at the end of the file, in order of first
--- appearance; how many epochs, events and observations were accepted; and the number of the first line that isn't
--- standard, if there is one
+-- the findings of a check: the version; the systems and their counts of types at the end of the file, in order of
+-- first appearance; how many epochs, events and observations were accepted; and the number of the first line that
+-- isn't standard, if there is one
 pub record Findings : Type 0 where
   pub version : List ℕ
   pub systems : List Count
@@ -107,7 +107,7 @@ pub record Findings : Type 0 where
   pub observations : ℕ
   pub not_standard : Option ℕ
 
--- what is found in a file that is read to its good end, by its lines
+-- the findings in a file that is read to its end without a fault, by its lines
 abbrev pub findings_of : List InputLine → Findings
 findings_of lines =
     let items : List (Item Epoch) = (whole_reading_of lines).items in
@@ -131,13 +131,13 @@ report_lines found =
     ∷ (codes "standard" ++ standard_text found.not_standard)
     ∷ []
 
--- the status of a report: 0 where the file is standard, 2 where it isn't
+-- the status of a report: 0 if the file is standard, 2 if it isn't
 abbrev pub report_status : Option ℕ → ℕ
 report_status None = 0
 report_status (Some number) = 2
 
--- the check of an input: by the fault of its reading, if there is one, and by what there is to find. The report is
--- written once the whole input is accepted, and nothing before; after a fault the status is 1
+-- the check of an input, by the fault of its reading, if there is one, and by its findings. The report is written
+-- only after the whole input was accepted; after a fault the status is 1
 abbrev pub checked_by : Option At → Findings → FilterResult
 checked_by None found = record {
   output = lines_text (report_lines found);

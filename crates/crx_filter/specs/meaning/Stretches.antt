@@ -1,5 +1,5 @@
--- Damaged compact text, whoever wrote it: in any number of stretches after the header, other lines come in
--- place of those of some units. Lists of units have the newest first.
+-- Damaged compact text, whoever wrote it: in any number of stretches after the header, other lines replace the lines
+-- of some units. Lists of units have the newest first.
 use Rattle.std.specs.Prelude.{ℕ, ◌≡◌, Bool, true, not, ◌&&◌, ⊤, List, [], ◌∷◌, ◌++◌, Option, None, Ok, map, is_some}
 use Rattle.std.specs.List.{AllByRecursion, list_all, flat_map}
 use Rattle.crx_base.specs.declared.fault.At.{At}
@@ -24,7 +24,7 @@ use Rattle.crx_runs.specs.meaning.Spans.{Device}
 
 -- ---- text that is cut off, or damaged from some place on
 
--- a text that begins with the lines of some units, whole, whoever wrote them and whatever comes after them
+-- a text that begins with the lines of some units, whole, whoever wrote them and whatever follows them
 pub record BeginsWithUnits (units : List (FileUnit Epoch)) (text : List ℕ) : Type 0 where
   pub version : List ℕ
   pub program : List ℕ
@@ -38,8 +38,8 @@ pub record BeginsWithUnits (units : List (FileUnit Epoch)) (text : List ℕ) : T
 
 -- ---- stretches
 
--- the lines of units that come after others, by the epoch that the first of them may go on from, and the
--- epoch that later lines may go on from
+-- the lines of units that follow the units of `block`. `start`: the epoch that the first of them may continue from;
+-- `now`: the epoch that later lines may continue from
 abbrev pub AreLinesOn : List (FileUnit Epoch) → Option WrittenEpoch → List (FileUnit Epoch) → List (List ℕ)
     → Option WrittenEpoch → Type 0
 AreLinesOn block start [] lines now = (lines ≡ []) × (now ≡ start)
@@ -48,15 +48,15 @@ AreLinesOn block start (unit ∷ units) lines now =
     × AreLinesOn block start units first before × (lines ≡ first ++ more)
     × AreLinesOfUnit (as_items (units ++ block)) before unit more now
 
--- a damaged stretch: the units that are lost, the lines in place of theirs, the units that are kept after it,
--- up to the next stretch or the end, and their lines
+-- a damaged stretch: the lost units, the lines that replace theirs, the units that are kept after it, up to the next
+-- stretch or the end, and their lines
 pub record Stretch : Type 0 where
   pub lost : List (FileUnit Epoch)
   pub instead : List ReadLine
   pub kept : List (FileUnit Epoch)
   pub lines : List (List ℕ)
 
--- the units up to a stretch's end, where the kept ones begin
+-- the units up to a stretch's end, after which the kept ones begin
 abbrev pub up_to_end : List (FileUnit Epoch) → Stretch → List (FileUnit Epoch)
 up_to_end before s = s.lost ++ before
 
@@ -64,7 +64,7 @@ up_to_end before s = s.lost ++ before
 abbrev pub up_to_next : List (FileUnit Epoch) → Stretch → List (FileUnit Epoch)
 up_to_next before s = s.kept ++ up_to_end before s
 
--- all units, those of some stretches after these
+-- all units: those before some stretches, and those of the stretches
 abbrev pub with_stretches : List (FileUnit Epoch) → List Stretch → List (FileUnit Epoch)
 with_stretches before [] = before
 with_stretches before (s ∷ later) = with_stretches (up_to_next before s) later
@@ -74,19 +74,20 @@ abbrev pub stretches_lines : List Stretch → List ReadLine
 stretches_lines [] = []
 stretches_lines (s ∷ later) = (s.instead ++ map Content s.lines) ++ stretches_lines later
 
--- an event's first line that says how many records follow; without such a count it is a bad line, and skipped
+-- whether a line is an event's first line that says how many records follow; without a valid count it is a bad line,
+-- and skipped
 abbrev pub announces_records : List ℕ → Bool
 announces_records line = is_event_line line && is_some (records_in line)
 
--- a line that may come in a stretch: any but an event's first line, which would take lines after it as its
+-- a line that may be in a stretch: any except an event's first line, because the lines after it would be read as its
 -- records
 abbrev pub begins_no_event : ReadLine → Bool
 begins_no_event Overlong = true
 begins_no_event (Content line) = not (announces_records line)
 
--- what is asked of a stretch after some units: it neither begins nor ends inside an event; what is lost
--- leaves the types in force as they were; no line in its place begins an event; and the lines that are kept
--- go on from no epoch, so that the first epoch among them is in full
+-- the conditions of a stretch after some units: it neither begins nor ends inside an event; the lost units leave the
+-- types in force as they were; no line that replaces theirs begins an event; and the kept lines continue from no
+-- epoch, so that the first epoch among them is full
 pub record IsStretch (before : List (FileUnit Epoch)) (s : Stretch) : Type 0 where
   pub begins : records_left (as_items before) ≡ 0
   pub ends : records_left (as_items (up_to_end before s)) ≡ 0
@@ -95,12 +96,12 @@ pub record IsStretch (before : List (FileUnit Epoch)) (s : Stretch) : Type 0 whe
   pub last : Option WrittenEpoch
   pub written : AreLinesOn (up_to_end before s) None s.kept s.lines last
 
--- the same of each of some stretches, after the units up to it
+-- each of some stretches meets these conditions, after the units up to it
 abbrev pub AreStretches : List (FileUnit Epoch) → List Stretch → Type 0
 AreStretches before [] = ⊤
 AreStretches before (s ∷ later) = IsStretch before s × AreStretches (up_to_next before s) later
 
--- the compact text of a file, whoever wrote it, damaged in these stretches after the lines of these units
+-- the compact text of a file, whoever wrote it, damaged in these stretches after the lines of the units `before`
 pub record HasStretches (before : List (FileUnit Epoch)) (stretches : List Stretch) (damaged : List ℕ) : Type 0 where
   pub file : AreWholeFile (with_stretches before stretches)
   pub header : header_has_ended (as_items before) ≡ true
@@ -110,8 +111,8 @@ pub record HasStretches (before : List (FileUnit Epoch)) (stretches : List Stret
 
 -- ---- what is saved
 
--- the lines that are written after these units: for each stretch some whole epochs, by the types in force
--- there, and then exactly the units that are kept
+-- the lines written after the units `before`: for each stretch some whole epochs, by the types in force there, and
+-- then exactly the kept units
 abbrev pub Saves : List (FileUnit Epoch) → List Stretch → List (List ℕ) → Type 0
 Saves before [] lines = lines ≡ []
 Saves before (s ∷ later) lines = (found : List Epoch) × (rest : List (List ℕ))
@@ -119,8 +120,8 @@ Saves before (s ∷ later) lines = (found : List Epoch) × (rest : List (List �
     × (lines ≡ flat_map printed_epoch found ++ (printed_items (as_items s.kept) ++ rest))
     × Saves (up_to_next before s) later rest
 
--- what an expansion that skips faults writes and reports of such a text: exactly the units before the first
--- stretch, and what is saved after them. No fault ends it, and all that it reports are warnings
+-- the output and messages of an expansion of such a text that skips faults: exactly the units before the first
+-- stretch, and the saved lines after them. No fault ends it, and all its messages are warnings
 pub record KeepsTheRest (before : List (FileUnit Epoch)) (stretches : List Stretch) (result : FilterResult)
     : Type 0 where
   pub lines : List (List ℕ)
@@ -133,15 +134,15 @@ pub record KeepsTheRest (before : List (FileUnit Epoch)) (stretches : List Stret
 
 -- ---- promises about runs
 
--- an expansion that skips faults keeps all units outside the damaged stretches: what it wrote, reported and
--- answered is what `KeepsTheRest` says of the damaged text
+-- an expansion that skips faults keeps all units outside the damaged stretches: it wrote, reported and returned a
+-- result that `KeepsTheRest` describes
 abbrev pub KeepsUndamaged : Choices → Device → Device → ℕ → Option At → List ℕ → Type 0
 KeepsUndamaged expanding writer messages status fault damaged =
     (before : List (FileUnit Epoch)) (stretches : List Stretch)
     → expanding.skip ≡ true → HasStretches before stretches damaged
     → (saved : FilterResult) × KeepsTheRest before stretches saved × IsResult saved writer messages status fault
 
--- an expansion writes all units that are whole at the beginning of its text, whatever comes after them
+-- an expansion writes all units that are whole at the beginning of its text, whatever follows them
 abbrev pub WritesWholeUnits : Device → List ℕ → Type 0
 WritesWholeUnits writer text =
     (units : List (FileUnit Epoch)) → AreUnitsInPlace units → BeginsWithUnits units text

@@ -1,5 +1,5 @@
--- What compact text is, of a file in order: its units, their RINEX text and their compact text, with no word of how
--- lines are read. Lists of units have the newest first.
+-- The compact text of a file in order: its units, their RINEX text and their compact text, without any reader. Lists
+-- of units have the newest first.
 use Rattle.std.specs.Prelude.{◌≡◌, ◌≢◌, ◌<◌, ◌≤◌, ◌↔◌, if◌then◌else◌, ℕ, true, false, List, [], ◌∷◌, length, map, None}
 use Rattle.std.specs.Prelude.{All, ⊤, Option}
 use Rattle.std.specs.Option.{is_some}
@@ -23,9 +23,9 @@ use Rattle.crx_runs.specs.meaning.Spans.{Device}
 
 -- ---- a file in order
 
--- what is true of a unit that was accepted after some items: a header line is in the header and is good; an
--- event's first line is one, and is between units; a record is one of those that its event announces, and no bad
--- types line where these count; and an epoch is whole, with the types in force
+-- the conditions of a unit after some items: a header line is in the header and has no fault; an event's first line
+-- is between units and has a valid count; a record is one that its event announces, and no bad types line if these
+-- count; and an epoch is whole, with the types in force
 abbrev pub IsInPlace : List (Item Epoch) → FileUnit Epoch → Type 0
 IsInPlace before (HeaderLine line) = (header_has_ended before ≡ false)
     × (header_line_fault (is_at_start before) line ≡ None)
@@ -36,7 +36,7 @@ IsInPlace before (EventRecord line) = (header_has_ended before ≡ true)
 IsInPlace before (Observation epoch) = (header_has_ended before ≡ true)
     × (records_left before ≡ 0) × IsWholeEpoch (types_in_force before) epoch
 
--- a copied line is one line, is no longer than a line may be, and has no CR at its end
+-- a copied line has no LF, isn't too long, and has no CR at its end
 pub record CanBeCopied (line : List ℕ) : Type 0 where
   pub one_line : All (λ b. b ≢ 10) line
   pub short : length line ≤ LINE_LIMIT
@@ -46,7 +46,7 @@ pub record CanBeCopied (line : List ℕ) : Type 0 where
 abbrev pub as_items : List (FileUnit Epoch) → List (Item Epoch)
 as_items units = map Accepted units
 
--- each unit is in its place, and what is copied can be
+-- each unit is in its place, and each copied line can be copied
 abbrev pub AreInOrder : List (FileUnit Epoch) → Type 0
 AreInOrder [] = ⊤
 AreInOrder (unit ∷ before) =
@@ -60,21 +60,21 @@ pub record MakeAFile (units : List (FileUnit Epoch)) : Type 0 where
 
 -- ---- its two texts
 
--- their lines in RINEX, each followed by LF
+-- the RINEX lines of some units, each followed by LF
 abbrev pub rinex_text : List (FileUnit Epoch) → List ℕ
 rinex_text units = lines_text (printed_items (as_items units))
 
--- their lines in compact text, by what is chosen for it
+-- the compact lines of some units, by the options of a compaction
 abbrev pub compact_text : Choices → List (FileUnit Epoch) → List ℕ
 compact_text choices units = lines_text (compact_lines choices (as_items units))
 
--- a compaction makes the second of the first, and an expansion the first of the second, whatever is chosen
+-- a compaction turns the RINEX text into the compact text, and an expansion turns it back, with any options
 pub record StandForEachOther (units : List (FileUnit Epoch)) (compacting expanding : Choices) : Type 0 where
   pub compaction : compacted (rinex_text units) compacting ≡ written_well (compact_text compacting units)
   pub expansion : is_date compacting.date ≡ true
       → expanded (compact_text compacting units) expanding ≡ written_well (rinex_text units)
 
--- both texts stand for each other where the units make a file
+-- if units make a file, their two texts stand for each other
 abbrev pub TextsOfUnits : List (FileUnit Epoch) → Choices → Choices → Type 0
 TextsOfUnits units compacting expanding = MakeAFile units → StandForEachOther units compacting expanding
 
@@ -95,7 +95,7 @@ ReadsUnits writer messages status fault text =
 
 -- ---- standard files
 
--- a file is standard exactly where it is the RINEX text of units that make a file
+-- a file is standard if and only if it is the RINEX text of units that make a file
 abbrev pub IsStandardByUnits : List ℕ → Type 0
 IsStandardByUnits file =
     IsStandard file ↔ ((units : List (FileUnit Epoch)) × MakeAFile units × (file ≡ rinex_text units))

@@ -1,4 +1,4 @@
--- What an expansion writes is a standard file, whoever wrote the compact text, and whatever of it was damaged.
+-- The output of an expansion is a standard file, whoever wrote the compact text, and however it was damaged.
 use Rattle.std.specs.Prelude.{◌≡◌, ◌↔◌, ℕ, Bool, List, [], ◌∷◌, None, true, map}
 use Rattle.std.specs.List.{list_all}
 use Rattle.crx_base.specs.meaning.Lines.{InputLine, lines_of}
@@ -23,21 +23,21 @@ WroteStandard writer =
 
 -- ---- the law
 
--- the units that were read of compact text, with the warnings between them, as the units of RINEX they stand for
+-- the units that were read from compact text, with the warnings between them, as the units of RINEX that they mean
 abbrev pub rinex_items : List (Item ReadEpoch) → List (Item Epoch)
 rinex_items [] = []
 rinex_items (Accepted unit ∷ before) = Accepted (rinex_unit unit) ∷ rinex_items before
 rinex_items (Warned at ∷ before) = Warned at ∷ rinex_items before
 
--- what the expansion of a text writes, where no fault ends it
+-- the output of the expansion of a text that no fault ends
 pub record IsWrittenStandard (text : List ℕ) (choices : Choices) : Type 0 where
   -- is standard, unless a line of it ends in CR
   pub standard : has_plain_lines (expanded text choices).output ≡ true
       → IsStandard (expanded text choices).output
-  -- and that is so exactly where a line that was copied has a content that ends in CR
+  -- and its lines don't end in CR if and only if no copied line has a content that ends in CR
   pub copied : has_plain_lines (expanded text choices).output ≡ true
       ↔ HaveNoReturns (rinex_items (whole_compact choices.skip (map as_read (lines_of text))).items)
 
--- where no fault ends the expansion of a text, what it writes is standard in this sense
+-- if no fault ends the expansion of a text, its output is standard in this sense
 abbrev pub WhatIsExpandedIsStandard : List ℕ → Choices → Type 0
 WhatIsExpandedIsStandard text choices = (expanded text choices).fault ≡ None → IsWrittenStandard text choices
