@@ -10,7 +10,7 @@ use Rattle.crx_filter.specs.{RinexReaders.BeginsEpoch, RinexStages.is_rinex_stag
 use Rattle.crx_filter.specs.declared.stage.Stage.TheVariants.{Between, Looking}
 use Rattle.crx_rinex.specs.EpochPlaces.{whole_or_going}
 
--- ---- what a reader has then
+-- ---- the state of a reader then
 
 -- an epoch with this line, of which these rows have come
 abbrev pub open_by_rows : List Count → ObservationHead → List Row → OpenEpoch
@@ -69,7 +69,7 @@ module _ (before after : RinexReader) (head : ObservationHead) (line : List ℕ)
       → MovesReader (made_at before line kept) before after
   row-taken part parts stage = grind (arith, in-its-epoch, part-taken)
 
--- ---- where an epoch or an event may begin
+-- ---- the beginning of an epoch or an event
 
 -- what a line's head says of the line
 abbrev OfHead : List ℕ → Result HeadLine Fault → Type 0

@@ -1,5 +1,5 @@
--- Where the reading of compact text starts anew: what is from there on depends on the observation types in force,
--- and on the lines from there on alone. Lists of items have the newest first.
+-- Restarts in the reading of compact text: from there on the reading depends only on the observation types in force
+-- and on the lines that follow. Lists of items have the newest first.
 use Rattle.std.specs.Prelude.{◌≡◌, ℕ, zero, suc, Bool, true, false, ◌&&◌, List, [], ◌∷◌, ◌++◌, if◌then◌else◌}
 use Rattle.crx_base.specs.meaning.AsRead.{ReadLine, Content, Overlong}
 use Rattle.crx_header.specs.meaning.EpochColumns.{begins_epoch, is_event_line}
@@ -8,8 +8,8 @@ use Rattle.crx_filter.specs.meaning.Items.{Item, header_has_ended, records_annou
 use Rattle.crx_filter.specs.meaning.Reading.{Reading, Stop, reading_from}
 use Rattle.crx_filter.specs.meaning.Expanded.{compact_place}
 
--- whether all starts anew at some lines, after so many records of an event: each line that comes after them begins with
--- >, and the first one that begins no event begins with > too
+-- whether reading restarts at these lines, after some records of an event that are still to be read: after the
+-- records, each line that begins a unit begins with >, up to the first unit that isn't an event
 abbrev pub starts_anew : ℕ → List ReadLine → Bool
 starts_anew zero [] = true
 starts_anew zero (Overlong ∷ lines) = false
@@ -18,19 +18,19 @@ starts_anew zero (Content line ∷ lines) =
 starts_anew (suc left) [] = true
 starts_anew (suc left) (line ∷ lines) = starts_anew left lines
 
--- the header has ended, and no record of an event is still to come
+-- the header has ended, and no record of an event is still to be read
 pub record IsBetweenUnits {E : Type 0} (items : List (Item E)) : Type 0 where
   pub header : header_has_ended items ≡ true
   pub none : records_left items ≡ 0
 
--- two readings, each after some items, go on by the same units and warnings, and stop alike
+-- two readings, each after some items, continue with the same units and warnings, and stop alike
 pub record GoOnAlike (before other : List (Item ReadEpoch)) (one two : Reading ReadEpoch) : Type 0 where
   pub more : List (Item ReadEpoch)
   pub stop : Stop
   pub first : one ≡ record { items = more ++ before; stop = stop }
   pub second : two ≡ record { items = more ++ other; stop = stop }
 
--- where all starts anew, whatever was read before, the same units are read by the same types
+-- if reading restarts, the same units are read with the same types, whatever was read before
 abbrev pub DependsOnTypes : Type 0
 DependsOnTypes =
     (skip : Bool) (before other : List (Item ReadEpoch)) (number : ℕ) (lines : List ReadLine)

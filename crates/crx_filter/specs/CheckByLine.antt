@@ -1,5 +1,5 @@
--- A check line by line: its state after some lines, and what one line more makes of that. It holds no more than
--- the reading does, and four totals. Lists of items have the newest first.
+-- A check line by line: its state after some lines, and the state after one more line. It holds only the state of the
+-- reading and four totals. Lists of items have the newest first.
 use Rattle.std.specs.Prelude.{ℕ, Bool, false, ◌+◌, List, [], ◌∷◌, ◌++◌, length, map, Option, Some, None, if◌then◌else◌}
 use Rattle.crx_base.specs.meaning.Lines.{InputLine}
 use Rattle.crx_base.specs.meaning.AsRead.{ReadLine, as_read}
@@ -21,14 +21,14 @@ use Rattle.crx_filter.specs.meaning.Standard.{observations_accepted, is_standard
 
 -- ---- the units so far
 
--- the version in the header's first line, and how many epochs, events and observations were accepted
+-- the version in the first header line, and how many epochs, events and observations were accepted
 pub record Totals : Type 0 where
   pub version : List ℕ
   pub epochs : ℕ
   pub events : ℕ
   pub observations : ℕ
 
--- the totals once a unit is accepted, which may be the header's first line
+-- the totals after a unit is accepted. `is_first`: it is the header's first line
 abbrev pub totals_with : Totals → Bool → Unit Epoch → Totals
 totals_with totals is_first (HeaderLine line) =
     record totals { version = if is_first then version_in line else totals.version }
@@ -40,15 +40,15 @@ totals_with totals is_first (Observation epoch) =
 abbrev pub totals_after : RunState OpenEpoch Totals → Unit Epoch → Totals
 totals_after state unit = totals_with state.kept (is_before_header state.phase) unit
 
--- the totals once a line has made this
+-- the totals after a line with this outcome
 abbrev pub totals_made : Totals → Bool → Made Epoch OpenEpoch → Totals
 totals_made totals is_first (Completes unit) = totals_with totals is_first unit
 totals_made totals is_first (Moves phase) = totals
 totals_made totals is_first (Rejects fault) = totals
 totals_made totals is_first (Repeats at) = totals
 
--- a check's reading as a direction: it reads as compaction does, keeps the totals, and a unit's lines are those that
--- printing gives
+-- a check's reading as a direction: it reads as a compaction does, keeps the totals, and a unit's lines are as RINEX
+-- prints them
 abbrev pub checking : Direction Epoch OpenEpoch Totals
 checking = record {
   begins = rinex_begins;
@@ -61,11 +61,11 @@ checking = record {
   written = λ state. printed_unit;
 }
 
--- a check as an engine's direction: before the end of the input it hands out nothing
+-- a check as an engine's direction: before the end of the input it makes no line ready
 abbrev pub check_by_line : Direction Epoch OpenEpoch Totals
 check_by_line = record checking { written = λ state unit. [] }
 
--- the version in the first line of the header
+-- the version in the first header line
 abbrev pub version_accepted : List (Item Epoch) → List ℕ
 version_accepted [] = []
 version_accepted (Accepted (HeaderLine line) ∷ before) =
@@ -85,37 +85,37 @@ totals_of items = record {
 
 -- ---- standard lines
 
--- the lines of an epoch that is open, as RINEX prints them
+-- the lines of an open epoch, as RINEX prints them
 abbrev pub printed_open : Phase OpenEpoch → List (List ℕ)
 printed_open (InEpoch so_far) = printed_epoch (epoch_of so_far)
 printed_open phase = []
 
--- the lines that printing gives back for some lines: those of the units, and of the epoch that is open
+-- the printed lines for some lines: those of the units, and of the open epoch
 abbrev pub printed_so_far : List InputLine → List (List ℕ)
 printed_so_far lines =
     let r : Reading Epoch = rinex_reading false (map as_read lines) in
     printed_items r.items ++ printed_open (phase_of rinex_open r)
 
--- the lines of the unit or the open epoch that a line makes; that line is the last of them
+-- the printed lines of the unit or the open epoch that a line belongs to; that line is the last of them
 abbrev pub printed_made : Made Epoch OpenEpoch → List (List ℕ)
 printed_made (Completes unit) = printed_unit unit
 printed_made (Moves phase) = printed_open phase
 printed_made (Rejects fault) = []
 printed_made (Repeats at) = []
 
--- the first line that isn't standard, with one line more
+-- the number of the first line that isn't standard, after one more line
 abbrev pub earliest : Option ℕ → Bool → ℕ → Option ℕ
 earliest (Some first) is_standard number = Some first
 earliest None is_standard number = if is_standard then None else Some number
 
 -- ---- the state
 
--- how far the reading is, with the totals; and the number of the first line that isn't standard, if there is one
+-- the state of the reading, with the totals; and the number of the first line that isn't standard, if there is one
 pub record CheckState : Type 0 where
   pub reading : RunState OpenEpoch Totals
   pub not_standard : Option ℕ
 
--- a check chooses nothing, and never skips
+-- a check has no options, and never skips a fault
 abbrev pub no_choices : Choices
 no_choices = record { every = None; skip = false; date = [] }
 
@@ -134,19 +134,19 @@ check_state lines = record {
 abbrev pub check_step : CheckState → InputLine → Step OpenEpoch Totals
 check_step before line = state_next checking before.reading (as_read line)
 
--- whether a line is standard, by what it makes
+-- whether a line is standard, by its outcome
 abbrev pub is_standard_after : CheckState → InputLine → Bool
 is_standard_after before line = is_standard_line line (last_line
     (printed_made (made_in checking before.reading.phase before.reading.types before.reading.kept (as_read line))))
 
--- what one line more makes of the state
+-- the state after one more line
 abbrev pub check_next : CheckState → InputLine → CheckState
 check_next before line = record {
   reading = (check_step before line).next;
   not_standard = earliest before.not_standard (is_standard_after before line) (before.reading.number + 1);
 }
 
--- what a check finds at the end, by its state
+-- the findings of a check at the end, by its state
 abbrev pub found_by : CheckState → Findings
 found_by end = record {
   version = end.reading.kept.version;

@@ -6,10 +6,9 @@ use Rattle.crx_filter.specs.CheckingParts.{CheckingState, checking_parts, pendin
 use Rattle.crx_filter.specs.DirectionParts.{EngineParts, state_by}
 use Rattle.crx_filter.specs.LineByLine.{RunState}
 
--- its state
 abbrev pub checking_state : EngineParts CheckingState → RunState OpenEpoch Totals
 checking_state e = state_by e.options e.number (checking_parts e.direction)
 
--- the lines that are pending
+-- the pending lines
 abbrev pub checking_ready : EngineParts CheckingState → List (List ℕ)
 checking_ready e = pending_report e.direction

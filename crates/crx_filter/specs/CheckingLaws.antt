@@ -1,4 +1,4 @@
--- What the laws of a check say.
+-- The laws of a check.
 use Rattle.std.specs.Prelude.{◌≡◌, ◌↔◌, ℕ, true, false, List, [], ◌∷◌, ◌++◌, None}
 use Rattle.crx_base.specs.meaning.Lines.{InputLine, lines_of}
 use Rattle.crx_base.specs.meaning.Choices.{Choices, is_date}
@@ -10,27 +10,26 @@ use Rattle.crx_filter.specs.meaning.Standard.{whole_of, whole_reading_of, findin
 use Rattle.crx_filter.specs.CheckByLine.{checking, check_state, check_step, check_next, found_by}
 use Rattle.crx_filter.specs.meaning.Directions.{fault_so_far}
 
--- a check is given one line more: no line comes again; the line's fault is the one that ends the reading; and where
--- there is none, the state then is made of the line and of the state before it alone
+-- a check takes one more line: no line is fed again; the line's fault is the one that ends the reading; and without a
+-- fault the new state depends only on the line and on the state before it
 pub record IsCheckedOn (lines : List InputLine) (line : InputLine) : Type 0 where
   pub once : is_again (check_step (check_state lines) line).answer ≡ false
   pub fault : fault_so_far (lines ++ line ∷ []) ≡ failed_by (check_step (check_state lines) line).answer
   pub next : fault_so_far (lines ++ line ∷ []) ≡ None
       → check_state (lines ++ line ∷ []) ≡ check_next (check_state lines) line
 
--- the end of the input: its fault is that of the whole reading, and where there is none, what was seen is what there is
--- to find
+-- the end of the input: its fault is the fault of the whole reading, and without one the state holds the findings
 pub record IsCheckEnded (lines : List InputLine) : Type 0 where
   pub fault : (whole_reading_of lines).fault ≡ failed_by (state_end checking (check_state lines).reading).answer
   pub found : (whole_reading_of lines).fault ≡ None → found_by (check_state lines) ≡ findings_of lines
 
--- a file that is read to its good end has no line to name exactly where it is standard
+-- a file that is read to its end without a fault has no line to name if and only if it is standard
 abbrev pub IsNamedWhereNot : List ℕ → Type 0
 IsNamedWhereNot input = (whole_of input).fault ≡ None
     → (findings_of (lines_of input)).not_standard ≡ None ↔ IsStandard input
 
--- a file that is read to its good end is reported as standard, with status 0, exactly where the expansion of its
--- compaction gives it back; whatever is chosen for either
+-- a file that is read to its end without a fault is reported as standard, with status 0, if and only if the expansion
+-- of its compaction restores it, with any options
 abbrev pub IsStandardExactlyWhereSame : List ℕ → Choices → Choices → Type 0
 IsStandardExactlyWhereSame input compacting expanding =
     is_date compacting.date ≡ true → (whole_of input).fault ≡ None

@@ -1,4 +1,4 @@
--- What a check has between two lines, and how its parts belong together.
+-- The parts of a check between two lines, and how they belong together.
 use Rattle.std.specs.Prelude.{◌≡◌, ℕ, Bool, true, false, List, drop, Option}
 use Rattle.std.proofs.Common.{ap, ◌∙◌}
 use Rattle.std.proofs.lemmas.Bool.{false≢true}
@@ -23,7 +23,7 @@ use Rattle.crx_filter.specs.declared.checking.Noted.{Noted}
 use Rattle.crx_filter.specs.declared.totals.Totals.{Totals}
 use Rattle.crx_filter.specs.declared.rinex_reader.RinexReader.{RinexReader}
 
--- the reader, what was noted of the lines, and how many lines of the report were handed out
+-- the reader, the notes on the lines, and how many lines of the report have been lent
 pub record CheckingState : Type 0 where
   pub reader : RinexReader
   pub noted : Noted
@@ -34,17 +34,17 @@ abbrev pub AreNamed : List Bool → List ObservationRow → Type 0
 AreNamed names rows = (name : List ℕ) → is_identifier name ≡ true
     → has_identifier names name ≡ has_satellite name rows
 
--- the rows of an open epoch are named, and their observations counted
+-- the rows of an open epoch are in the table, and their observations are counted
 pub record AreCounted (reader : RinexReader) (noted : Noted) : Type 0 where
   pub named : is_open_stage reader.stage ≡ true → AreNamed noted.names reader.rows.rows
   pub observed : is_open_stage reader.stage ≡ true → IsObserved noted.observed reader.rows.rows
 
--- no row of an epoch was noted
+-- no row of an epoch has been noted
 pub record HasNoRow (noted : Noted) : Type 0 where
   pub named : (name : List ℕ) → has_identifier noted.names name ≡ false
   pub observed : noted.observed ≡ 0
 
--- a line that made this was noted: the totals have what it adds, and it is named where it is the first that
+-- a line with this outcome was noted: the totals include it, and its number is stored if it is the first line that
 -- isn't standard
 pub record NotesLine (made : Made Epoch OpenEpoch) (is_first : Bool) (line : InputLine) (number : ℕ)
     (old new : Noted) : Type 0 where
@@ -60,22 +60,22 @@ checking_parts c = record {
   kept = totals_held c.noted.totals;
 }
 
--- the lines of the report, by what was found so far; those that weren't handed out are pending
+-- the lines of the report, by the findings so far; the lines that haven't been lent are pending
 abbrev pub report_of : CheckingState → List (List ℕ)
 report_of c = report_lines (found_held c.noted.totals c.reader.types c.noted.not_standard)
 
 abbrev pub pending_report : CheckingState → List (List ℕ)
 pending_report c = drop c.handed_out (report_of c)
 
--- it has noted the first of these lines that isn't standard
+-- the check has noted the first of these lines that isn't standard
 abbrev pub HasNoted : CheckingState → List InputLine → Type 0
 HasNoted c lines = c.noted.not_standard ≡ first_not_standard 1 lines (printed_so_far lines)
 
--- and of a file that consists of these lines, once its end was good
+-- the same of a file that consists of these lines, after an end without a fault
 abbrev pub HasFound : CheckingState → List InputLine → Type 0
 HasFound c lines = c.noted.not_standard ≡ (findings_of lines).not_standard
 
--- a check skips nothing
+-- a check skips no fault
 pub never_skips : {X : Type 0} (choices : Choices) → no_choices ≡ choices → choices.skip ≡ true → X
 never_skips choices taken skips = absurd (false≢true (ap (λ (c : Choices). c.skip) taken ∙ skips))
 
@@ -93,7 +93,7 @@ checker_state_with reader number totals not_standard = record {
   not_standard = not_standard;
 }
 
--- whether lines can come, where nothing is skipped
+-- whether lines can follow, if no fault is skipped
 abbrev pub is_reading : Phase OpenEpoch → Bool
 is_reading (InHeader is_first) = true
 is_reading BetweenUnits = true

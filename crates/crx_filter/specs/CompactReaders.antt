@@ -1,4 +1,4 @@
--- What a reader of compact text makes of a line.
+-- The steps of a reader of compact text.
 use Rattle.std.specs.Prelude.{⊤, ℕ, Bool, true, List, [], ◌∷◌, Option, Result, Ok}
 use Rattle.crx_base.specs.declared.fault.Fault.{Fault}
 use Rattle.crx_compact.specs.OpenEpochs.{OpenRawEpoch, tail_held}
@@ -8,7 +8,7 @@ use Rattle.crx_filter.specs.DirectionParts.{DirectionParts, Reads}
 use Rattle.crx_filter.specs.ExpansionByLine.{expansion}
 use Rattle.crx_filter.specs.declared.compact_reader.CompactReader.{CompactReader}
 
--- what a reader has between two lines is what an expansion has
+-- between two lines the parts of a reader are the parts of an expansion
 abbrev pub compact_reader_parts : CompactReader → DirectionParts OpenRawEpoch (Option Tail)
 compact_reader_parts r = record {
   stage = r.stage;
@@ -17,13 +17,13 @@ compact_reader_parts r = record {
   kept = tail_held r.columns.value;
 }
 
--- what it answers to a line, by any choices, and these lines are ready then
+-- its result for a line, with any options, after which these lines are ready
 abbrev pub ReadsCompactLine :
     CompactReader → List ℕ → Result Bool Fault → List (List ℕ) → CompactReader → Type 0
 ReadsCompactLine before line result ready after = Reads expansion (λ choices. ⊤)
     (compact_reader_parts before) line result ready (compact_reader_parts after)
 
--- the line itself, where it is copied
+-- the line itself, if it is copied
 abbrev pub line_copied : List ℕ → Result Bool Fault → List (List ℕ)
 line_copied line (Ok true) = line ∷ []
 line_copied line result = []

@@ -8,23 +8,23 @@ use Rattle.crx_filter.specs.declared.stage.Stage.TheVariants.{FirstLines, Header
 use Rattle.crx_filter.specs.declared.stage.Stage.TheVariants.{Closed}
 use Rattle.crx_filter.specs.declared.stage.Stage.TheVariants.{Ended}
 
--- the epoch whose lines have come in part
+-- the open epoch, of which some lines have been read
 abbrev pub open_in : ColumnsState → Option OpenRawEpoch
 open_in (Idle tail) = None
 open_in (Reading begun) = Some begun
 
--- whether a line is still to come, by the clock and the row whose line is awaited
+-- whether another line is expected, by the clock and by the row that is expected next
 abbrev pub wants_line : OpenClock → Option RowTail → Bool
 wants_line (Before arc) row = true
 wants_line (After arc) None = false
 wants_line (After arc) (Some row) = true
 
--- an epoch is open, and wants lines
+-- an epoch is open, and expects lines
 abbrev pub wants_lines : ColumnsState → Bool
 wants_lines (Idle tail) = false
 wants_lines (Reading begun) = wants_line begun.clock (awaited_row begun)
 
--- an epoch is open in the stage of one alone, and it wants lines
+-- an epoch is open only in the stage `Open`, and there it expects lines
 abbrev pub is_compact_stage : Stage → ColumnsState → Bool
 is_compact_stage Open columns = wants_lines columns
 is_compact_stage (FirstLines count) columns = is_idle columns

@@ -1,4 +1,4 @@
--- Beside meaning/Compacted: what code and proofs see of it.
+-- Additions to meaning/Compacted for code and proofs.
 use Rattle.crx_filter.specs.meaning.Directions.{rinex_reading}
 use Rattle.std.specs.Prelude.{ℕ, List}
 use Rattle.crx_base.specs.meaning.AsRead.{ReadLine}
@@ -8,7 +8,7 @@ use Rattle.crx_filter.specs.meaning.Compacted.{compact_lines}
 
 -- ---- whole files
 
--- the lines that are written for the units complete within the lines so far, the end of the input not being judged
+-- the lines written for the units that are complete within the lines so far; the end of the input isn't judged
 abbrev pub compaction_so_far : Choices → List ReadLine → List (List ℕ)
 compaction_so_far choices lines = compact_lines choices (rinex_reading choices.skip lines).items
 

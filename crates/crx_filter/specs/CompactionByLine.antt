@@ -1,4 +1,4 @@
--- Compaction line by line: the state between two lines, by the tail of the epochs alone.
+-- Compaction line by line: between two lines it keeps only the tail of the epochs.
 use Rattle.std.specs.Prelude.{ℕ, Bool, true, false, ◌+◌, List, [], ◌∷◌, ◌++◌, length, Option, Some, None, Result, Ok}
 use Rattle.std.specs.Prelude.{Err, if◌then◌else◌}
 use Rattle.crx_base.specs.meaning.AsRead.{ReadLine}
@@ -18,13 +18,13 @@ use Rattle.crx_filter.specs.meaning.Compacted.{epochs_accepted, is_interrupted, 
 use Rattle.crx_header.specs.meaning.CompactHeader.{lines_before_header}
 use Rattle.crx_filter.specs.meaning.Directions.{rinex_reading}
 
--- the state of the epochs: the next one's index, from 0; and the tail of those before it, or none where the next
--- one is the first or an event or a warning is before it
+-- the state of the epochs: the next one's index, from 0; and the tail of the epochs before it, or none if the next
+-- one is the first or follows an event or a warning
 pub record Written : Type 0 where
   pub index : ℕ
   pub tail : Option Tail
 
--- ---- what a line makes
+-- ---- the outcome of a line
 
 abbrev pub made_of_epoch_step : EpochStep → Made Epoch OpenEpoch
 made_of_epoch_step (Going so_far) = Moves (InEpoch so_far)
@@ -36,21 +36,21 @@ made_of_beginning types (Err fault) = Rejects fault
 made_of_beginning types (Ok (EventBegins line)) = Completes (EventLine line)
 made_of_beginning types (Ok (EpochBegins head)) = made_of_epoch_step (whole_or_going (opened types head))
 
--- where an epoch or an event may begin
+-- the outcome of a line if an epoch or an event may begin
 abbrev pub rinex_begins : {K : Type 0} → List Count → K → ReadLine → Made Epoch OpenEpoch
 rinex_begins types kept line = made_of_line (λ content. made_of_beginning types (beginning_of content)) line
 
--- in an epoch
+-- the outcome of a line in an epoch
 abbrev pub rinex_continues : OpenEpoch → ReadLine → Made Epoch OpenEpoch
 rinex_continues so_far line = made_of_epoch_step (epoch_step so_far line)
 
--- ---- the state, and what is written
+-- ---- the state, and the lines written
 
--- the tail that the next epoch is written after: none where its index is one of every so many, or where there is none
+-- the tail that the next epoch continues from: empty if its index makes it a full epoch, or if no tail is kept
 abbrev pub tail_before_epoch : RunState OpenEpoch Written → Tail
 tail_before_epoch state = tail_written_after (is_at_every state.choices.every state.kept.index) state.kept.tail
 
--- an event interrupts, a header line comes before all epochs
+-- the state after a unit: an event interrupts the epochs, a header line precedes them
 abbrev pub written_kept : RunState OpenEpoch Written → Unit Epoch → Written
 written_kept state (HeaderLine line) = record { index = state.kept.index; tail = None }
 written_kept state (EventLine line) = record { index = state.kept.index; tail = None }

@@ -1,4 +1,4 @@
--- What a compaction has between two lines, and how its parts belong together.
+-- The parts of a compaction between two lines, and how they belong together.
 use Rattle.std.specs.Prelude.{◌≡◌, ℕ, Bool, true, false, not, List, [], length, Some}
 use Rattle.crx_base.specs.declared.fault.Fault.{Fault}
 use Rattle.crx_compact.specs.Encoding.{EncoderState}
@@ -12,18 +12,18 @@ use Rattle.crx_filter.specs.declared.rinex_reader.RinexReader.{RinexReader}
 use Rattle.crx_filter.specs.declared.stage.Stage.{Stage}
 use Rattle.crx_filter.specs.declared.stage.Stage.TheVariants.{Open}
 
--- how many epochs were accepted, the reader, and what is written
+-- how many epochs were accepted, the reader, and the encoder
 pub record CompactionState : Type 0 where
   pub index : ℕ
   pub reader : RinexReader
   pub encoder : EncoderState
 
--- the encoder has the rows of the epoch that the reader has open
+-- the encoder has the rows of the epoch that the reader holds open
 pub record BelongTogether (reader : RinexReader) (encoder : EncoderState) : Type 0 where
   pub opened : encoder.is_open ≡ is_open_stage reader.stage
   pub rows : encoder.rows ≡ rows_open reader.stage reader.rows.rows
 
--- an open epoch is in full where it is due
+-- an open epoch is full if and only if it is due
 abbrev pub is_full_where_due : Stage → Bool → Bool → Bool
 is_full_where_due Open true due = due
 is_full_where_due Open false due = not due
@@ -37,20 +37,20 @@ compaction_parts c = record {
   kept = record { index = c.index; tail = c.encoder.before };
 }
 
--- all rows of the epoch that a reader has have come, and the encoder has them
+-- all rows of the reader's epoch have been read, and the encoder has them
 pub record HasWholeEpoch (reader : RinexReader) (encoder : EncoderState) : Type 0 where
   pub begun : encoder.is_open ≡ true
   pub head : ObservationHead
   pub held : reader.head ≡ Some head
   pub counted : length encoder.rows ≡ head.count
 
--- a row was taken, which is the epoch's last or isn't, and was written
+-- a row was read, the epoch's last or another, and encoded
 pub record HasWrittenRow (before : RinexReader) (encoder : EncoderState) (line : List ℕ) (is_last : Bool)
     (after : RinexReader) (new : EncoderState) : Type 0 where
   pub takes : (kept : Written) → TakesRow (made_at before line kept) is_last before after
   pub written : new ≡ record encoder { rows = after.rows.rows }
 
--- a row was refused: nothing is written
+-- a row was refused, and nothing is written
 pub record HasRefusedRow (before : RinexReader) (encoder : EncoderState) (line : List ℕ) (fault : Fault)
     (after : RinexReader) (new : EncoderState) : Type 0 where
   pub refuses : (kept : Written) → RefusesRinexLine (made_at before line kept) before line fault

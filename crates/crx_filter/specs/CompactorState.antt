@@ -7,15 +7,14 @@ use Rattle.crx_filter.specs.DirectionParts.{EngineParts, state_by}
 use Rattle.crx_filter.specs.LenderState.{LenderParts, lines_then}
 use Rattle.crx_filter.specs.LineByLine.{RunState}
 
--- its state
 abbrev pub compacting_state : EngineParts CompactionState → RunState OpenEpoch Written
 compacting_state e = state_by e.options e.number (compaction_parts e.direction)
 
--- the lines that are pending
+-- the pending lines
 abbrev pub compacting_ready : EngineParts CompactionState → List (List ℕ)
 compacting_ready e = e.direction.encoder.pending
 
--- the same of one that lends every line
+-- the same of a lender
 abbrev pub compactor_state : LenderParts CompactionState → RunState OpenEpoch Written
 compactor_state l = compacting_state l.engine
 

@@ -1,4 +1,4 @@
--- Beside meaning/Damage: the compact text of a file that is compacted here, damaged in one block, from a full
+-- Additions to meaning/Damage: the compact text of a file that is compacted here, damaged in one block, from a full
 -- epoch up to the next line that begins a unit with >. Lists of items have the newest first.
 use Rattle.std.specs.Prelude.{ℕ, ◌≡◌, ◌⊎◌, Bool, true, not, ◌&&◌, ⊤, List, [], ◌∷◌, ◌++◌, ◌≤◌, suc, None, map}
 use Rattle.std.specs.Prelude.{length, drop, take}
@@ -20,21 +20,21 @@ use Rattle.crx_filter.specs.meaning.Compacted.{is_in_full, compact_unit, compact
 use Rattle.crx_filter.specs.meaning.Expanded.{expanded}
 use Rattle.crx_filter.specs.meaning.Standard.{IsStandard, whole_of, printed_items}
 
--- the lines of some epochs that are after these items, the oldest first
+-- the lines of some epochs after these items, the oldest first
 abbrev pub lines_of_epochs : Choices → List (Item Epoch) → List Epoch → List (List ℕ)
 lines_of_epochs choices before [] = []
 lines_of_epochs choices before (epoch ∷ later) = compact_unit choices before (Observation epoch)
     ++ lines_of_epochs choices (Accepted (Observation epoch) ∷ before) later
 
--- a line that may be in the place of others: not too long, and it doesn't begin with >
+-- a line that may replace others: it isn't too long and doesn't begin with >
 abbrev pub may_replace : InputLine → Bool
 may_replace line = not (is_long line) && not (begins_epoch line.content)
 
--- the lines of a list of items after others are those of the longer list without those of the shorter
+-- the compact lines of `all` that follow those of `before`
 abbrev pub lines_after : Choices → List (Item Epoch) → List (Item Epoch) → List (List ℕ)
 lines_after choices before all = drop (length (compact_lines choices before)) (compact_lines choices all)
 
--- what comes after a block: nothing, or a unit that begins with >, an event or an epoch in full
+-- a block is followed by nothing, or by a unit that begins with >: an event or a full epoch
 abbrev pub BeginsAnew : Choices → List (Item Epoch) → List (Item Epoch) → Type 0
 BeginsAnew choices block [] = ⊤
 BeginsAnew choices block (Warned at ∷ []) = ⊥
@@ -44,10 +44,10 @@ BeginsAnew choices block (Accepted (EventRecord line) ∷ []) = ⊥
 BeginsAnew choices block (Accepted (Observation epoch) ∷ []) = is_in_full choices.every block ≡ true
 BeginsAnew choices block (newest ∷ item ∷ items) = BeginsAnew choices block (item ∷ items)
 
--- the compact text of a standard file, one block of it damaged: the units before the block, its first epoch,
--- which is in full, the others, none of which is, the units after it, and the bytes in place of the block's
--- lines but the first. Their lines may end with CR and LF, and where nothing comes after the block the last
--- one need not end with LF
+-- the compact text of a standard file with one damaged block: the units before the block, its first epoch, which is
+-- full, the others, none of which is, the units after it, and the bytes that replace the block's lines except the
+-- first. These may be lines that end with CR and LF, and if nothing follows the block the last one need not end with
+-- LF
 pub record IsOwnDamaged (input : List ℕ) (choices : Choices) (damaged : List ℕ) : Type 0 where
   pub standard : IsStandard input
   pub before : List (Item Epoch)
@@ -66,12 +66,12 @@ pub record IsOwnDamaged (input : List ℕ) (choices : Choices) (damaged : List �
       ++ instead
       ++ lines_text (lines_after choices (with_epochs before (first ∷ others)) (whole_of input).items)
 
--- ---- what is saved
+-- ---- the saved units
 
--- what an expansion that skips faults writes and reports of damaged text: the exact text of all units before
--- the block, then the text of some epochs, and then the exact text of all units after it, with at most one
--- warning. Each of the epochs is whole, by the types in force at the block, and they are first the block's
--- own, as far as the lines in place of the block's begin with theirs
+-- the output and messages of an expansion of damaged text that skips faults: the exact text of all units before the
+-- block, then the text of some epochs, and then the exact text of all units after it, with at most one warning. Each
+-- of these epochs is whole, by the types in force at the block. The first of them are the block's own, as far as the
+-- replacing lines begin with theirs
 pub record IsOwnSalvaged (input : List ℕ) (choices : Choices)
     (damaged : List ℕ) (damage : IsOwnDamaged input choices damaged) (result : FilterResult) : Type 0 where
   pub epochs : List Epoch
@@ -93,7 +93,7 @@ pub record IsOwnSalvaged (input : List ℕ) (choices : Choices)
 
 -- ---- the laws
 
--- what is damaged is what the compaction writes, but for the lines of the block after its first
+-- the damaged text is the output of the compaction, except for the lines of the block after its first
 abbrev pub IsOfCompaction : (input : List ℕ) (choices : Choices) (damaged : List ℕ)
     → IsOwnDamaged input choices damaged → Type 0
 IsOfCompaction input choices damaged damage =
@@ -102,7 +102,7 @@ IsOfCompaction input choices damaged damage =
     lines_text (compact_lines choices damage.before ++ lines_of_epochs choices damage.before block)
     ++ lines_text (lines_after choices (with_epochs damage.before block) (whole_of input).items)
 
--- damage stays in its block: an expansion that skips faults saves all else, whatever was chosen for the compaction
+-- damage stays in its block: an expansion that skips faults saves everything else, with any options of the compaction
 abbrev pub StaysInItsBlock : List ℕ → Choices → Choices → List ℕ → Type 0
 StaysInItsBlock input compacting expanding damaged =
     is_date compacting.date ≡ true → expanding.skip ≡ true → (damage : IsOwnDamaged input compacting damaged)

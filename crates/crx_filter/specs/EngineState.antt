@@ -16,48 +16,48 @@ use Rattle.crx_runs.specs.declared.engine.Step.TheVariants.{Warned}
 use Rattle.crx_runs.specs.meaning.Filters.{with_next}
 use Rattle.crx_filter.specs.declared.direction.Direction.{Ghosts}
 
--- what is known after the answer to a line: of those before it where it is to come again, and else of it too; by an error
--- nothing more
+-- the notes after the answer to a line: about the lines before it if it is to be fed again, and otherwise about it
+-- too; after an error nothing more
 abbrev pub KnowsAfter : (List InputLine → Type 0) → List InputLine → InputLine → Result Step At → Type 0
 KnowsAfter knows lines line (Ok (Warned notice true)) = knows lines
 KnowsAfter knows lines line (Ok step) = knows (with_next lines line)
 KnowsAfter knows lines line (Err at) = ⊤
 
 module _ {D : Type 0} (d : Ghosts D) where
-  -- its state
   abbrev pub engine_state : EngineParts D → RunState d.Open d.Kept
   engine_state e = state_by e.options e.number (d.parts e.direction)
 
-  -- the lines that are pending
+  -- the pending lines
   abbrev pub engine_ready : EngineParts D → List (List ℕ)
   engine_ready e = d.ready e.direction
 
-  -- what is seen of it is what these lines leave, and where one is to come a second time, this warning to it
+  -- its state is the state after these lines; if one is to be fed again, it has returned this warning to it
   abbrev pub engine_seen : EngineParts D → List InputLine → List Awaited → Type 0
   engine_seen e lines notices =
       HasTaken d.by_line (d.state_after_lines e.options) (engine_state e) lines notices
 
-  -- it has taken these lines, and its direction knows what there is to know of them; where one is to come a second
-  -- time, it has answered this warning to it
+  -- it has taken these lines, and the notes of its direction are right for them; if one is to be fed again, it has
+  -- returned this warning to it
   abbrev pub engine_took : EngineParts D → List InputLine → List Awaited → Type 0
   engine_took e lines notices = engine_seen e lines notices × d.notes e.direction e.options lines
 
-  -- it goes line by line as its filter says
+  -- it follows its filter line by line
   pub record EngineGoes (e : EngineParts D) : Type 0 where
     pub chosen : d.chosen e.options ≡ e.options
     pub lawful : GoesLineByLine d.by_line (d.closing_after e.options) (d.state_after_lines e.options)
         (d.filter e.options)
 
-  -- what its direction knows of the lines that it has taken, it knows of the next one too, once that counts
+  -- if the notes of its direction are right for the lines taken, they are right with the next one too, once that
+  -- counts
   abbrev pub EngineNotes : EngineParts D → InputLine → Result Step At → EngineParts D → Type 0
   EngineNotes before line result after = (lines : List InputLine) → before.number ≡ length lines
       → ComesAfter d.by_line d.chosen d.state_after_lines before.options lines line (d.parts before.direction)
       → d.notes before.direction before.options lines
       → KnowsAfter (d.notes after.direction before.options) lines line result
 
-  -- it has taken a line, read so, and these lines are ready then. It has made the line's step, or that of
-  -- memory that ran out; a fault that is answered has ended the run. What its direction knew of the lines
-  -- before, it knows with this line too; after a fault it knows it of the same lines
+  -- it has taken a line, read as `read`, and these lines are ready then. It has made the line's step, or the step of
+  -- memory that ran out; a fault that is returned has ended the run. The notes of its direction are right with this
+  -- line too; after a fault they are right for the same lines
   pub record TakesLine (before : EngineParts D) (line : InputLine) (read : ReadLine) (result : Result Step At)
       (ready : List (List ℕ)) (after : EngineParts D) : Type 0 where
     pub goes : EngineGoes before
@@ -67,8 +67,8 @@ module _ {D : Type 0} (d : Ghosts D) where
     pub stays : (choices : Choices) (lines : List InputLine) → d.notes before.direction choices lines
         → OnErr result (d.notes after.direction choices lines)
 
-  -- it has taken the end of the input, and these lines are ready then. It has made the step of the end, which
-  -- hands out what is due after the lines that it has taken. It has found what there is in them
+  -- it has taken the end of the input, and these lines are ready then. It has made the step of the end, with the
+  -- lines that are due after the lines taken. Its report is right for these
   pub record TakesEnd (before : EngineParts D) (result : Result Step At) (ready : List (List ℕ))
       (after : EngineParts D) : Type 0 where
     pub goes : EngineGoes before

@@ -1,4 +1,4 @@
--- What an engine of either direction does with a line.
+-- The steps of an engine of either direction.
 use Rattle.std.specs.Prelude.{◌≡◌, ◌⊎◌, ℕ, ◌+◌, true, List, [], Result, Ok, Err}
 use Rattle.crx_base.specs.meaning.AsRead.{ReadLine}
 use Rattle.crx_base.specs.declared.fault.At.{At}
@@ -15,7 +15,7 @@ answer_of_step (Ok Ready) = LineReady
 answer_of_step (Ok (Warned notice again)) = Notice notice again
 answer_of_step (Err at) = Failed at
 
--- what an engine answers, what it then has ready, and what it is seen as then
+-- an engine's answer, the lines that are then ready, and its state then
 abbrev pub step_made : {O K : Type 0} → Result Step At → List (List ℕ) → RunState O K → LineStep O K
 step_made result ready after = record { answer = answer_of_step result; handed_out = ready; next = after }
 
@@ -25,7 +25,7 @@ out_of_memory direction before =
     let at : At = record { line = before.number + 1; fault = OutOfMemory } in
     record { answer = Failed at; handed_out = []; next = with_phase direction before (Ended at) }
 
--- it made the step of a line; or memory ran out at a line that may take some
+-- an engine made the step of a line; or memory ran out at a line that may reserve some
 abbrev pub Steps : {U O K : Type 0} → Direction U O K → RunState O K → ReadLine → Result Step At
     → List (List ℕ) → RunState O K → Type 0
 Steps direction before line result ready after = (step_made result ready after ≡ state_next direction before line)

@@ -1,4 +1,4 @@
--- Beside meaning/Expanded: what code and proofs see of it.
+-- Additions to meaning/Expanded for code and proofs.
 use Rattle.crx_filter.specs.meaning.Directions.{compact_reading}
 use Rattle.std.specs.Prelude.{ℕ, List}
 use Rattle.crx_base.specs.meaning.AsRead.{ReadLine}
@@ -11,11 +11,11 @@ use Rattle.crx_filter.specs.meaning.Expanded.{expanded_unit}
 
 -- ---- whole files
 
--- the lines of the RINEX text for some items
+-- the lines of the RINEX text of some items
 abbrev pub expanded_lines : List (Item ReadEpoch) → List (List ℕ)
 expanded_lines items = written_lines expanded_unit items
 
--- the lines that are written for the units complete within the lines so far, the end of the input not being judged
+-- the lines written for the units that are complete within the lines so far; the end of the input isn't judged
 abbrev pub expansion_so_far : Choices → List ReadLine → List (List ℕ)
 expansion_so_far choices lines = expanded_lines (compact_reading choices.skip lines).items
 

@@ -7,15 +7,14 @@ use Rattle.crx_filter.specs.ExpansionParts.{ExpansionState, expansion_parts, exp
 use Rattle.crx_filter.specs.LenderState.{LenderParts, lines_then}
 use Rattle.crx_filter.specs.LineByLine.{RunState}
 
--- its state
 abbrev pub expanding_state : EngineParts ExpansionState → RunState OpenRawEpoch (Option Tail)
 expanding_state e = state_by e.options e.number (expansion_parts e.direction)
 
--- the lines that are pending
+-- the pending lines
 abbrev pub expanding_ready : EngineParts ExpansionState → List (List ℕ)
 expanding_ready e = expansion_ready e.direction
 
--- the same of one that lends every line
+-- the same of a lender
 abbrev pub expander_state : LenderParts ExpansionState → RunState OpenRawEpoch (Option Tail)
 expander_state l = expanding_state l.engine
 

@@ -1,4 +1,4 @@
--- Expansion line by line: the state between two lines, by the tail of the epochs alone.
+-- Expansion line by line: between two lines it keeps only the tail of the epochs.
 use Rattle.std.specs.Prelude.{Bool, true, false, List, [], ◌∷◌, length, Option, Some, None, if◌then◌else◌}
 use Rattle.crx_base.specs.meaning.AsRead.{ReadLine, Content, Overlong}
 use Rattle.crx_header.specs.meaning.EpochColumns.{is_event_line}
@@ -18,27 +18,26 @@ use Rattle.crx_filter.specs.LineByLine.{made_of_unit, are_types_counted, Directi
 use Rattle.crx_filter.specs.meaning.Expanded.{raws_kept, empties_state, event_line, first_lines}
 use Rattle.crx_filter.specs.meaning.Directions.{compact_reading}
 
--- ---- what a line makes
+-- ---- the outcome of a line
 
 abbrev pub made_of_raw_step : RawStep → Made HeldEpoch OpenRawEpoch
 made_of_raw_step (Going so_far) = Moves (InEpoch so_far)
 made_of_raw_step (Whole held) = Completes (Observation held)
 made_of_raw_step (Faulty fault) = Rejects fault
 
--- where an epoch or an event may begin, by the tail of the epochs before, or none
+-- the outcome of a line if an epoch or an event may begin, by the tail of the epochs before, or none
 abbrev pub compact_begins : List Count → Option Tail → ReadLine → Made HeldEpoch OpenRawEpoch
 compact_begins types tail line =
     made_of_line (λ content. if is_event_line content then made_of_unit (event_line content)
     else made_of_raw_step (first_step types tail (Content content))) line
 
--- in an epoch
+-- the outcome of a line in an epoch
 abbrev pub compact_continues : OpenRawEpoch → ReadLine → Made HeldEpoch OpenRawEpoch
 compact_continues so_far line = made_of_raw_step (next_step so_far line)
 
--- ---- the state, and what is written
+-- ---- the state, and the lines written
 
--- a types line that is accepted among an event's records empties the reader's state, and so does all before the first
--- epoch
+-- an accepted types line among an event's records empties the reader's state, and so does a header line
 abbrev pub tail_kept : RunState OpenRawEpoch (Option Tail) → Unit HeldEpoch → Option Tail
 tail_kept state (HeaderLine line) = None
 tail_kept state (EventLine line) = state.kept
@@ -52,7 +51,7 @@ held_unit (EventLine line) = EventLine line
 held_unit (EventRecord line) = EventRecord line
 held_unit (Observation held) = Observation held.epoch
 
--- expansion as a direction; while an epoch is open, it holds what its lines are read after
+-- expansion as a direction; an open epoch holds the tail that its lines continue from
 abbrev pub expansion : Direction HeldEpoch OpenRawEpoch (Option Tail)
 expansion = record {
   begins = compact_begins;

@@ -1,4 +1,4 @@
--- What an expansion has between two lines.
+-- The parts of an expansion between two lines.
 use Rattle.std.specs.Prelude.{ℕ, List, [], Option, if◌then◌else◌}
 use Rattle.crx_compact.specs.Blocks.{PendingLines}
 use Rattle.crx_compact.specs.OpenEpochs.{OpenRawEpoch}
@@ -8,7 +8,7 @@ use Rattle.crx_filter.specs.DirectionParts.{DirectionParts}
 use Rattle.crx_filter.specs.RinexStages.{is_open_stage}
 use Rattle.crx_filter.specs.declared.compact_reader.CompactReader.{CompactReader}
 
--- the reader, and the lines that are ready, or those of the open epoch that are printed already
+-- the reader, and the ready lines, or the lines already printed of the open epoch
 pub record ExpansionState : Type 0 where
   pub reader : CompactReader
   pub lines : PendingLines
@@ -16,6 +16,6 @@ pub record ExpansionState : Type 0 where
 abbrev pub expansion_parts : ExpansionState → DirectionParts OpenRawEpoch (Option Tail)
 expansion_parts e = compact_reader_parts e.reader
 
--- the lines that are ready: not those of an epoch that is open
+-- the ready lines: none while an epoch is open
 abbrev pub expansion_ready : ExpansionState → List (List ℕ)
 expansion_ready e = if is_open_stage e.reader.stage then [] else e.lines.lines

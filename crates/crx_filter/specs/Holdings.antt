@@ -1,5 +1,6 @@
--- All that engines and their parts hold between two lines of an input, part by part. By the laws `readers_hold` and `engines_hold` one that
--- takes over these parts of another is that other; so there is no part beside them, in which a record of the past lines could grow.
+-- All that engines and their parts hold between two lines of an input. By the laws `readers_hold` and `engines_hold`,
+-- a value that takes over these parts from another equals the other; so no further part exists in which a record of
+-- past lines could grow.
 use Rattle.crx_base.specs.declared.options.Options.TheInside.{Inside as OptionsInside}
 use Rattle.crx_compact.specs.Holdings.{rows_with}
 use Rattle.crx_filter.specs.declared.rinex_reader.RinexReader.{RinexReader}
@@ -15,7 +16,7 @@ use Rattle.crx_filter.specs.declared.checking.Checking.TheInside.{Inside as Chec
 use Rattle.crx_filter.specs.declared.checking.Noted.{Noted}
 use Rattle.crx_filter.specs.CheckingParts.{CheckingState}
 
--- options, with the parts of another
+-- options with the parts of another
 abbrev pub options_with : OptionsInside → OptionsInside → OptionsInside
 options_with one other = record one {
   every = other.every;
@@ -24,7 +25,7 @@ options_with one other = record one {
   date_len = other.date_len;
 }
 
--- a reader of RINEX, with the parts of another
+-- a reader of RINEX with the parts of another
 abbrev pub rinex_reader_with : RinexReader → RinexReader → RinexReader
 rinex_reader_with one other = record one {
   stage = other.stage;
@@ -37,7 +38,7 @@ rinex_reader_with one other = record one {
   few = other.few;
 }
 
--- a compaction, with the parts of another; and what its code has of one
+-- a compaction with the parts of another, as contracts see it and as its code stores it
 abbrev pub compaction_with : CompactionState → CompactionState → CompactionState
 compaction_with one other = record one {
   index = other.index;
@@ -52,7 +53,7 @@ compaction_inside_with one other = record one {
   encoder = other.encoder;
 }
 
--- a reader of compact text, with the parts of another
+-- a reader of compact text with the parts of another
 abbrev pub compact_reader_with : CompactReader → CompactReader → CompactReader
 compact_reader_with one other = record one {
   stage = other.stage;
@@ -61,7 +62,7 @@ compact_reader_with one other = record one {
   consistent = other.consistent;
 }
 
--- an expansion, with the parts of another; and what its code has of one
+-- an expansion with the parts of another, as contracts see it and as its code stores it
 abbrev pub expansion_with : ExpansionState → ExpansionState → ExpansionState
 expansion_with one other = record one {
   reader = compact_reader_with one.reader other.reader;
@@ -74,7 +75,7 @@ expansion_inside_with one other = record one {
   lines = other.lines;
 }
 
--- what an engine has, by what its direction has, with the parts of another
+-- an engine with the parts of another, as its code stores it
 abbrev pub engine_inside_with : {D : Type 0} → (D → D → D) → EngineInside D → EngineInside D → EngineInside D
 engine_inside_with direction_with one other = record one {
   options = other.options;
@@ -83,7 +84,7 @@ engine_inside_with direction_with one other = record one {
   answer = other.answer;
 }
 
--- an engine of compaction or of expansion, with the parts of another
+-- an engine of compaction or of expansion with the parts of another
 abbrev pub compacting_engine_with : EngineParts CompactionState → EngineParts CompactionState
     → EngineParts CompactionState
 compacting_engine_with one other = record one {
@@ -102,7 +103,7 @@ expanding_engine_with one other = record one {
   answer = other.answer;
 }
 
--- what a check has noted, with the parts of another
+-- the notes of a check with the parts of another
 abbrev pub noted_with : Noted → Noted → Noted
 noted_with one other = record one {
   names = other.names;
@@ -112,7 +113,7 @@ noted_with one other = record one {
   text = other.text;
 }
 
--- a check, with the parts of another; and what its code has of one
+-- a check with the parts of another, as contracts see it and as its code stores it
 abbrev pub checking_with : CheckingState → CheckingState → CheckingState
 checking_with one other = record one {
   reader = rinex_reader_with one.reader other.reader;
@@ -127,7 +128,7 @@ checking_inside_with one other = record one {
   handed_out = other.handed_out;
 }
 
--- an engine of a check, with the parts of another
+-- an engine of a check with the parts of another
 abbrev pub checking_engine_with : EngineParts CheckingState → EngineParts CheckingState → EngineParts CheckingState
 checking_engine_with one other = record one {
   options = other.options;
@@ -136,7 +137,7 @@ checking_engine_with one other = record one {
   answer = other.answer;
 }
 
--- an engine that lends every line, by what its engine has, with the parts of another
+-- a lender with the parts of another, as its code stores it
 abbrev pub lender_inside_with : {D : Type 0} → (EngineParts D → EngineParts D → EngineParts D) → LenderInside D → LenderInside D
     → LenderInside D
 lender_inside_with engine_with one other = record one {

@@ -1,4 +1,4 @@
--- What the laws of both filters say, where it is long.
+-- The longer statements of the laws of both filters.
 use Rattle.crx_filter.specs.meaning.Reading.{fault_of_stop}
 use Rattle.std.specs.Prelude.{◌≡◌, ℕ, Bool, true, false, List, [], ◌∷◌, ◌++◌, Option, Some, None}
 use Rattle.std.specs.Prelude.{map, ⊤}
@@ -29,7 +29,7 @@ use Rattle.crx_filter.specs.CompactionByLine.{compaction, compaction_state}
 use Rattle.crx_filter.specs.ExpansionByLine.{expansion, expansion_state}
 use Rattle.crx_runs.specs.meaning.Results.{Begins}
 
--- a reading that is continued, once more lines have come
+-- a reading continued with more lines
 abbrev pub continued_reading : {E : Type 0}
     → (List (Item E) → List ReadLine → Place (Unit E)) → Bool → Reading E → List ReadLine → Reading E
 continued_reading place skip so_far more =
@@ -39,12 +39,12 @@ continued_reading place skip so_far more =
       | Looking number ↦ looked_for (reading_from place skip so_far.items) so_far.items number more
     ]
 
--- what is at a place is certain as soon as its last line has come, and where there is no line yet, one is wanted
+-- the unit at a place is certain as soon as its last line has been read, and without any line one is needed
 pub record IsReadForward {E : Type 0} (place : List (Item E) → List ReadLine → Place (FileUnit E)) : Type 0 where
   pub steady : (items : List (Item E)) → IsSteady (place items)
   pub wants : (items : List (Item E)) → place items [] ≡ NeedsMore
 
--- the reading of some lines and more goes on from the reading of the first
+-- the reading of some lines and more continues the reading of the first
 abbrev pub IsResumed : {E : Type 0} → (List (Item E) → List ReadLine → Place (FileUnit E)) → Type 0
 IsResumed {E = E} place =
     (skip : Bool) (items : List (Item E)) (number : ℕ) (lines more : List ReadLine)
@@ -53,8 +53,8 @@ IsResumed {E = E} place =
 
 -- ---- prefixes
 
--- what is written for some lines is at the beginning of what is written for these lines and more, and of the whole
--- output for every input that has these lines first
+-- the output for some lines is a prefix of the output for these lines and more, and of the whole output for every
+-- input that begins with them
 pub record IsWrittenFirst (so_far : List ReadLine
     → Choices → List ℕ) (output : List ℕ → Choices → List ℕ) (choices : Choices) (lines : List ReadLine) : Type 0 where
   pub longer : (more : List ReadLine) → Begins (so_far (lines ++ more) choices) (so_far lines choices)
@@ -77,15 +77,15 @@ failed_by Ready = None
 failed_by (Notice at again) = None
 failed_by (Failed at) = Some at
 
--- whether the line is to come again
+-- whether the line is to be fed again
 abbrev pub is_again : Answer → Bool
 is_again Quiet = false
 is_again Ready = false
 is_again (Notice at again) = again
 is_again (Failed at) = false
 
--- what a line comes to: the warnings, newest first; the fault that ended the run; the lines handed out; and what is
--- seen then
+-- the effect of a line: the warnings, newest first; the fault that ended the run; the lines that became ready; and
+-- the state then
 pub record Fed (O K : Type 0) : Type 0 where
   pub warned : List At
   pub failed : Option At
@@ -108,14 +108,14 @@ fed_twice one two = record {
   next = two.next;
 }
 
--- a line is given once, or a second time where it is to come again
+-- a line is fed once, or twice if it is to be fed again
 abbrev pub fed : {U O K : Type 0} → Direction U O K → RunState O K → ReadLine → Fed O K
 fed direction state line =
     let one : Step _ _ = state_next direction state line in
     elim (is_again one.answer) [ true ↦ fed_twice one (state_next direction one.next line) | false ↦ fed_once one ]
 
--- one line more, as it is fed and as it is read: the state then, the lines that are written more, the warnings that
--- come, and the fault that has ended the run by then
+-- one more line, as it is fed and as it is read: the state then, the further lines and warnings, and the fault that
+-- has ended the run by then
 pub record IsFollowed {O K : Type 0} (state_then : RunState O K) (written_before written_then : List (List ℕ))
     (warned_before warned_then : List At) (failed_then : Option At) (line_fed : Fed O K) : Type 0 where
   pub next : state_then ≡ line_fed.next
@@ -123,8 +123,8 @@ pub record IsFollowed {O K : Type 0} (state_then : RunState O K) (written_before
   pub warned : warned_then ≡ line_fed.warned ++ warned_before
   pub failed : failed_then ≡ line_fed.failed
 
--- a compaction is given one line more: it has seen, written and reported what the compaction of all these lines has; a
--- line is fed by the state before it alone
+-- a compaction takes one more line: its state, output and messages are those of the compaction of all these lines.
+-- The line's effect depends only on the state before it
 abbrev pub IsCompactedOn : Choices → List ReadLine → ReadLine → Type 0
 IsCompactedOn choices lines line =
     let before : Reading Epoch = rinex_reading choices.skip lines in
@@ -134,7 +134,7 @@ IsCompactedOn choices lines line =
     (warnings_in before.items) (warnings_in after.items)
     (fault_of_stop after.stop) (fed compaction (compaction_state choices lines) line)
 
--- an expansion is given one line more: it has seen, written and reported what the expansion of all these lines has
+-- an expansion takes one more line: its state, output and messages are those of the expansion of all these lines
 abbrev pub IsExpandedOn : Choices → List ReadLine → ReadLine → Type 0
 IsExpandedOn choices lines line =
     let before : Reading ReadEpoch = compact_reading choices.skip lines in
@@ -146,7 +146,7 @@ IsExpandedOn choices lines line =
 
 -- ---- the end of the input
 
--- the end of the input, as it comes after some lines and as all lines are read: no line comes again, nothing more is
+-- the end of the input, as it follows some lines and as all lines are read: no line is fed again, nothing more is
 -- written, and the warning and the fault are those of the whole reading
 pub record IsEndedBy {O K : Type 0} (written_then written_whole : List (List ℕ))
     (warned_then warned_whole : List At) (failed_whole : Option At) (end : Step O K) : Type 0 where
@@ -171,15 +171,15 @@ IsExpansionEnded choices lines =
 
 -- ---- a fault that ended the run
 
--- once a fault has ended the run, more lines change nothing
+-- after a fault has ended the run, more lines change nothing
 pub record StaysEnded {E : Type 0} (reading : List ReadLine
     → Reading E) (whole : List ReadLine → WholeReading E) (lines more : List ReadLine) (at : At) : Type 0 where
   pub same : reading (lines ++ more) ≡ reading lines
   pub ended : whole (lines ++ more) ≡ record { items = (reading lines).items; fault = Some at }
 
--- ---- what was accepted
+-- ---- accepted units
 
--- each accepted unit stood at some lines after the items before it, and each warning came where a fault may be skipped
+-- each accepted unit is at some lines after the items before it, and faults may be skipped at each warning
 abbrev pub ItemsAreRead : {E : Type 0} → (List (Item E) → List ReadLine → Place (FileUnit E)) → List (Item E) → Type 0
 ItemsAreRead place [] = ⊤
 ItemsAreRead place (Accepted unit ∷ before) =
@@ -187,7 +187,7 @@ ItemsAreRead place (Accepted unit ∷ before) =
 ItemsAreRead place (Warned at ∷ before) = ((header_has_ended before ≡ true)
     × (records_left before ≡ 0) × (is_skippable at.fault ≡ true)) × ItemsAreRead place before
 
--- each unit that was accepted is in place, and each warning came where a fault may be skipped
+-- each accepted unit is in place, and faults may be skipped at each warning
 abbrev pub AreInPlace : List (Item Epoch) → Type 0
 AreInPlace [] = ⊤
 AreInPlace (Accepted unit ∷ before) = IsInPlace before unit × AreInPlace before
@@ -206,7 +206,7 @@ abbrev pub has_lines : List (List ℕ) → Bool
 has_lines [] = false
 has_lines (line ∷ lines) = true
 
--- a line is answered as ready exactly where lines are borrowed, and for each unit some are
+-- the answer to a line is that lines are ready if and only if some are, and each unit makes some ready
 pub record IsReadyWhereHandedOut {U O K : Type 0} (direction : Direction U O K) : Type 0 where
   pub exactly : (state : RunState O K) (line : ReadLine)
       → is_ready (state_next direction state line).answer ≡ has_lines (state_next direction state line).handed_out

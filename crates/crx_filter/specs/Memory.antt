@@ -1,4 +1,4 @@
--- At which lines an engine may run out of memory: at a types line that counts, and at a line of an observation epoch.
+-- The lines at which an engine may run out of memory: types lines that count, and lines of observation epochs.
 use Rattle.std.specs.Prelude.{Bool, false, not, ◌&&◌}
 use Rattle.std.specs.Option.{is_some}
 use Rattle.crx_base.specs.meaning.AsRead.{ReadLine, Content, Overlong}
@@ -7,8 +7,9 @@ use Rattle.crx_header.specs.meaning.ObservationTypes.{count_of_types_line}
 use Rattle.crx_filter.specs.LineByLine.{Phase, InFirstLines, InHeader, BetweenUnits, InEvent, InEpoch, LookingOn}
 use Rattle.crx_filter.specs.LineByLine.{Closed, Ended}
 
--- a line of 2048 bytes at most, in a phase: in the header, and among the records of some events, a types line; where the
--- first line of an epoch may, one that begins no event; and where another may, one in an epoch that doesn't begin with >
+-- whether a line that isn't too long may reserve memory in a phase: a types line, in the header and among the records
+-- of some events; the first line of an epoch, if `first`; and another line of an epoch that doesn't begin with >, if
+-- `next`
 abbrev pub may_reserve : {O : Type 0} → Bool → Bool → Phase O → ReadLine → Bool
 may_reserve first next phase Overlong = false
 may_reserve first next (InFirstLines count) (Content line) = false

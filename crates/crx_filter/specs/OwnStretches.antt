@@ -1,5 +1,5 @@
--- Beside meaning/Stretches: the compact text of a file that is compacted here, damaged in stretches or cut
--- off. Lists of items have the newest first.
+-- Additions to meaning/Stretches: the compact text of a file that is compacted here, damaged in stretches or cut off.
+-- Lists of items have the newest first.
 use Rattle.std.specs.Prelude.{ℕ, ◌≡◌, ◌⊎◌, Bool, true, not, ◌||◌, ⊤, List, [], ◌∷◌, ◌++◌, None, map}
 use Rattle.std.specs.List.{AllByRecursion, list_all, flat_map}
 use Rattle.crx_base.specs.meaning.Lines.{Piece, InputLine, pieces_of, lines_of, is_long, lines_text}
@@ -19,25 +19,25 @@ use Rattle.crx_filter.specs.meaning.WayBack.{HaveNoReturns}
 use Rattle.crx_runs.specs.meaning.Messages.{notices_text}
 use Rattle.crx_runs.specs.meaning.Results.{FilterResult, status_after}
 
--- what was read of a file that is compacted
+-- the reading of a file that is compacted
 abbrev pub read_of_file : List ℕ → Choices → WholeReading Epoch
 read_of_file file choices = whole_rinex choices.skip (map as_read (lines_of file))
 
--- a file whose compaction comes back: no fault ended its reading, and no line that is copied ends in CR
+-- a file that is restored from its compaction: no fault ended its reading, and no line that is copied ends in CR
 pub record IsReadWhole (file : List ℕ) (choices : Choices) : Type 0 where
   pub good : (read_of_file file choices).fault ≡ None
   pub no_returns : HaveNoReturns (read_of_file file choices).items
 
 -- ---- stretches
 
--- a damaged stretch: the units that are lost, the bytes in place of their lines, and the units that are kept
--- after it, up to the next stretch or the end
+-- a damaged stretch: the lost units, the bytes that replace their lines, and the units that are kept after it, up to
+-- the next stretch or the end
 pub record OwnStretch : Type 0 where
   pub lost : List (Item Epoch)
   pub instead : List ℕ
   pub kept : List (Item Epoch)
 
--- the units up to a stretch's end, where the kept ones begin
+-- the units up to a stretch's end, after which the kept ones begin
 abbrev pub up_to_own_end : List (Item Epoch) → OwnStretch → List (Item Epoch)
 up_to_own_end before s = s.lost ++ before
 
@@ -45,7 +45,7 @@ up_to_own_end before s = s.lost ++ before
 abbrev pub up_to_own_next : List (Item Epoch) → OwnStretch → List (Item Epoch)
 up_to_own_next before s = s.kept ++ up_to_own_end before s
 
--- all units, those of some stretches after these
+-- all units: those before some stretches, and those of the stretches
 abbrev pub with_own : List (Item Epoch) → List OwnStretch → List (Item Epoch)
 with_own before [] = before
 with_own before (s ∷ later) = with_own (up_to_own_next before s) later
@@ -57,14 +57,14 @@ own_text choices before (s ∷ later) = s.instead
     ++ (lines_text (lines_after choices (up_to_own_end before s) (up_to_own_next before s))
     ++ own_text choices (up_to_own_next before s) later)
 
--- a line that may come in a stretch: any but an event's first line, which would take lines after it as its
+-- a line that may be in a stretch: any except an event's first line, because the lines after it would be read as its
 -- records
 abbrev pub may_come_instead : InputLine → Bool
 may_come_instead line = is_long line || not (announces_records line.content)
 
--- what is asked of a stretch after some units: it begins between two units; what is lost leaves the types in
--- force as they were; no line in its place begins an event; what is kept begins with an event or an
--- epoch in full; and it begins on a line of its own, if anything comes after the stretch
+-- the conditions of a stretch after some units: it begins between two units; the lost units leave the types in force
+-- as they were; no line that replaces theirs begins an event; the kept units begin with an event or a full epoch; and
+-- the text after the stretch, if any, begins on a line of its own
 pub record IsOwnStretch (choices : Choices) (before : List (Item Epoch)) (s : OwnStretch)
     (later : List OwnStretch) : Type 0 where
   pub between : records_left before ≡ 0
@@ -74,7 +74,7 @@ pub record IsOwnStretch (choices : Choices) (before : List (Item Epoch)) (s : Ow
   pub ended : ((s.kept ≡ []) × (later ≡ []))
       ⊎ (list_all (λ (piece : Piece). piece.is_ended) (pieces_of s.instead) ≡ true)
 
--- the same of each of some stretches, after the units up to it
+-- each of some stretches meets these conditions, after the units up to it
 abbrev pub AreOwnStretches : Choices → List (Item Epoch) → List OwnStretch → Type 0
 AreOwnStretches choices before [] = ⊤
 AreOwnStretches choices before (s ∷ later) =
@@ -90,10 +90,10 @@ pub record HasOwnStretches (file : List ℕ) (choices : Choices) (damaged : List
   pub each : AreOwnStretches choices before stretches
   pub text : damaged ≡ lines_text (compact_lines choices before) ++ own_text choices before stretches
 
--- ---- what is saved
+-- ---- the saved units
 
--- the lines that are written after these units: for each stretch some whole epochs, by the types in force
--- there, and then exactly the units that are kept
+-- the lines written after these units: for each stretch some whole epochs, by the types in force there, and then
+-- exactly the kept units
 abbrev pub SavesOwn : List (Item Epoch) → List OwnStretch → List (List ℕ) → Type 0
 SavesOwn before [] lines = lines ≡ []
 SavesOwn before (s ∷ later) lines = (found : List Epoch) × (rest : List (List ℕ))
@@ -101,8 +101,8 @@ SavesOwn before (s ∷ later) lines = (found : List Epoch) × (rest : List (List
     × (lines ≡ flat_map printed_epoch found ++ (printed_items s.kept ++ rest))
     × SavesOwn (up_to_own_next before s) later rest
 
--- what an expansion that skips faults writes and reports of such a text: exactly the units before the first
--- stretch, and what is saved after them. No fault ends it, and all that it reports are warnings
+-- the output and messages of an expansion of such a text that skips faults: exactly the units before the first
+-- stretch, and the saved lines after them. No fault ends it, and all its messages are warnings
 pub record KeepsOwnRest (file : List ℕ) (choices : Choices)
     (damaged : List ℕ) (damage : HasOwnStretches file choices damaged) (result : FilterResult) : Type 0 where
   pub lines : List (List ℕ)
@@ -115,7 +115,7 @@ pub record KeepsOwnRest (file : List ℕ) (choices : Choices)
 
 -- ---- text that is cut off, or damaged from some place on
 
--- a text that begins with the lines of a file's first units, whole, whatever comes after them
+-- a text that begins with the lines of a file's first units, whole, whatever follows them
 pub record BeginsWithOwn (file : List ℕ) (choices : Choices) (text : List ℕ) : Type 0 where
   pub file_good : IsReadWhole file choices
   pub before : List (Item Epoch)

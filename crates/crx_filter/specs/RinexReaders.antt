@@ -1,4 +1,4 @@
--- What a reader of RINEX makes of a line.
+-- The steps of a reader of RINEX.
 use Rattle.std.specs.Prelude.{◌≡◌, ◌⊎◌, ℕ, Bool, true, false, List, [], Option, Some, Result, length}
 use Rattle.std.specs.Prelude.{IfOk, IfErr, OnErr}
 use Rattle.crx_base.specs.meaning.AsRead.{Content}
@@ -23,15 +23,15 @@ use Rattle.crx_filter.specs.declared.rinex_reader.RinexStep.TheVariants.{Begun}
 abbrev pub epoch_open : RinexReader → Option OpenEpoch
 epoch_open r = open_epoch r.types r.head r.rows.rows
 
--- where a reader is
+-- the phase of a reader
 abbrev pub reader_phase : RinexReader → Phase OpenEpoch
 reader_phase r = phase_of_stage (epoch_open r) r.stage
 
--- what a line makes
+-- the outcome of a line
 abbrev pub made_at : RinexReader → List ℕ → Written → Made ObservationEpoch OpenEpoch
 made_at r line kept = made_in compaction (reader_phase r) r.types kept (Content line)
 
--- a reader that differs from another at most in the row that was read last
+-- a reader that differs from another at most in the last row
 pub record IsSameReader (before after : RinexReader) : Type 0 where
   pub stage : after.stage ≡ before.stage
   pub types : after.types ≡ before.types
@@ -39,7 +39,7 @@ pub record IsSameReader (before after : RinexReader) : Type 0 where
   pub count : after.count ≡ before.count
   pub rows : after.rows.rows ≡ before.rows.rows
 
--- a unit was completed, and the reader goes on after it
+-- a unit was completed, and the reader is after it
 pub record Completed (made : Made ObservationEpoch OpenEpoch)
     (unit : Unit ObservationEpoch) (before after : RinexReader) : Type 0 where
   pub unit_made : made ≡ Completes unit
@@ -54,24 +54,24 @@ pub record CompletedEpoch (made : Made ObservationEpoch OpenEpoch) (before after
   pub is : Completed made (Observation (epoch_by_rows head after.rows.rows)) before after
   pub counted : length after.rows.rows ≡ head.count
 
--- a line after which no unit is complete
+-- a line that completes no unit
 pub record MovesReader (made : Made ObservationEpoch OpenEpoch) (before after : RinexReader) : Type 0 where
   pub moved : made ≡ Moves (reader_phase after)
   pub types_then : after.types ≡ before.types
   pub goes_on : is_ended after.stage ≡ false
 
--- the line of an epoch: the epoch is whole with it, or wants rows
+-- an epoch line: the epoch is whole with it, or expects rows
 abbrev pub BeginsEpoch : Made ObservationEpoch OpenEpoch → RinexReader → RinexReader → Type 0
 BeginsEpoch made before after = (after.rows.rows ≡ [])
     × (((is_open_stage after.stage ≡ true) × MovesReader made before after)
     ⊎ ((is_open_stage after.stage ≡ false) × CompletedEpoch made before after))
 
--- a row was taken, which is the last one of its epoch or isn't
+-- a row was taken, the last one of its epoch or another
 abbrev pub TakesRow : Made ObservationEpoch OpenEpoch → Bool → RinexReader → RinexReader → Type 0
 TakesRow made true before after = CompletedEpoch made before after
 TakesRow made false before after = MovesReader made before after × (is_open_stage after.stage ≡ true)
 
--- what a step says of a line that is no row
+-- the meaning of a step for a line that isn't a satellite line
 abbrev pub TakesRinexLine : Made ObservationEpoch OpenEpoch → RinexReader → List ℕ → RinexStep → RinexReader → Type 0
 TakesRinexLine made before line Nothing after = MovesReader made before after × (is_open_stage after.stage ≡ false)
 TakesRinexLine made before line (Header is_first) after = Completed made (HeaderLine line) before after
@@ -80,13 +80,13 @@ TakesRinexLine made before line Event after = Completed made (EventLine line) be
 TakesRinexLine made before line Record after = Completed made (EventRecord line) before after
 TakesRinexLine made before line Begun after = BeginsEpoch made before after
 
--- a fault is that of the line, or memory ran out at a line that may take some
+-- a fault is the line's own, or memory ran out at a line that may reserve some
 abbrev pub RefusesRinexLine : Made ObservationEpoch OpenEpoch → RinexReader → List ℕ → Fault → Type 0
 RefusesRinexLine made before line fault =
     (made ≡ Rejects fault) ⊎ ((fault ≡ OutOfMemory) × (may_reserve false true (reader_phase before) (Content line) ≡ true))
 
--- what a reader answers to a line that is no row of an open epoch, whatever is kept of the epochs before; after
--- a fault it is as it was
+-- the result of a reader for a line that isn't a row of an open epoch, whatever is kept of the epochs before; after a
+-- fault the reader is unchanged
 pub record ReadsRinexLine (before : RinexReader) (line : List ℕ) (result : Result RinexStep Fault)
     (after : RinexReader) : Type 0 where
   pub takes : (kept : Written)

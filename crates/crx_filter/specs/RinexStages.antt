@@ -9,12 +9,12 @@ use Rattle.crx_filter.specs.declared.stage.Stage.TheVariants.{FirstLines, Header
 use Rattle.crx_filter.specs.declared.stage.Stage.TheVariants.{Closed}
 use Rattle.crx_filter.specs.declared.stage.Stage.TheVariants.{Ended}
 
--- an epoch whose rows have come in part, by its line and these rows
+-- an open epoch, by its line and the rows read so far
 abbrev pub open_epoch : List Count → Option ObservationHead → List Row → Option OpenEpoch
 open_epoch types None rows = None
 open_epoch types (Some head) rows = Some (record { types = types; head = head; rows = rows })
 
--- whether a row of an open epoch is awaited
+-- whether a row of an open epoch is expected
 abbrev pub is_open_stage : Stage → Bool
 is_open_stage Open = true
 is_open_stage stage = false
@@ -24,12 +24,12 @@ abbrev pub rows_open : Stage → List Row → List Row
 rows_open Open rows = rows
 rows_open stage rows = []
 
--- so many rows have come of an epoch that wants more
+-- `count` rows have been read of an epoch that expects more
 abbrev pub wants_rows : Option ObservationHead → ℕ → List Row → Bool
 wants_rows None count rows = false
 wants_rows (Some head) count rows = (count == length rows) && nat_lt count head.count
 
--- RINEX begins with its header; and in the stage of an open epoch there is one that wants rows
+-- RINEX begins with its header; and in the stage `Open` an epoch is open that expects rows
 abbrev pub is_rinex_stage : Stage → Option ObservationHead → ℕ → List Row → Bool
 is_rinex_stage (FirstLines lines) head count rows = false
 is_rinex_stage Open head count rows = wants_rows head count rows

@@ -11,12 +11,12 @@ use Rattle.crx_filter.specs.declared.stage.Stage.{Stage}
 use Rattle.crx_filter.specs.declared.stage.Stage.TheVariants.{FirstLines, Header, Between, Event, Open, Looking}
 use Rattle.crx_filter.specs.declared.stage.Stage.TheVariants.{Closed, Ended}
 
--- in the open epoch
+-- the phase of the stage `Open`
 abbrev pub phase_of_open : {O : Type 0} → Option O → RunPhase O
 phase_of_open None = BetweenUnits
 phase_of_open (Some so_far) = InEpoch so_far
 
--- a stage with its open epoch
+-- the phase of a stage with its open epoch
 abbrev pub phase_of_stage : {O : Type 0} → Option O → Stage → RunPhase O
 phase_of_stage held (FirstLines count) = InFirstLines count
 phase_of_stage held (Header is_first) = InHeader is_first
@@ -27,11 +27,11 @@ phase_of_stage held Looking = LookingOn
 phase_of_stage held Closed = RunClosed
 phase_of_stage held (Ended at) = RunEnded at
 
--- a stage without what is known of its open epoch
+-- the phase of a stage without the data of its open epoch
 abbrev pub bare_phase : Stage → RunPhase ⊤
 bare_phase stage = phase_of_stage (Some tt) stage
 
--- in the stage of an open epoch there is one
+-- in the stage `Open` an epoch is open
 abbrev pub is_held : {O : Type 0} → Stage → Option O → Bool
 is_held Open None = false
 is_held Open (Some so_far) = true
@@ -48,14 +48,14 @@ abbrev pub is_ended : Stage → Bool
 is_ended (Ended at) = true
 is_ended stage = false
 
--- whether a stage is one after a fault or after the end of the input
+-- whether a stage follows a fault or the end of the input
 abbrev pub is_settled : Stage → Bool
 is_settled Looking = true
 is_settled Closed = true
 is_settled (Ended at) = true
 is_settled stage = false
 
--- a stage in which no epoch is open: where it is in RINEX, and where in compact text
+-- a stage in which no epoch is open, with its phase in RINEX and in compact text
 pub record IsClosedStage (stage : Stage) (rinex : RunPhase OpenEpoch) (compact : RunPhase OpenRawEpoch) : Type
     0 where
   pub rinex_phase : (held : Option OpenEpoch) → phase_of_stage held stage ≡ rinex

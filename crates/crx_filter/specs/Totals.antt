@@ -1,4 +1,4 @@
--- What a check counts, as code stores it.
+-- The counts of a check, as code stores them.
 use Rattle.std.specs.Prelude.{◌≡◌, ◌≤◌, ◌*◌, ⊤, ℕ, List, [], ◌∷◌, ◌++◌, Option, Ok, length}
 use Rattle.crx_base.specs.declared.limits.TheConstants.{SATELLITES_LIMIT, TYPES_LIMIT}
 use Rattle.crx_rinex.specs.meaning.EpochPlaces.{OpenEpoch}
@@ -21,7 +21,7 @@ totals_held t = record {
   observations = t.observations;
 }
 
--- what is found, by the state
+-- the findings, by the state
 abbrev pub found_held : Totals → List Count → Option ℕ → Findings
 found_held t types not_standard = record {
   version = version_in t.version;
@@ -32,21 +32,20 @@ found_held t types not_standard = record {
   not_standard = not_standard;
 }
 
--- where a line moves a reading on within an epoch, the epoch has a printed line
+-- if a line moves a reading on within an epoch, the epoch has a printed line
 abbrev pub HasPrinted : Made Epoch OpenEpoch → Type 0
 HasPrinted (Completes unit) = ⊤
 HasPrinted (Moves phase) = (lines : List (List ℕ)) × (line : List ℕ) × (printed_open phase ≡ lines ++ line ∷ [])
 HasPrinted (Rejects fault) = ⊤
 HasPrinted (Repeats at) = ⊤
 
--- the rows of an epoch so far have so many observations, and are no more than an epoch may have
+-- the rows of an epoch so far have `observed` observations, and are no more than an epoch may have
 pub record IsObserved (observed : ℕ) (rows : List Row) : Type 0 where
   pub is_sum : observed ≡ sum_by observations_of rows
   pub within : observed ≤ TYPES_LIMIT * length rows
   pub few : length rows ≤ SATELLITES_LIMIT
 
--- the last of the rows that a reader took was read out of this line, and so many observations are those of
--- the rows before it
+-- the reader's last row was read from this line, and the rows before it have `observed` observations
 pub record IsBehindARow (observed : ℕ) (line : List ℕ) (reader : RinexReader) : Type 0 where
   pub rows : List Row
   pub is_last : reader.rows.rows ≡ rows ++ reader.row ∷ []

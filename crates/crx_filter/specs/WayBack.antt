@@ -1,4 +1,4 @@
--- Beside meaning/WayBack: what code and proofs see of it.
+-- Additions to meaning/WayBack for code and proofs.
 use Rattle.std.specs.Prelude.{◌≡◌, ℕ, true, List, None, map}
 use Rattle.crx_base.specs.meaning.Lines.{lines_of}
 use Rattle.crx_base.specs.meaning.AsRead.{as_read}
@@ -11,27 +11,27 @@ use Rattle.crx_filter.specs.meaning.Expanded.{expanded}
 use Rattle.crx_filter.specs.meaning.Standard.{printed_items, whole_of, normal_form, IsStandard}
 use Rattle.crx_filter.specs.meaning.WayBack.{HaveNoReturns, written_well}
 
--- where the compaction of an input isn't ended by a fault, the expansion of its compact text writes all units that were
--- accepted, as RINEX prints them, and reports nothing; whatever was chosen for either
+-- if no fault ends the compaction of an input, the expansion of its compact text writes all accepted units, as RINEX
+-- prints them, and reports nothing, with any options
 abbrev pub ComesBack : List ℕ → Choices → Choices → Type 0
 ComesBack input compacting expanding =
     let whole : WholeReading Epoch = whole_rinex compacting.skip (map as_read (lines_of input)) in
     is_date compacting.date ≡ true → whole.fault ≡ None → HaveNoReturns whole.items
     → expanded (compacted input compacting).output expanding ≡ written_well (lines_text (printed_items whole.items))
 
--- a file that is read to its good end comes back in its normal form
+-- a file that is read to its end without a fault is restored in its normal form
 abbrev pub NormalFormComesBack : List ℕ → Choices → Choices → Type 0
 NormalFormComesBack input compacting expanding =
     is_date compacting.date ≡ true → (whole_of input).fault ≡ None → HaveNoReturns (whole_of input).items
     → expanded (compacted input compacting).output expanding ≡ written_well (normal_form input)
 
--- a standard file comes back byte for byte
+-- a standard file is restored byte for byte
 abbrev pub StandardComesBack : List ℕ → Choices → Choices → Type 0
 StandardComesBack input compacting expanding =
     is_date compacting.date ≡ true
     → IsStandard input → expanded (compacted input compacting).output expanding ≡ written_well input
 
--- a file that is read to its good end is standard where it comes back byte for byte, by any choices
+-- a file that is read to its end without a fault is standard if it is restored byte for byte, with any options
 abbrev pub IsStandardWhereSame : List ℕ → Choices → Choices → Type 0
 IsStandardWhereSame input compacting expanding =
     is_date compacting.date ≡ true → (whole_of input).fault ≡ None

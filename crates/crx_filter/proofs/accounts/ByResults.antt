@@ -22,7 +22,7 @@ pub accounts-for_text : (choices : Choices) (text : List ℕ)
     → AccountsForText choices.skip text (expanded text choices)
 accounts-for_text choices text good = grind (arith, common_steps, text-told, append-nil, error_text)
 
--- ---- by what holds of a result
+-- ---- by the facts of a result
 
 pub compaction-keeps : (holds : FilterResult → Type 0) (choices : Choices) (file : List ℕ)
     → holds (compacted file choices) → CompactionKeeps holds choices file

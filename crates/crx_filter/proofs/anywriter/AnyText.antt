@@ -53,7 +53,7 @@ rows-many base (r ∷ rs) (line ∷ lines) h = ap suc (rows-many base rs lines h
 pub none-left : (tail : Option Tail) → IsLeft None tail
 none-left tail b e = absurd (cc e)
 
--- ---- items that leave what some units do
+-- ---- items that leave the same as some units
 
 like-unit : (items : List (Item ReadEpoch)) (units : List (FileUnit Epoch)) (unit : FileUnit ReadEpoch)
     → IsLike items units → IsInPlace (as_items units) (rinex_unit unit)

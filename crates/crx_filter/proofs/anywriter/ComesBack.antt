@@ -24,7 +24,7 @@ items-back items compacting expanding dated h none =
 pub comes-back : (input : List ℕ) (compacting expanding : Choices) → ComesBack input compacting expanding
 comes-back input compacting expanding dated f none = search (items-back, whole-settled)
 
--- ---- a file read to its good end, and a standard file
+-- ---- a file read to its end without a fault, and a standard file
 
 pub normal-comes_back : (input : List ℕ) (compacting expanding : Choices)
     → NormalFormComesBack input compacting expanding

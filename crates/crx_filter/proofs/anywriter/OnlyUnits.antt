@@ -20,7 +20,7 @@ use Rattle.crx_compact.specs.meaning.AnyWriter.{WrittenEpoch, epoch_now}
 use Rattle.crx_compact.specs.AnyWriter.{epoch_left}
 use Rattle.crx_compact.proofs.anywriter.{Epochs.any-epoch, OnlyEpochs.{only-epoch, done-things}}
 
--- ---- what is known of some items, the units that they show, and the epoch that later lines may go on from
+-- ---- some items, the units that they show, and the epoch that later lines may continue from
 
 pub record Standing (items : List (Item ReadEpoch)) (units : List (FileUnit Epoch))
     (before : Option WrittenEpoch) : Type 0 where

@@ -10,7 +10,7 @@ use Rattle.crx_filter.proofs.anywriter.OwnText.{units-append}
 use Words.{common_steps}
 use Rattle.crx_filter.specs.meaning.{Damage.epochs_among, UnitsAndText.as_items, WrittenStandard.rinex_items}
 
--- ---- what is written
+-- ---- the output
 
 pub lines-append : (later before : List (Item ReadEpoch))
     → expanded_lines (later ++ before) ≡ expanded_lines before ++ expanded_lines later
@@ -22,7 +22,7 @@ pub lines-warned : (warnings : List At) (items : List (Item ReadEpoch))
 lines-warned [] items = refl
 lines-warned (at ∷ older) items = lines-warned older items
 
--- ---- what is reported
+-- ---- the messages
 
 pub warnings-append : (later before : List (Item ReadEpoch))
     → warnings_in (later ++ before) ≡ warnings_in later ++ warnings_in before

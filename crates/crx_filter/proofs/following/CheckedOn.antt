@@ -10,7 +10,7 @@ use Rattle.crx_filter.proofs.following.{Check.check-carried_out, Following.fed-o
 use Rattle.crx_filter.proofs.{reading.StaysEnded.rinex-stays, standard.CheckLines.{phase-reached, line-grows}}
 use Rattle.crx_filter.specs.CheckingLaws.{IsCheckedOn}
 
--- ---- what is seen of the lines
+-- ---- the state after the lines
 
 pub same-state : (lines : List InputLine) → CheckState.reading (check_state lines)
     ≡ check_reading (map as_read lines)
@@ -49,7 +49,7 @@ one-on lines line = grind (
   append_assoc,
 )
 
--- ---- as many lines are printed as have come
+-- ---- one line is printed for each line read
 
 -- no fault after more lines, none before them
 good-before : (lines more : List ReadLine) → fault_of_stop (rinex_reading false (lines ++ more)).stop ≡ None

@@ -15,7 +15,7 @@ use Rattle.crx_filter.proofs.following.{Lines.{last_made, last-once, quiet-elsew
 use Rattle.crx_filter.proofs.{Choosing.by_result, reading.CompactPrefixes.remains}
 use Rattle.crx_filter.specs.{Laws.IsExpandedOn}
 
--- ---- the reading by where the first two lines are
+-- ---- the reading, by the first two lines
 
 -- the reading of compact text by what is at its first two lines
 abbrev pub reading_by : Bool → List ReadLine → Place (List (List ℕ)) → Reading ReadEpoch

@@ -112,7 +112,7 @@ module _ (choices : Choices) where
       agree-step items (first ∷ (rest ++ line ∷ [])) (length (first ∷ rest)) (next_step so_far line)
       (at-observation items first (rest ++ line ∷ []) more) step.place (rw more step.open_epoch)
 
--- ---- where more lines are wanted
+-- ---- more lines are needed
 
 pub observation-wanted : (p : Place ReadEpoch) → as_observation p ≡ NeedsMore → p ≡ NeedsMore
 observation-wanted p e = grind (arith, common_steps)

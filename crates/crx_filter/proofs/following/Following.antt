@@ -14,7 +14,7 @@ use proofs.Words.{is_again, state_end, IsFollowed, Fed, written_lines, warnings_
 use Rattle.crx_filter.specs.{LineByLine.end_step}
 pub use Rattle.crx_filter.proofs.Pending.{state_in}
 
--- ---- what a direction has to keep to
+-- ---- the conditions of a direction
 
 -- what the definitions of whole inputs say of a direction, by the user's choices: what is at some lines where
 -- an epoch or an event may begin, and the epoch that they leave open; what is kept after some items, and the

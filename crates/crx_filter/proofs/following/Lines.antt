@@ -47,7 +47,7 @@ pub record-place : {E : Type 0} (beginning : List (Item E) → List ReadLine →
     → unit_place beginning items lines ≡ first_line lines (event_record (records_count_types items))
 record-place beginning items left lines ended some = grind (arith, common_steps, nat_lt)
 
--- ---- where a reading has stopped
+-- ---- a reading that has stopped
 
 -- one line decides what is there
 pub one_line-decided : {X : Type 0} (r : Result X Fault) → one_line r ≡ NeedsMore → ⊥
@@ -87,7 +87,7 @@ module _ {E : Type 0} (read : ℕ → List ReadLine → Reading E) (items : List
       → (n : ℕ) × (looked ≡ record { items = items; stop = Looking n })
   looked-off stays = (number + length rest + 1, grind (arith, common_steps, max, drop-append_seam, looked-on))
 
--- ---- what a line makes that is given twice
+-- ---- the outcome of a line that is fed twice
 
 -- what it makes, where it comes again the second time
 abbrev pub last_made : {U O K : Type 0} → Direction U O K → RunState O K → ReadLine → Made U O
@@ -142,7 +142,7 @@ module _ {E U O K : Type 0} {m : Meaning E U O K} (h : IsCarriedOut m) where
       cases true e zero none (Some so_far) opens =
           grind (arith, common_steps, both, phase_in_body, records_count_types)
 
-  -- ---- what a line makes in a phase is what is there
+  -- ---- the outcome of a line in a phase is the unit there
 
   -- a line that is a unit of its own, or has a fault
   copied-agrees : (items : List (Item E)) (phase : Phase O) (kept : K) (unit : List ℕ → FileUnit E)
@@ -211,7 +211,7 @@ module _ {E U O K : Type 0} {m : Meaning E U O K} (h : IsCarriedOut m) where
       (made_in m.direction LookingOn (types_in_force items) (m.kept_of items) line)
   looking-stands items line e none goes = grind (arith, common_steps, closes-well, body-agrees)
 
-  -- ---- what a step comes to
+  -- ---- the effect of a step
 
   abbrev reads : List (Item E) → ℕ → List ReadLine → Reading E
   reads = reading_from (place m) m.choices.skip

@@ -12,7 +12,7 @@ use Rattle.crx_rinex.specs.EpochPlaces.{whole_or_going, still_open, open_with, p
 use Rattle.crx_filter.proofs.{following.Following.{Meaning, IsSameEpoch, AgreeOn}}
 use Rattle.crx_filter.proofs.{reading.Forward.rinex_beginning}
 
--- ---- what is asked of a direction
+-- ---- the conditions of a direction
 
 -- what the definitions say of a direction that reads RINEX, and keeps and writes this
 abbrev pub rinex_meaning : {K : Type 0} → Direction Epoch OpenEpoch K → (List (Item Epoch) → K)

@@ -15,7 +15,7 @@ compact_beginning items = compact_epoch_place (types_in_force items) (raws_kept 
 pub steady-epoch_at : (types : List Count) (older : List RawEpoch) → IsSteady (epoch_at types older)
 steady-epoch_at types older = search (steady-then, steady-first_line, steady-after_line)
 
--- ---- where an epoch or an event may begin
+-- ---- the beginning of an epoch or an event
 
 observation-decided : {E : Type 0} (count : ℕ) (p : Place E)
     → IsDecidedAfter count p → IsDecidedAfter count (as_observation p)

@@ -7,7 +7,7 @@ use Rattle.crx_filter.proofs.Words.{Done, Fails, NeedsMore, FileUnit, Item, Acce
 use Rattle.crx_filter.proofs.Words.{AtLines, is_skipped, can_go_on, looked_for, after_fault}
 use Rattle.crx_filter.proofs.Words.{reading_within, reading_from, continued_reading, IsReadForward, by_bool}
 
--- ---- what is at a place
+-- ---- the unit at a place
 
 module _ {E : Type 0} (place : List (Item E) → List ReadLine → Place (FileUnit E)) (h : IsReadForward place)
     (items : List (Item E)) (lines : List ReadLine) where
@@ -72,7 +72,7 @@ pub by_place : {Y X : Type 0} (p : Place Y) → ((x : Y) (count : ℕ) → p ≡
     → ((offset : ℕ) (fault : Fault) → p ≡ Fails offset fault → X) → (p ≡ NeedsMore → X) → X
 by_place p here wrong wanted = grind (arith, common_steps)
 
--- ---- the bound on units doesn't matter where it is high enough
+-- ---- the bound on units doesn't matter if it is high enough
 
 looked-same : {E : Type 0} (items : List (Item E)) (one two : ℕ
     → List ReadLine → Reading E) (bound number : ℕ) (lines : List ReadLine)
@@ -99,7 +99,7 @@ enough-units place h skip (suc one) (suc two) items number lines short_one short
       wrong-within place h items lines,
     )
 
--- ---- a reading, by what is at its lines
+-- ---- a reading, by the unit at its lines
 
 module _ {E : Type 0} (place : List (Item E) → List ReadLine → Place (FileUnit E)) (h : IsReadForward place)
     (skip : Bool) (items : List (Item E)) (number : ℕ) (lines : List ReadLine) where

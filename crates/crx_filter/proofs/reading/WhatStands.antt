@@ -13,7 +13,7 @@ use Words.{header_line_fault, unit_place, event_line, as_observation, compact_ep
 pub chosen : {A : Type 0} (P : A → Type 0) (b : Bool) (x y : A) → P x → P y → P (cond b x y)
 chosen P other x y h k = grind (arith, common_steps)
 
--- ---- what may begin at a line of RINEX
+-- ---- units that may begin at a line of RINEX
 
 -- a line begins an event only where it is an event's first one
 abbrev IsBeginning : List ℕ → Result Beginning Fault → Type 0
@@ -31,7 +31,7 @@ epoch-begun line v1 = grind (arith)
 line-begun : (line : List ℕ) → IsBeginning line (beginning_of line)
 line-begun line = grind (arith, common_steps, event-begun, epoch-begun)
 
--- ---- what holds wherever a unit may be
+-- ---- facts at every place of a unit
 
 module _ {E : Type 0} (P : Place (FileUnit E) → Type 0) (wanted : P NeedsMore)
     (wrong : (offset : ℕ) (fault : Fault) → P (Fails offset fault)) where
@@ -105,7 +105,7 @@ module _ (P : Place (FileUnit ReadEpoch) → Type 0) (wanted : P NeedsMore)
       by_count on None e = rw (e, event_line) (wrong 0 BadEpoch)
       by_count on (Some count) e = rw (e, event_line) (event line lines refl on (ap is_some e))
 
--- ---- what stands at a place
+-- ---- the unit at a place
 
 -- a line that is copied is the first of some lines, where it may be; and an epoch is read of them, between
 -- units

@@ -12,7 +12,7 @@ use Rattle.crx_filter.proofs.{Checkers.last-of, following.Following.state_in, re
 use Rattle.crx_filter.proofs.reading.Resuming.{within-here, within-wrong, within-wanted}
 use Rattle.crx_rinex.specs.meaning.Printing.{printed_head}
 
--- ---- where nothing is skipped, no line is looked for
+-- ---- no line is looked for if nothing is skipped
 
 abbrev IsFound : Stop → Type 0
 IsFound (Looking number) = ⊥
@@ -46,7 +46,7 @@ pub phase-reached : (lines : List ReadLine) → IsReached (phase_of rinex_open (
 phase-reached lines = let r = rinex_reading false lines in
     stop-reached r.items r.stop (within-found (length lines + 1) [] 1 lines)
 
--- ---- the last line of what a line makes
+-- ---- the last line of a line's outcome
 
 -- an epoch with one row more is printed with one line more
 row-printed : (so_far : OpenEpoch) (row : Row) → printed_epoch (epoch_of (with_next_row so_far row))

@@ -69,7 +69,7 @@ pub row-taken : (before after : RinexReader) (made : Made ObservationEpoch OpenE
 row-taken before after made is_last takes choices number totals line =
     grind (arith, common_steps, state_in, reader_phase, kept-always, epoch_by_rows)
 
--- ---- lines can come on
+-- ---- more lines can follow
 
 reached : (phase : Phase OpenEpoch) → is_reading phase ≡ true → IsReached phase
 reached phase e = grind (arith, common_steps, false-true)
@@ -83,7 +83,7 @@ has-printed : (phase : Phase OpenEpoch) (types : List Count) (kept : Totals) (li
 has-printed phase types kept line is = subst HasPrinted (made-same phase types kept line)
     (grows-printed 0 phase types kept line _ (line-grows 0 phase types kept line is))
 
--- ---- what a check's direction answers
+-- ---- the answers of a check's direction
 
 module _ (serves : Choices → Type 0) (before after : RinexReader) (totals : Held) (content : List ℕ)
     (ready : List (List ℕ)) where
@@ -99,7 +99,7 @@ module _ (serves : Choices → Type 0) (before after : RinexReader) (totals : He
       (parts_with after (totals_held totals))
   refused-reads fault same closed refuses none = grind (arith, common_steps, rejected-reads, false≢true)
 
--- ---- what a check knows
+-- ---- the notes of a check
 
 -- it reads on where no fault has ended it
 pub reads-on : (begun : Option OpenEpoch) (stage : Stage) → IsReached (phase_of_stage begun stage)

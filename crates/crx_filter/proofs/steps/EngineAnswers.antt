@@ -26,7 +26,7 @@ use proofs.Pending.{again-lines, quiet-next, taken-either}
 use proofs.steps.StepCounts.{steps-choices}
 use proofs.following.Following.{fed-once as feeds-once, fed-twice as feeds-twice, failed-ends, failed-skipped}
 
--- ---- a line that comes again
+-- ---- a line that is fed again
 
 -- where a line is to come again, it is in an epoch whose fault is skipped, and one is looked for then
 pub record ComesAgain {U O K : Type 0} (direction : Direction U O K) (before next : RunState O K)
@@ -83,7 +83,7 @@ module _ {U O K : Type 0} {direction : Direction U O K} {closing_after : List In
     {state_after_lines : List ReadLine → RunState O K} {filter : Filter}
     (goes : GoesLineByLine direction closing_after state_after_lines filter)
     (has_ended : List InputLine → Type 0) where
-  -- ---- a line that is fed once, or comes a second time
+  -- ---- a line that is fed once, or again
 
   fed-once : (before : RunState O K) (line : ReadLine) (step : LineStep O K) → step ≡ state_next direction
       before line → is_again step.answer ≡ false → fed direction before line ≡ fed_once step

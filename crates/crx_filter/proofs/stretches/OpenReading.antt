@@ -21,7 +21,7 @@ use Rattle.crx_filter.proofs.reading.Resuming.{within-wanted, looked-here, resum
 use Rattle.crx_filter.proofs.wayback.First.{all-drop}
 use Rattle.std.proofs.lemmas.List.{Folds.list_all-append, drop-drop}
 
--- ---- the lines of a stretch, and what is read of them
+-- ---- the lines of a stretch, and their reading
 
 -- epochs and warnings alone
 abbrev pub AreEpochs : List (Item ReadEpoch) → Type 0
@@ -47,7 +47,7 @@ pub epochs-types : (news items : List (Item ReadEpoch))
 epochs-types [] items h = refl
 epochs-types (item ∷ news) items h = grind (arith, common_steps, epochs-types news items)
 
--- ---- what is at such lines
+-- ---- the unit at such lines
 
 -- where more lines are wanted, the first one is no event's
 wanted-no_event : (items : List (Item ReadEpoch)) (line : List ℕ) (lines : List ReadLine)

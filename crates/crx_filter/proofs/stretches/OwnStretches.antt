@@ -140,7 +140,7 @@ own-as choices before (s ∷ later) h good closed =
     let rest = own-as choices next later h.1 good closed in
     grind (arith, common_steps, as_stretches, units-next, one-stretch, good-up_to, good)
 
--- ---- what is saved of it
+-- ---- its saved units
 
 saves-own : (every : Option ℕ) (before : List (Item Epoch)) (stretches : List OwnStretch)
     (lines : List (List ℕ))

@@ -27,7 +27,7 @@ pub rest-placed : (units block : List (FileUnit Epoch)) → AreInPlace (as_items
 rest-placed units block h =
     rest-in_place (as_items units) (as_items block) (rw (map-append Accepted units block) at h)
 
--- ---- where a reading is
+-- ---- the place of a reading
 
 -- these lines were read as these items, which leave the same state as these units
 pub record WereReadAs (so_far : List ReadLine) (items : List (Item ReadEpoch))
@@ -36,7 +36,7 @@ pub record WereReadAs (so_far : List ReadLine) (items : List (Item ReadEpoch))
   pub between : IsBetweenUnits items
   pub types : types_in_force items ≡ types_in_force (as_items before)
 
--- ---- what is known of some stretches, and of all units
+-- ---- facts about some stretches, and about all units
 
 pub record AreSound (before : List (FileUnit Epoch)) (stretches : List Stretch) : Type 0 where
   pub in_place : AreInPlace (as_items (with_stretches before stretches))
@@ -103,7 +103,7 @@ one-stretch before s later so_far items sound come =
       come = grind (arith, common_steps, next, header, k, next-closed (up_to_next before s) later next);
     }
 
--- ---- what is written for it
+-- ---- its output
 
 -- the printed epochs among what is read of a stretch
 news-printed : (news : List (Item ReadEpoch))

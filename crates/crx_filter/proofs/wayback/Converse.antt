@@ -23,7 +23,7 @@ pub lines-plain : (lines : List (List ℕ))
 lines-plain [] h = refl
 lines-plain (line ∷ lines) h = grind (arith, lines-plain lines h.1, first-cut, return-kept)
 
--- ---- what is printed is printable
+-- ---- printed lines are printable
 
 replicate-text : (n c : ℕ) → is_printable c ≡ true → list_all is_printable (replicate n c) ≡ true
 replicate-text zero c h = refl

@@ -33,7 +33,7 @@ pub front-cut : (lines : List (List ℕ)) (text : List ℕ) → AllByRecursion I
 front-cut [] text h = refl
 front-cut (line ∷ lines) text h = search (front-cut lines text h.1, append_assoc, pieces-first, as-read-clean)
 
--- ---- what is read of an input
+-- ---- the reading of an input
 
 -- a line's content holds no LF and isn't too long
 abbrev pub CanStand : List ℕ → Type 0

@@ -50,7 +50,7 @@ items-placed (Accepted unit ∷ before) h good =
     grind (arith, common_steps, items-placed before h.1)
 items-placed (Warned at ∷ before) h good = grind (arith, items-placed before h.1 good, read-as before)
 
--- ---- what is copied is a line
+-- ---- a copied line is a line
 
 pub copied-read : (items : List (Item ReadEpoch)) → copied (rinex_items items) ≡ copied items
 copied-read [] = refl
@@ -77,7 +77,7 @@ read-settled skip lines h f =
       none = (read-as items).left ∙ rw whole closed.1;
     }
 
--- ---- what is written
+-- ---- the output
 
 pub printed-read : (items : List (Item ReadEpoch))
     → written_lines expanded_unit items ≡ printed_items (rinex_items items)

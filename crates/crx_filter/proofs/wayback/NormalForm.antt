@@ -54,7 +54,7 @@ printed-read skip (unit ∷ units) h = unit-more rinex_place rinex-forward skip 
     (printed_items (as_items units)) (printed_unit unit) unit (printed-read skip units h.1) (stands
     (as_items units) unit h.0)
 
--- ---- where nothing is skipped, there are no warnings
+-- ---- no warnings if nothing is skipped
 
 pub whole-none : (lines : List ReadLine) → warnings_in (WholeReading.items (whole_rinex false lines)) ≡ []
 whole-none lines =
@@ -133,7 +133,7 @@ printed-again items h none =
     ∙ ap (ended_reading false) (printed-read false (units_in items) (units-placed items h.in_place))
     ∙ rw (closes-well (as_items (units_in items)) (sym like.header ∙ h.header) (sym like.left ∙ h.none)) refl
 
--- ---- what was accepted, printed, is a standard file
+-- ---- the accepted units, printed, are a standard file
 
 pub settled-standard : (items : List (Item Epoch))
     → IsSettled items → HaveNoReturns items → IsStandard (lines_text (printed_items items))

@@ -22,7 +22,7 @@ use proofs.wayback.First.{program-printable, program-clean, version-clean}
 use Rattle.{crx_filter.specs.WayBack.IsStandardWhereSame}
 use Rattle.{crx_header.specs.meaning.CompactHeader.lines_before_header}
 
--- ---- what an expansion writes
+-- ---- the output of an expansion
 
 written-returns : (items : List (Item ReadEpoch))
     → AreGoodEpochs items → returns_in (expanded_lines items) ≡ returns_in (copied items)
@@ -78,7 +78,7 @@ compacted-returns choices items dated h =
     in
     grind (arith, lines-same, started, version-clean, program-clean, all-from, read-written, lines-left)
 
--- ---- a file that comes back
+-- ---- a restored file
 
 compact-within : (skip : Bool) (lines : List ReadLine)
     → returns_in (copied (WholeReading.items (whole_compact skip lines))) ≤ returns_read lines

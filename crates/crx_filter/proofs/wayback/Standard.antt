@@ -10,7 +10,7 @@ use Words.{whole_rinex, not-true, by_bool}
 use Rattle.crx_filter.proofs.{wayback.Cut.{OfContent, return-kept}}
 use Rattle.crx_lines.proofs.PieceLemmas.{EachEnded}
 
--- ---- where nothing is wrong, nothing is skipped
+-- ---- without a fault nothing is skipped
 
 pub not-ended : {X : Type 0} (at : At) → ◌≡◌ {A = Option At} (Some at) None → X
 not-ended at e = absurd (cc)

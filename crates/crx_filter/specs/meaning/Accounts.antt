@@ -15,7 +15,7 @@ use Rattle.crx_filter.specs.meaning.Written.{warnings_in, written_lines}
 use Rattle.crx_runs.specs.meaning.Messages.{notices_text}
 use Rattle.crx_runs.specs.meaning.Results.{FilterResult, status_after}
 
--- ---- what is written and reported for the lines
+-- ---- the output and messages for the lines
 
 -- `result` accounts for `lines`, the first of which has this `number`, by the items that were read from them: the
 -- items own the lines, the output is the text of the items, and the messages are their warnings. So with status 0 no

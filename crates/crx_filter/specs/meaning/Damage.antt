@@ -35,7 +35,7 @@ pub record IsDamaged (before : List (FileUnit Epoch)) (s : Stretch) (damaged : L
   pub stretch : HasStretches before (s ∷ []) damaged
   pub block : AreBlockLines s.instead
 
--- ---- what is saved
+-- ---- the saved units
 
 -- the epochs among some units, the oldest first
 abbrev pub epochs_among : List (FileUnit Epoch) → List Epoch

@@ -109,7 +109,7 @@ pub record HasStretches (before : List (FileUnit Epoch)) (stretches : List Stret
   pub each : AreStretches before stretches
   pub rest : text.more ≡ stretches_lines stretches
 
--- ---- what is saved
+-- ---- the saved units
 
 -- the lines written after the units `before`: for each stretch some whole epochs, by the types in force there, and
 -- then exactly the kept units
