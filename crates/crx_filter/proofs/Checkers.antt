@@ -1,4 +1,4 @@
--- What a checker counts, and what it prints, by what a line makes.
+-- The counts and the printed lines of a check, by the outcome of a line.
 use Rattle.crx_filter.specs.declared.rinex_reader.RinexStep.TheVariants as Steps
 use Rattle.crx_filter.proofs.Words.{common_steps, arith, ℕ, ◌≡◌, Some, Bool, true, false, List, [], ◌∷◌, ◌++◌}
 use Rattle.crx_filter.proofs.Words.{refl}
@@ -17,7 +17,7 @@ use Rattle.{crx_text.proofs.Blanks.end_blanks-more, crx_text.specs.meaning.Numbe
 use Rattle.std.{proofs.lemmas.List.{take-append-le, take_all}, specs.Option.is_some}
 use Rattle.crx_base.specs.declared.limits.TheConstants.{HEAD_WIDTH}
 
--- the header's first line says the version
+-- the first header line has the version
 pub first-line : (totals : Totals) (made : Made ObservationEpoch OpenEpoch) (before after : RinexReader)
     (line : List ℕ) (step : RinexStep) (is_first : Bool) → step ≡ Header is_first → is_first ≡ true
     → TakesRinexLine made before line step after → totals_made totals (is_before_header (reader_phase before))
@@ -27,12 +27,12 @@ first-line totals made before after line step is_first is on takes =
 
 -- ---- the printed line
 
--- so nothing is printed for a line that was passed over
+-- nothing is printed for a line that was passed over
 pub none-passed : {X : Type 0} (made : Made ObservationEpoch OpenEpoch) (before after : RinexReader)
     (line : List ℕ) → TakesRinexLine made before line Steps.Nothing after → HasPrinted made → X
 none-passed made before after line takes some = grind (arith, common_steps, false-true)
 
--- the line of an epoch, where none of its rows has come
+-- an epoch line, before the epoch's first row
 pub begun-printed : (made : Made ObservationEpoch OpenEpoch) (before after : RinexReader) (line : List ℕ)
     (head : ObservationHead) → TakesRinexLine made before line Steps.Begun after → after.head ≡ Some head
     → last_line (printed_made made) ≡ printed_head head.head head.clock
@@ -48,7 +48,7 @@ without_clock head None none width =
     (omega (arith, width)) ∙ take_all HEAD_WIDTH head (omega (arith, width))))
 without_clock head (Some clock) none width = false-true (sym none)
 
--- without a clock offset it is the columns alone
+-- without a clock offset it is only the columns
 pub unclocked-printed : (made : Made ObservationEpoch OpenEpoch) (before after : RinexReader) (line : List ℕ)
     (head : ObservationHead) → TakesRinexLine made before line Steps.Begun after → after.head ≡ Some head
     → (clock : Option ℤ) → clock ≡ head.clock → is_some clock ≡ false → length head.head ≡ HEAD_WIDTH
@@ -63,7 +63,7 @@ last-of [] line = refl
 last-of (first ∷ []) line = refl
 last-of (first ∷ next ∷ lines) line = last-of (next ∷ lines) line
 
--- the last line of an epoch is that of its last row
+-- the last line of an epoch is the line of its last row
 row-printed : (head : ObservationHead) (rows before : List Row) (row : Row)
     → rows ≡ before ++ row ∷ [] → last_line (printed_epoch (epoch_by_rows head rows)) ≡ printed_row row
 row-printed head rows before row is =
@@ -76,7 +76,7 @@ pub row-made : (made : Made ObservationEpoch OpenEpoch) (before after : RinexRea
 row-made made before after true rows takes is = grind (arith, common_steps, same_Some, row-printed)
 row-made made before after false rows takes is = grind (arith, common_steps, in-epoch, last_line, row-printed)
 
--- a line that is copied is given back
+-- a copied line is printed unchanged
 pub copied-printed : (made : Made ObservationEpoch OpenEpoch) (line : List ℕ) → printed_made made ≡ line ∷ []
     → true ≡ bytes_eq line (last_line (printed_made made))
 copied-printed made line is = grind (arith, common_steps, bytes_eq-same, bytes_eq, last_line)

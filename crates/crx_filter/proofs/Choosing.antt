@@ -1,4 +1,4 @@
--- By the value of a test.
+-- Cases by the value of a test.
 use Rattle.std.proofs.Common.{◌≡◌, true, false, Bool, refl, Result, Ok, Err}
 
 pub false-true : {X : Type 0} → false ≡ true → X

@@ -1,4 +1,4 @@
--- What a reader of compact text holds after a line.
+-- The state of a reader of compact text after a line.
 use Rattle.crx_filter.proofs.Words.{common_steps, arith, ◌≡◌, Bool, true, List, ℕ, Option, None, Result}
 use Rattle.crx_filter.proofs.Words.{Ok, Content, Fault}
 use Rattle.crx_filter.proofs.Words.{Count, Satellite, Tail, and_then, RawStep}
@@ -6,7 +6,7 @@ use Rattle.crx_filter.{proofs.Words.first_step, specs.CompactStages.{wants_line,
 use Rattle.crx_compact.specs.OpenEpochs.{ColumnsState, Going, Whole, Faulty, HasMade, opened_raw, awaited_row}
 use Rattle.crx_compact.specs.OpenEpochs.{before_clock, opening, tail_for_line, tail_opened}
 
--- whether an epoch that goes on wants lines
+-- whether an epoch that continues expects lines
 abbrev wants_more : RawStep → Bool
 wants_more (Going begun) = wants_line begun.clock (awaited_row begun)
 wants_more (Whole held) = true
@@ -21,7 +21,7 @@ opened-wants : (types : List Count) (line : List ℕ) (tail : Option Tail)
     → wants_more (opening (opened_raw types line tail)) ≡ true
 opened-wants types line tail = grind (arith, common_steps, satellites-wanted)
 
--- an epoch that was begun wants lines
+-- an epoch that was begun expects lines
 pub begun-wants : (types : List Count) (tail : Option Tail) (line : List ℕ) (after : ColumnsState)
     → HasMade (first_step types tail (Content line)) after None → wants_lines after ≡ true
 begun-wants types tail line after (begun, going, is) = cc (opened-wants types line (tail_for_line tail line))

@@ -1,4 +1,4 @@
--- What runs bring back, save and judge follows from what they are, by the laws.
+-- The promises of runs follow from the definition of runs, by the laws.
 use Rattle.crx_filter.proofs.Words.{common_steps, arith, ℕ, ◌≡◌, List, Option, None, sym, subst, ◌∙◌}
 use Rattle.crx_filter.proofs.Words.{lines_of, At, Choices, compacted, expanded, FilterResult, findings_of}
 use Rattle.crx_filter.proofs.Words.{checked_by, checked, Device, IsResult}
@@ -8,7 +8,7 @@ use Rattle.crx_filter.specs.meaning.Promises.{Keeps, BringsBackWhatWasCompacted,
 use Rattle.crx_filter.specs.meaning.Standard.{Findings, report_status}
 use Rattle.{crx_runs.specs.meaning.{Filters.Filter, Runs.Runs, Spans.Input}, std.specs.Prelude.◌↔◌}
 
--- a promise that the result of each whole input keeps is kept by a run
+-- a run keeps a promise that the result of each whole input keeps
 pub kept : {result_of : List ℕ → FilterResult} {filter : Filter} {promise : List ℕ → Type 0} {input : Input}
     {writer messages : Device} {status : ℕ} {fault : Option At}
     → Runs result_of filter input writer messages status fault

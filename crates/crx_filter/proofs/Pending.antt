@@ -1,4 +1,4 @@
--- What is answered where lines are handed out.
+-- The answer to a line that makes lines ready.
 use Rattle.crx_filter.proofs.Words.{◌≡◌, ℕ, false, List, [], ReadLine, RunState, Direction, Choices}
 use Rattle.crx_filter.proofs.Words.{Count, LineStep, state_next, is_again, arith, common_steps, None}
 use Rattle.crx_filter.{proofs.Words.{Made, noticed_by, failed_by, step_of_made}, specs.Laws.is_ready}
@@ -6,7 +6,7 @@ use Rattle.crx_filter.proofs.Words.{true, ◌∷◌, ◌⊎◌, inl, inr, refl, 
 use Rattle.crx_filter.specs.{EngineLines.HasTaken, LineByLine.{answer_of_lines, Phase}}
 use Rattle.crx_runs.specs.Engines.{Awaited, IsAwaited}
 
--- what is seen in a phase, some types in force and this kept
+-- the state in a phase, with some types in force and this kept
 abbrev pub state_in : {O K : Type 0} → Choices → ℕ → Phase O → List Count → K → RunState O K
 state_in choices number phase types kept =
     record { choices = choices; number = number; phase = phase; types = types; kept = kept }
@@ -20,7 +20,7 @@ failed-lines lines = grind (arith, common_steps)
 pub again-lines : (lines : List (List ℕ)) → is_again (answer_of_lines lines) ≡ false
 again-lines lines = grind (arith, common_steps)
 
--- an engine that has taken some lines has come to them; or the next one comes a second time, after a warning
+-- an engine that has taken some lines is in the state after them; or the next one is fed again, after a warning
 pub taken-either : {U O K : Type 0} (direction : Direction U O K) (state_after : List ReadLine → RunState O K)
     (now : RunState O K) (lines : List InputLine) (notices : List Awaited) (line : InputLine)
     → HasTaken direction state_after now lines notices → IsAwaited notices line
@@ -33,7 +33,7 @@ taken-either direction state_after now lines (a ∷ []) line taken awaited =
     rw (← awaited) (inr (a.notice, refl, taken))
 taken-either direction state_after now lines (a ∷ b ∷ others) line taken awaited = absurd taken
 
--- only a step that is ready hands out lines
+-- only a step with the answer `Ready` has lines ready
 module _ {U O K : Type 0} (direction : Direction U O K) (before : RunState O K) where
   quiet-made : (line : ReadLine) (made : Made U O)
       → is_ready (step_of_made direction before line made).answer ≡ false

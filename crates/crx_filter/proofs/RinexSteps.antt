@@ -1,4 +1,4 @@
--- What a reader of RINEX makes of the lines of an epoch, and of a line where one may begin.
+-- The steps of a reader of RINEX at the lines of an epoch, and at a line where one may begin.
 use Rattle.crx_filter.proofs.Words
 use Words.{common_steps, ◌≡◌, ◌⊎◌, inl, inr, ℕ, ◌+◌, ◌<◌, ◌∷◌, ◌++◌, [], true, false, List, length, Option}
 use Words.{Some, Result, Ok, Err, ap, subst, ◌∙◌, arith, ⊤, Fault, Row, Epoch as ObservationEpoch, HeadLine}
@@ -12,18 +12,18 @@ use Rattle.crx_rinex.specs.EpochPlaces.{whole_or_going}
 
 -- ---- the state of a reader then
 
--- an epoch with this line, of which these rows have come
+-- an epoch with this line, of which these rows have been read
 abbrev pub open_by_rows : List Count → ObservationHead → List Row → OpenEpoch
 open_by_rows types head rows = record { types = types; head = head; rows = rows }
 
--- the parts of a reader say this of the epoch that was begun last
+-- the parts of a reader describe the epoch that was begun last
 pub record HasParts (after : RinexReader)
     (types : List Count) (head : ObservationHead) (rows : List Row) : Type 0 where
   pub types_then : after.types ≡ types
   pub held : after.head ≡ Some head
   pub rows_then : after.rows.rows ≡ rows
 
--- the same where rows are still to come
+-- the same if rows are still expected
 part-taken : (made : Made ObservationEpoch OpenEpoch) (before after : RinexReader) (head : ObservationHead)
     (rows : List Row) → made ≡ made_of_epoch_step (whole_or_going (open_by_rows before.types head rows))
     → length rows < head.count → HasParts after before.types head rows → after.stage ≡ Open → MovesReader made
@@ -32,7 +32,7 @@ part-taken made before after head rows is part parts stage = grind arith
 
 -- ---- a satellite line
 
--- an epoch with this line is open, and wants rows
+-- an epoch with this line is open, and expects rows
 pub record IsInEpoch (r : RinexReader) (head : ObservationHead) : Type 0 where
   pub stage : r.stage ≡ Open
   pub held : r.head ≡ Some head
@@ -46,7 +46,7 @@ pub in-its-epoch : (r : RinexReader) (head : ObservationHead)
     → is_open_stage r.stage ≡ true → r.head ≡ Some head → IsInEpoch r head
 in-its-epoch r head is held = grind arith
 
--- so many rows of an epoch with this line are not all of them: it stays open
+-- if `count` rows aren't all rows of an epoch with this line, it stays open
 pub stays-open : (stage : Stage) (held : Option ObservationHead) (head : ObservationHead) (count : ℕ)
     (rows : List Row) → stage ≡ Open → held ≡ Some head → count ≡ length rows → count < head.count
     → is_rinex_stage stage held count rows ≡ true
@@ -63,7 +63,7 @@ module _ (before after : RinexReader) (head : ObservationHead) (line : List ℕ)
       → CompletedEpoch (made_at before line kept) before after
   last-row-taken full parts stage = grind (arith, common_steps, in-its-epoch)
 
-  -- or others are to come
+  -- or others follow
   pub row-taken : before.count + 1 < head.count
       → HasParts after before.types head (before.rows.rows ++ before.row ∷ []) → after.stage ≡ Open
       → MovesReader (made_at before line kept) before after
@@ -71,7 +71,7 @@ module _ (before after : RinexReader) (head : ObservationHead) (line : List ℕ)
 
 -- ---- the beginning of an epoch or an event
 
--- what a line's head says of the line
+-- the meaning of a line's head for the line
 abbrev OfHead : List ℕ → Result HeadLine Fault → Type 0
 OfHead line (Ok (EventHead flag count)) = records_announced line ≡ count
 OfHead line (Ok (EpochHead head count clock)) = (is_event_line line ≡ false) × (begins_epoch line ≡ true)
@@ -92,7 +92,7 @@ pub event-counts : (line : List ℕ) (flag count : ℕ)
     → head_of line ≡ Ok (EventHead flag count) → records_announced line ≡ count
 event-counts line flag count is = subst (OfHead line) is (of-head line)
 
--- where a reader is that takes such a line
+-- a reader may take such a line
 abbrev pub Begins : RinexReader → List ℕ → Type 0
 Begins r line = (r.stage ≡ Between) ⊎ ((r.stage ≡ Looking) × (begins_epoch line ≡ true))
 
@@ -110,15 +110,15 @@ begun-made : (types : List Count) (line : List ℕ) (head : ObservationHead)
     → made_of_beginning types (beginning_of line) ≡ made_of_epoch_step (whole_or_going (opened types head))
 begun-made types line head read = cc (read)
 
--- what a reader makes of the line that begins an epoch
+-- the outcome of the line that begins an epoch
 module _ (before after : RinexReader) (line : List ℕ) (kept : Written) (head : ObservationHead)
     (begins : Begins before line) (read : head_of line ≡ Ok (EpochHead head.head head.count head.clock)) where
-  -- it is whole with it
+  -- the epoch is whole with it
   pub begun-whole : head.count ≡ 0 → HasParts after before.types head [] → after.stage ≡ Between
       → BeginsEpoch (made_at before line kept) before after
   begun-whole none parts stage = grind (arith, begun-made, inr, begin-made, of-head)
 
-  -- or rows are to come
+  -- or rows follow
   pub begun-part : 0 < head.count → HasParts after before.types head [] → after.stage ≡ Open
       → BeginsEpoch (made_at before line kept) before after
   begun-part some parts stage = (

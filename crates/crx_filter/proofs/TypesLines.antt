@@ -1,4 +1,4 @@
--- What is wrong with a line that may declare types.
+-- The fault of a line that may declare types.
 use Rattle.crx_filter.proofs.Words.{common_steps, arith, ◌≡◌, ◌⊎◌, Bool, true, List, ℕ, Option, Some, None}
 use Rattle.crx_filter.proofs.Words.{if◌then◌else◌, is_some, Fault, OutOfMemory, Count}
 use Rattle.crx_filter.proofs.Words.{types_fault}
@@ -6,7 +6,7 @@ use Rattle.{crx_filter.specs.meaning.UnitPlaces.first_fault}
 use Rattle.{std.specs.Prelude.[], crx_base.specs.declared.fault.Fault.TheVariants.BadTypesLine}
 use Rattle.crx_header.specs.meaning.ObservationTypes.{is_bad_types_line, count_of_types_line}
 
--- what accept_line says of a fault
+-- the meaning of a fault of `accept_line`
 abbrev pub Bad : List Count → List ℕ → Fault → Type 0
 Bad types line fault = ((fault ≡ BadTypesLine) × (is_bad_types_line line ≡ true))
     ⊎ ((fault ≡ OutOfMemory) × (is_some (count_of_types_line line) ≡ true) × (types ≡ []))

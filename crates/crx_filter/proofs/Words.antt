@@ -1,5 +1,4 @@
--- The words in which these proofs speak: the definitions of the crates below and of std, each brought in
--- once.
+-- The vocabulary of these proofs: the definitions of the crates below and of std, each imported once.
 pub use Rattle.std.proofs.Common.{ℕ, ◌≡◌, ◌+◌, List, [], ◌∷◌, ◌++◌, length, Option, sym, subst, refl, arith}
 pub use Rattle.std.proofs.Common.{length-append, zero, suc, Bool, true, false, Some, Result, Ok, Err, ap, ◌∙◌}
 pub use Rattle.std.proofs.Common.{None, map, ◌⊎◌, inl, inr, ◌-◌, max, ◌<◌, ◌≤◌, cond, drop, append-nil}

@@ -1,4 +1,4 @@
--- Whoever wrote compact text: it is read as what it means, and no other text is.
+-- Compact text is read as it means, whoever wrote it, and no other text is read.
 pub mod AnyText
 pub mod OwnText
 pub mod ComesBack

@@ -1,4 +1,4 @@
--- What is saved of a damaged text: the lines of its block alone are lost.
+-- The units saved of a damaged text: only the lines of its block are lost.
 pub mod CutOff
 pub mod BlockReading
 pub mod GoingOn

@@ -1,4 +1,4 @@
--- A direction that goes line by line comes to what it comes to for all lines at once.
+-- A direction that works line by line has the same effect as its definition for all lines at once.
 pub mod Following
 pub mod Lines
 pub mod MoreLines

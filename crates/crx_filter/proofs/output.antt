@@ -1,2 +1,2 @@
--- The lines that are ready to be written, and how much is held of them.
+-- The ready lines, and the bound on their number.
 pub mod Readiness

@@ -1,4 +1,4 @@
--- How the reading of a file goes from line to line, where it stops, and what was accepted.
+-- The reading of a file from line to line, its stop, and the accepted units.
 pub mod Each
 pub mod Resuming
 pub mod WhatStands

@@ -1,4 +1,4 @@
--- Which files a check names as standard.
+-- The files that a check calls standard.
 pub mod CheckLines
 pub mod CheckEnded
 pub mod CheckStandard

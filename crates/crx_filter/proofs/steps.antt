@@ -1,4 +1,4 @@
--- What an engine makes of one line, and what it answers.
+-- The steps of an engine at one line, and its answers.
 pub mod EngineAnswers
 pub mod CompactionSteps
 pub mod RowSteps

@@ -1,4 +1,4 @@
--- What is saved of text that is damaged in stretches.
+-- The units saved of text that is damaged in stretches.
 pub mod OpenReading
 pub mod KeptUnits
 pub mod StretchesRead

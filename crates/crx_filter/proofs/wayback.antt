@@ -1,4 +1,4 @@
--- What was compacted comes back.
+-- A compacted file is restored.
 pub mod WayBack
 pub mod Cut
 pub mod First

@@ -1,4 +1,4 @@
--- What compactions, expansions and checks promise follows from what their results are, by the laws.
+-- The promises of compactions, expansions and checks follow from the definitions of their results, by the laws.
 use Rattle.crx_filter.proofs.Words
 use Words.{common_steps, arith, ℕ, ◌≡◌, List, ap, sym, ◌∙◌, subst, append-nil, Choices, compacted, expanded}
 use Words.{checked, FilterResult}

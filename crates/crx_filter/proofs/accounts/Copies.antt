@@ -1,4 +1,4 @@
--- A unit that is copied owns its one line.
+-- A copied unit owns its one line.
 use Rattle.crx_filter.proofs.Words
 use Words.{[], ◌≡◌, List, ◌∷◌, ⊤, length, sym, ◌∙◌, ReadLine, Content, Place, Done, FileUnit, Item}
 use Words.{HeaderLine, EventLine, EventRecord, Observation, rinex_place, compact_place}

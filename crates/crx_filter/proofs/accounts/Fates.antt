@@ -1,4 +1,4 @@
--- Each line's fate, through a whole reading: which lines each item owns.
+-- Each line's fate, through a whole reading: the lines that each item owns.
 use Rattle.crx_filter.proofs.Words
 use Words.{ℕ, zero, suc, ◌≡◌, ◌+◌, ◌-◌, max, ◌<◌, ◌≤◌, Bool, true, false, not, List, [], ◌∷◌, ◌++◌, take}
 use Words.{drop}
@@ -16,13 +16,13 @@ use Rattle.crx_filter.specs.meaning.Fate.{OwnInOrder}
 split : (n : ℕ) (front lines : List ReadLine) → front ++ lines ≡ (front ++ take n lines) ++ drop n lines
 split n front lines = cc (take-append-drop n lines, append_assoc front (take n lines) (drop n lines))
 
--- a line at which reading can't go on
+-- a line at which reading can't resume
 abbrev stays_off : ReadLine → Bool
 stays_off line = not (can_go_on line)
 
 module _ {E : Type 0} (place : List (Item E) → List ReadLine → Place (FileUnit E)) (h : IsReadForward place)
     (skip : Bool) (start : ℕ) (all : List ReadLine) where
-  -- a unit is read from its own lines alone
+  -- a unit is read only from its own lines
   alone : (items : List (Item E)) (lines : List ReadLine) (unit : FileUnit E) (count : ℕ)
       → place items lines ≡ Done unit count
       → place items (take count lines) ≡ Done unit (length (take count lines))
@@ -57,7 +57,7 @@ module _ {E : Type 0} (place : List (Item E) → List ReadLine → Place (FileUn
         own = (s.front, take count lines, s.kept, refl, refl, alone items lines unit count e, s.own);
       }
 
-  -- the lines that are left where a reading stops
+  -- the lines that are left when a reading stops
   abbrev IsLeft : Stop → ℕ → List ReadLine → Type 0
   IsLeft (AtLines at rest) number lines = (at ≡ number) × (lines ≡ rest)
   IsLeft (Looking at) number lines = lines ≡ []
@@ -66,7 +66,7 @@ module _ {E : Type 0} (place : List (Item E) → List ReadLine → Place (FileUn
   abbrev pub FateAt : Reading E → Type 0
   FateAt r = (number : ℕ) × (lines : List ReadLine) × SoFar r.items number lines × IsLeft r.stop number lines
 
-  -- a warning drops these lines so far: the first of them, and others at which reading can't go on
+  -- a warning drops these lines so far: the first of them, and others at which reading can't resume
   record Dropped (items : List (Item E)) (at : At) (number : ℕ) (rest : List ReadLine) : Type 0 where
     pub front : List ReadLine
     pub own : List ReadLine
@@ -207,14 +207,14 @@ module _ {E : Type 0} (place : List (Item E) → List ReadLine → Place (FileUn
           (number + length lines, at-end items number lines fault s))
           (λ off. let never = rw (off, ended_with) at f in absurd (cc never))
 
--- the items of a reading own the lines up to where it stops
+-- the items of a reading own the lines up to its stop
 pub told : {E : Type 0} (place : List (Item E) → List ReadLine → Place (FileUnit E)) (h : IsReadForward place)
     (skip : Bool) (start : ℕ) (lines : List ReadLine)
     → FateAt place h skip start lines (reading_from place skip [] start lines)
 told place h skip start lines = within place h skip start lines (length lines + 1) [] start lines
     (record { front = []; kept = []; all_is = refl; number_is = omega arith; own = (refl, refl) })
 
--- and those of one that ends well own all lines
+-- the items of a reading that ends without a fault own all lines
 pub all-told : {E : Type 0} (place : List (Item E) → List ReadLine → Place (FileUnit E)) → IsReadForward place
     → (skip : Bool) (start : ℕ) (lines : List ReadLine)
     → WholeReading.fault (whole_reading place skip start lines) ≡ None → (kept : List ReadLine)

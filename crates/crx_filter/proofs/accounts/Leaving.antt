@@ -16,7 +16,7 @@ use Rattle.crx_filter.specs.meaning.Fate.{OwnInOrder, LeavesLinesOut}
 is-some : (n : ℕ) → nat_lt 0 n ≡ true → 0 < n
 is-some n h = grind (arith, common_steps, h)
 
--- a place has the same without the warnings before it
+-- the unit at a place is the same without the warnings before it
 like-place : (items : List (Item Epoch)) (units : List (FileUnit Epoch)) (lines : List ReadLine)
     → IsLike items units → rinex_place (as_items units) lines ≡ rinex_place items lines
 like-place items units lines k = by_bool (header_has_ended items)
@@ -25,7 +25,7 @@ like-place items units lines k = by_bool (header_has_ended items)
     (λ none. rw (← k.header, ← k.left, on, none, ← k.types) refl))
     (λ off. rw (← k.header, off, ← k.start) refl)
 
--- the lines that are kept are read one unit after another
+-- the kept lines are read one unit after another
 reads-on : (skip : Bool) (number : ℕ) (items : List (Item Epoch)) (lines kept rest : List ReadLine)
     → OwnInOrder rinex_place number items lines kept → AreInPlace items
     → reading_from rinex_place skip [] 1 (kept ++ rest)

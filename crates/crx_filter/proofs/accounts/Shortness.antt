@@ -11,7 +11,7 @@ use Rattle.crx_filter.specs.meaning.Compacted.{compacted, epochs_accepted, is_at
 use Rattle.crx_filter.specs.meaning.Accounts.{AreContinued, HasShortBlocks}
 use Rattle.crx_filter.proofs.Words.{common_steps}
 
--- the remainder of the next number, where it isn't 0
+-- the remainder of the next number, if it isn't 0
 at-next : (q r n : ℕ) → r < n → ((q * n + (r + 1)) % n ≡ 0 → ⊥) → r + 1 < n
 at-next q r n less other = grind (arith, common_steps, cases_lt, mod-mul-add)
 
@@ -21,7 +21,7 @@ next-remainder k n some other = grind (arith, common_steps, div-add-mod', at-nex
 not-at : (n index : ℕ) → 0 < n → is_at_every (Some n) index ≡ false → index % n ≡ 0 → ⊥
 not-at n index some h e = grind (arith, some, h, e)
 
--- epochs after an epoch, none of them in full: the index of the first of them is k + 1
+-- epochs after an epoch, none of them full: the index of the first of them is k + 1
 few : (choices : Choices) (n : ℕ) (before : List (Item Epoch)) (first : Epoch) (others : List Epoch)
     → choices.every ≡ Some n → 0 < n → AreContinued choices (Accepted (Observation first) ∷ before) others
     → length others + (epochs_accepted before % n + 1) ≤ n

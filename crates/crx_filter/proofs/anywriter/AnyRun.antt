@@ -1,9 +1,9 @@
--- What runs make of compact text, whoever wrote it, follows from what they are.
+-- The reading of compact text by runs, whoever wrote it, follows from the definition of runs.
 use Rattle.crx_filter.proofs.Words.{ℕ, List, subst, Choices, expanded, FilterResult}
 use Rattle.crx_filter.specs.meaning.CompactText.{ReadsAnyText}
 use Rattle.crx_filter.proofs.anywriter.AnyText.{any-text}
 
--- what holds of the result of a text's expansion holds of what the text means
+-- facts about the result of a text's expansion are facts about the meaning of the text
 pub reads-any : (holds : FilterResult → Type 0) (choices : Choices) (text : List ℕ)
     → holds (expanded text choices)
     → ReadsAnyText holds text

@@ -62,7 +62,7 @@ like-unit items units unit k h = grind (arith, common_steps, types_of-push)
 
 -- ---- a unit's lines
 
--- a unit that is read at its lines, and what it leaves
+-- a unit that is read at its lines, and the state that it leaves
 record UnitRead (items : List (Item ReadEpoch)) (unit : FileUnit Epoch) (lines : List (List ℕ))
     (now : Option WrittenEpoch) : Type 0 where
   read : FileUnit ReadEpoch
@@ -191,13 +191,13 @@ all-read skip number units lines last h k =
 
 -- ---- the text
 
--- where units are read, there is no warning
+-- if units are read, there is no warning
 pub units-silent : (items : List (Item ReadEpoch)) (units : List (FileUnit Epoch))
     → rinex_items items ≡ as_items units
     → warnings_in items ≡ []
 units-silent items units known = sym (warned-read items) ∙ ap warnings_in known ∙ none-warned units
 
--- a reading that ends after these units is good
+-- a reading that ends after these units has no fault
 pub units-well : (skip : Bool) (items : List (Item ReadEpoch)) (number : ℕ) (units : List (FileUnit Epoch))
     → header_has_ended items ≡ true → records_left items ≡ 0 → rinex_items items ≡ as_items units
     → result_of expanded_unit (ended_reading skip (record { items = items; stop = AtLines number [] }))

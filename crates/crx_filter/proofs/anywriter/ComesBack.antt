@@ -1,4 +1,4 @@
--- What was compacted comes back: its compact text is one that any writer may write.
+-- A compacted file is restored: its compact text is one that any writer may write.
 use Rattle.crx_filter.proofs
 use proofs.Words.{common_steps, arith, ℕ, ◌≡◌, true, false, List, map, None, ap, sym, ◌∙◌, lines_of}
 use proofs.Words.{lines_text}
@@ -13,7 +13,7 @@ use proofs.wayback.WayBack.{IsSettled, whole-settled}
 use Rattle.crx_filter.specs.meaning.{Canonical.IsCanonical, UnitsAndText.TextsOfUnits}
 use Rattle.crx_filter.specs.WayBack.{ComesBack, NormalFormComesBack, StandardComesBack}
 
--- what was accepted comes back from its compact text
+-- accepted items are restored from their compact text
 pub items-back : (items : List (Item Epoch)) (compacting expanding : Choices) → is_date compacting.date ≡ true
     → IsSettled items → HaveNoReturns items → expanded (lines_text (compact_lines compacting items)) expanding
     ≡ written_well (lines_text (printed_items items))
@@ -45,7 +45,7 @@ pub standard-where_kept : (input : List ℕ) (compacting expanding : Choices)
 standard-where_kept input compacting expanding dated good none same =
     grind (arith, common_steps, normal-comes_back, standard-as_normal)
 
--- two files have the same compact text exactly where they have the same normal form
+-- two files have the same compact text if and only if they have the same normal form
 pub canonical : (one other : List ℕ) (choices : Choices) → IsCanonical one other choices
 canonical one other choices dated h k = (
   λ same. ap (λ (r : FilterResult). r.output)

@@ -1,5 +1,4 @@
--- A reading of compact text that gave no fault and no warning:
--- its lines are those of the units that it shows.
+-- A reading of compact text without a fault and a warning: its lines are the lines of the units that it shows.
 use Rattle.crx_filter.proofs
 use proofs.Words.{arith, common_steps, ℕ, ◌≡◌, Bool, List, [], ◌∷◌, ◌++◌, map, Option, None, refl}
 use proofs.Words.{append_assoc, map-append, ReadLine, Content, FileUnit, Item, ReadEpoch}
@@ -10,7 +9,7 @@ use Rattle.std.proofs.{Common.{take-append-drop}}
 use Rattle.crx_compact.specs.meaning.AnyWriter.{WrittenEpoch}
 use proofs.anywriter.OnlyUnits.{Standing, unit-back}
 
--- some lines are those of units that items show, and then others
+-- some lines are the lines of units that items show, followed by others
 pub record LinesBack (all : List ReadLine) (items : List (Item ReadEpoch))
     (rest : List ReadLine) : Type 0 where
   pub units : List (FileUnit Epoch)
@@ -39,7 +38,7 @@ back-kept skip all = record {
   passed = λ items lines at n on h none. absurd (cc none);
 }
 
--- a reading that ends without a fault, and gave no warning, has come to the last line
+-- a reading that ends without a fault and a warning has read the last line
 abbrev pub EndsBack : List ReadLine → WholeReading ReadEpoch → Type 0
 EndsBack lines w = w.fault ≡ None → Back lines w.items []
 

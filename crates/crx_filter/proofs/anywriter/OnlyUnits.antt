@@ -1,4 +1,4 @@
--- A unit that is read at some lines of compact text is one whose lines these are, whoever wrote them.
+-- If a unit is read at some lines of compact text, these are its lines, whoever wrote them.
 use Rattle.crx_filter.proofs
 use proofs.Words.{ℕ, ◌≡◌, ◌+◌, false, List, [], ◌∷◌, ◌++◌, map, length, drop, take, Option, Some, arith}
 use proofs.Words.{refl, ap, sym, ◌∙◌, common_steps}
@@ -81,7 +81,7 @@ module _ (items : List (Item ReadEpoch)) (units : List (FileUnit Epoch)) (before
         written = (found.now, found.epoch, refl, found.written);
       }
 
-  -- whatever unit is at some lines, they are its lines
+  -- the lines of a unit at some lines are these lines
   pub unit-back : (lines : List ReadLine) (unit : FileUnit ReadEpoch) (count : ℕ)
       → compact_place items lines ≡ Done unit count → UnitBack items units before unit (take count lines)
   unit-back lines unit count e = by_unit unit (compact-stands items lines unit count e)

@@ -1,4 +1,4 @@
--- Compact text that is compacted here is text that any writer may write.
+-- Text that is compacted here is compact text that any writer may write.
 use Rattle.crx_filter.proofs
 use proofs.Words.{arith, common_steps, ℕ, ◌≡◌, true, false, Bool, List, [], ◌∷◌, ◌++◌, map}
 use proofs.Words.{Option, Some, None}
@@ -41,7 +41,7 @@ printed-append [] before = sym (append-nil (printed_items before))
 printed-append (item ∷ later) before = grind (arith, common_steps, printed-append later before, append_assoc)
 
 -- ---- the epoch that the lines after some items may go on from,
--- where those after a block go on from the first
+-- the epoch that the lines after a block may continue from
 
 abbrev pub state_on : Option WrittenEpoch → Option ℕ → List (Item Epoch) → List (Item Epoch)
     → Option WrittenEpoch
@@ -55,7 +55,7 @@ state_on start every block (Accepted (Observation epoch) ∷ later) =
     Some (epoch_written (marked_now every (later ++ block) epoch) (marked_epochs every (later ++ block)))
 state_on start every block (Warned at ∷ later) = state_on start every block later
 
--- the first epoch after a block is in full
+-- the first epoch after a block is full
 abbrev pub GoAnew : Choices → List (Item Epoch) → List (Item Epoch) → Type 0
 GoAnew choices block items = is_in_full choices.every block ≡ false → BeginsAnew choices block items
 
@@ -118,7 +118,7 @@ module _ (start : Option WrittenEpoch) (choices : Choices) (block : List (Item E
 
 -- ---- all items
 
--- the epoch that the lines after some items may go on from
+-- the epoch that the lines after some items may continue from
 abbrev pub state_after : Option ℕ → List (Item Epoch) → Option WrittenEpoch
 state_after every items = state_on None every [] items
 
@@ -137,14 +137,14 @@ pub units-in_place : (units : List (FileUnit Epoch)) → AreInPlace (as_items un
 units-in_place [] h = tt
 units-in_place (unit ∷ before) h = (h.0, units-in_place before h.1)
 
--- the units of a file that is read to its good end make a file
+-- the units of a file that is read to its end without a fault make a file
 pub whole-items : (items : List (Item Epoch)) → IsSettled items → AreWholeFile (units_in items)
 whole-items items h = grind (arith, common_steps, units-like, units-in_place, units_in, units-placed)
 
 pub whole-file : (units : List (FileUnit Epoch)) → MakeAFile units → AreWholeFile units
 whole-file units h = subst AreWholeFile (units-again units) (whole-items (as_items units) (settled units h))
 
--- the lines of its text, whatever comes after it
+-- the lines of its text, whatever follows it
 pub own-cut : (choices : Choices) (before : List (Item Epoch)) (more : List ℕ) → is_date choices.date ≡ true
     → AreGood before
     → is_at_start before ≡ false → map as_read (lines_of (lines_text (compact_lines choices before) ++ more))

@@ -1,5 +1,5 @@
--- What is at some lines of compact text of which none announces an event's records: an epoch, or a fault that
--- can be skipped; and the next line that begins with > cuts an epoch off.
+-- The unit at some lines of compact text of which none announces an event's records: an epoch, or a fault that can be
+-- skipped; and the next line that begins with > cuts an epoch off.
 use Rattle.crx_filter.proofs
 use proofs.Words.{ℕ, suc, ◌≡◌, true, false, List, [], ◌∷◌, ◌++◌, length, ap, sym, ◌∙◌, subst, arith}
 use proofs.Words.{refl, append_assoc, and_parts, not-true, list_all, ReadLine, Content, Overlong, Fault}
@@ -41,7 +41,7 @@ IsEpochOrSkipped NeedsMore = ⊤
 observed : (p : Place ReadEpoch) → IsSkippableAt p → IsEpochOrSkipped (as_observation p)
 observed p h = grind (arith)
 
--- that is what is read where no line announces an event's records
+-- such a unit is read if no line announces an event's records
 pub block-here : (items : List (Item ReadEpoch)) (lines : List ReadLine) → IsBetweenUnits items
     → list_all begins_no_event lines ≡ true → IsEpochOrSkipped (compact_place items lines)
 block-here items [] h text = subst IsEpochOrSkipped (sym (place-between items [] h)) tt

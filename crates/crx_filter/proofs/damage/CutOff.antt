@@ -1,4 +1,4 @@
--- Where an epoch of compact text wants more lines, a line that begins with > cuts it off.
+-- If an epoch of compact text expects more lines, a line that begins with > cuts it off.
 use Rattle.crx_filter.proofs.Words.{common_steps, ℕ, suc, ◌≡◌, true, List, [], ◌∷◌, ◌++◌, length, Result, Err}
 use Rattle.crx_filter.proofs.Words.{arith, ReadLine, Content, Fault, Truncated, begins_epoch, Count, Place}
 use Rattle.crx_filter.proofs.Words.{Done, Fails, NeedsMore, then_place, one_line, first_line, Satellite}
@@ -6,7 +6,7 @@ use Rattle.crx_filter.proofs.Words.{RawEpoch, Past, BegunEpoch, rows_read, epoch
 use Rattle.crx_compact.proofs.reading.SteadyEpochs.{steady-rows_read}
 use Rattle.{crx_filter.proofs.following.Lines.one_line-decided, crx_rinex.proofs.Steady.steady-first_line}
 
--- where more lines are wanted, one that begins with > is a fault
+-- if more lines are expected, one that begins with > is a fault
 abbrev IsCutOff : {X : Type 0} → (List ReadLine → Place X) → Type 0
 IsCutOff place = (lines : List ReadLine) (line : List ℕ) → begins_epoch line ≡ true
     → place lines ≡ NeedsMore → place (lines ++ Content line ∷ []) ≡ Fails (length lines) Truncated
@@ -32,7 +32,7 @@ begun-cut : (r : Result BegunEpoch Fault) (first : ReadLine) (lines : List ReadL
 begun-cut v1 first lines line begins e =
     grind (arith, steady-first_line, cut-first, steady-rows_read, rows-cut, cut-here)
 
--- an epoch whose first line has come
+-- an epoch whose first line has been read
 pub epoch-cut : (types : List Count) (older : List RawEpoch) (first : List ℕ) (lines : List ReadLine)
     (line : List ℕ) → begins_epoch line ≡ true → epoch_at types older (Content first ∷ lines) ≡ NeedsMore →
     epoch_at types older (Content first ∷ (lines ++ Content line ∷ [])) ≡ Fails (suc (length lines)) Truncated

@@ -1,4 +1,4 @@
--- Damage to compact text stays in its block, whoever wrote the text: what an expansion writes and reports.
+-- Damage to compact text stays in its block, whoever wrote the text: the output and messages of an expansion.
 use Rattle.crx_filter.proofs
 use proofs.Words.{ℕ, ◌≡◌, ◌+◌, ◌≤◌, true, List, [], ◌∷◌, ◌++◌, map, length, reverse, Option, refl, ap}
 use proofs.Words.{◌∙◌, arith}
@@ -31,7 +31,7 @@ module _ (before : List (FileUnit Epoch)) (s : Stretch) (damaged : List ℕ)
   abbrev number : ℕ
   number = 3 + length ((d.stretch).text).lines
 
-  -- what is read of some lines after those before the block
+  -- the reading of some lines after the lines before the block
   abbrev reading : List ReadLine → Reading ReadEpoch
   reading lines = reading_from compact_place true [] 3 (lines_before ++ lines)
 

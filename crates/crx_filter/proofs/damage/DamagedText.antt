@@ -1,5 +1,5 @@
--- Damaged compact text, cut into lines: those that the compaction wrote before the block and after it, and
--- the lines in place of the block's.
+-- Damaged compact text, cut into lines: those that the compaction wrote before and after the block, and the lines
+-- that replace the block's.
 use Rattle.crx_filter.proofs.Words
 use Words.{common_steps, arith, ℕ, ◌≡◌, true, cond, List, [], ◌∷◌, ◌++◌, map}
 use Words.{refl, list_all, eqb_tells}

@@ -1,5 +1,4 @@
--- An epoch that is open where damaged lines end: reading goes on at the next line that begins with >, or
--- ends,
+-- An epoch that is open at the end of damaged lines: reading resumes at the next line that begins with >, or ends,
 -- with a warning.
 use Rattle.crx_filter.proofs
 use proofs.Words.{ℕ, suc, ◌≡◌, ◌+◌, ◌≤◌, max, true, false, List, [], ◌∷◌, ◌++◌, map, length, drop, None}
@@ -24,7 +23,7 @@ pub warned-types : (warnings : List At) (items : List (Item ReadEpoch))
 warned-types [] items = refl
 warned-types (at ∷ older) items = warned-types older items
 
--- reading goes on at some lines, after these items and at most so many warnings
+-- reading resumes at some lines, after these items and at most `most` warnings
 pub record GoesOnAt (most : ℕ) (items : List (Item ReadEpoch)) (tail : List ReadLine)
     (r : Reading ReadEpoch) : Type 0 where
   pub warnings : List At
@@ -32,7 +31,7 @@ pub record GoesOnAt (most : ℕ) (items : List (Item ReadEpoch)) (tail : List Re
   pub number : ℕ
   pub same : r ≡ reading_from compact_place true (with_warnings warnings items) number tail
 
--- an epoch that is open is cut off, and reading goes on at the very line that does so
+-- an open epoch is cut off, and reading resumes at the very line that does so
 pub open-goes_on : (items : List (Item ReadEpoch)) (number : ℕ) (first : List ℕ) (rest : List ReadLine) (line
     : List ℕ) (tail : List ReadLine) → IsBetweenUnits items → is_event_line first ≡ false → compact_place
     items (Content first ∷ rest) ≡ NeedsMore → begins_epoch line ≡ true
@@ -63,7 +62,7 @@ open-goes_on items number first rest line tail h no_event e begins =
 
 -- ---- the end of the input
 
--- a reading that ends well, after these items and at most so many warnings
+-- a reading that ends without a fault, after these items and at most `most` warnings
 pub record EndsAfter (most : ℕ) (items : List (Item ReadEpoch))
     (whole : WholeReading ReadEpoch) : Type 0 where
   pub warnings : List At

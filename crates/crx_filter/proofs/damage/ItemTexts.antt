@@ -1,4 +1,4 @@
--- The compact text of some items, and of those among them.
+-- The compact text of some items, and of the items up to a block.
 use Rattle.crx_filter.proofs.Words.{arith, true, ◌≡◌, List, [], ◌∷◌, ◌++◌, Choices, Epoch, Item}
 use Rattle.crx_filter.proofs.Words.{header_has_ended}
 use Rattle.crx_filter.proofs.Words.{AreInPlace, compact_lines}
@@ -9,7 +9,7 @@ pub rest-in_place : (later before : List (Item Epoch)) → AreInPlace (later ++ 
 rest-in_place [] before h = h
 rest-in_place (item ∷ later) before h = grind (arith, rest-in_place later before)
 
--- the compact text of all items is that up to the block's end and that after it
+-- the compact text of all items is the text up to the block's end and the text after it
 pub text-parts : (choices : Choices) (after block : List (Item Epoch)) → AreInPlace (after ++ block)
     → header_has_ended (after ++ block) ≡ true → header_has_ended block ≡ true → compact_lines choices
     (after ++ block) ≡ compact_lines choices block ++ lines_on choices.every after block

@@ -1,4 +1,4 @@
--- The compact text of a standard file that is compacted here, damaged in one block: that is a stretch of it.
+-- The compact text of a standard file that is compacted here, damaged in one block, which is a stretch of it.
 use Rattle.crx_filter.proofs
 use proofs.Words.{common_steps, arith, ℕ, suc, ◌≡◌, true, false, List, [], ◌∷◌, ◌++◌, map}
 use proofs.Words.{length, drop, take, Option}
@@ -68,7 +68,7 @@ epochs-lines choices before [] = refl
 epochs-lines choices before (epoch ∷ later) =
     grind (arith, common_steps, epochs-lines choices (Accepted (Observation epoch) ∷ before) later, on-append)
 
--- they begin anew where the first is in full
+-- they restart the reading if the first is full
 epochs-anew : (choices : Choices) (before : List (Item Epoch)) (first : Epoch) (others : List Epoch)
     → is_in_full choices.every before ≡ true → BeginsAnew choices before (items_of (first ∷ others))
 epochs-anew choices before first others full = on (items_of others)
@@ -183,7 +183,7 @@ module _ (input : List ℕ) (choices : Choices) (damaged : List ℕ)
     text = d.text ∙ rw (d.parts, epochs-items d.before epochs, text-append) (simp (append_assoc, append-nil));
   }
 
-  -- its stretch is such a block as anybody's
+  -- its stretch is a block as of any writer
   text-cut : map as_read (lines_of (lines_text (full ∷ []) ++ d.instead))
       ≡ Content full ∷ map as_read (lines_of d.instead)
   text-cut = front-cut (full ∷ []) d.instead (first-clean, tt)
@@ -265,7 +265,7 @@ module _ (input : List ℕ) (choices : Choices) (damaged : List ℕ)
             (found.0, found.1 ∙ ap (λ es. es ++ found.0) (epochs-among (take (suc count) epochs)));
       }
 
-  -- what is damaged is what the compaction writes, but for the lines of the block after its first
+  -- the damaged text is the output of the compaction, except for the lines of the block after its first
   pub of-compaction : IsOfCompaction input choices damaged d
   of-compaction =
       let settled = file-settled input choices read-whole in

@@ -1,4 +1,4 @@
--- What is written and reported after damage: the texts of items one after another, and the epochs among them.
+-- The output and messages after damage: the texts of items one after another, and the epochs among them.
 use Rattle.crx_filter.proofs.Words
 use Words.{◌≡◌, List, [], ◌∷◌, ◌++◌, refl, ap}
 use Words.{sym, ◌∙◌, arith, append_assoc, append-nil, At, Epoch}

@@ -1,5 +1,4 @@
--- A check goes line by line, in the words of its filter: it hands out nothing before the end of the input,
--- and then its report.
+-- A check follows its filter line by line: it makes no line ready before the end of the input, and then its report.
 use Rattle.crx_filter.proofs.Words
 use Words.{common_steps, arith, ℕ, ◌≡◌, false, List, [], ◌∷◌, map, refl}
 use Words.{map-append, length-map, ReadLine, as_read, Choices, Count, Epoch, lines_text, noticed_by}
@@ -13,7 +12,7 @@ use Rattle.crx_filter.specs.meaning.{Directions.report_unless, Standard.{Finding
 
 -- ---- a step
 
--- a step of a check is that of its reading, and hands out nothing
+-- a step of a check is the step of its reading, without ready lines
 pub record IsQuiet (step reads : LineStep OpenEpoch Totals) : Type 0 where
   pub next : step.next ≡ reads.next
   pub failed : failed_by step.answer ≡ failed_by reads.answer
@@ -33,7 +32,7 @@ step-quiet lines line = grind (arith, common_steps, made-quiet)
 
 -- ---- the end
 
--- at a good end the report is handed out, and else nothing
+-- without a fault at the end the report is ready, and otherwise nothing
 record IsReported (found : Findings) (step reads : LineStep OpenEpoch Totals) : Type 0 where
   failed : failed_by step.answer ≡ failed_by reads.answer
   noticed : noticed_by step.answer ≡ []

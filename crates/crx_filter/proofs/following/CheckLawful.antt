@@ -1,4 +1,4 @@
--- A check as a filter: a fault of the lines so far is that of all lines.
+-- A check as a filter: a fault of the lines so far is the fault of all lines.
 use Rattle.crx_filter.proofs.Words.{◌≡◌, false, [], map, Some, refl, map-append, as_read, IsLawful}
 use Rattle.crx_filter.proofs.Words.{findings_of, check_filter, common_steps, arith, ℕ, List}
 use Rattle.crx_filter.proofs.Words.{Option, None, At, Device, append-nil, lines_of, checked, whole_of}
@@ -20,8 +20,8 @@ check-lawful = record {
   found_at_end = λ lines at e. rinex-found-at-end false (map as_read lines) at e;
 }
 
--- a run of the filter is a check once its status is judged: by what there is to find where there is no
--- fault, and else it is as it was
+-- a run of the filter is a check once its status is judged: by its findings without a fault; otherwise the status is
+-- unchanged
 module _ (writer messages : Device) (status judged : ℕ) (fault : Option At)
     (bad : (at : At) → fault ≡ Some at → judged ≡ status) where
   pub run-judged : (input : Input) (given : List ℕ) → (fault ≡ None → judged ≡ report_status

@@ -1,4 +1,4 @@
--- A check is given one line more.
+-- A check takes one more line.
 use Rattle.crx_filter.proofs.Words
 use Words.{common_steps, ℕ, ◌≡◌, ◌+◌, false, List, [], ◌∷◌, ◌++◌, map, length, None, refl, arith}
 use Words.{length-append, append-nil, append_assoc, length-map, none-some, InputLine, ReadLine, as_read}
@@ -25,7 +25,7 @@ abbrev pub printed_of : List ReadLine → List (List ℕ)
 printed_of lines = let r : Reading Epoch = rinex_reading false lines in
     printed_items r.items ++ printed_open (phase_of rinex_open r)
 
--- the last line that printing gives for a line
+-- the last printed line for a line
 abbrev pub given_back : List ReadLine → ReadLine → List ℕ
 given_back lines line = let s : RunState OpenEpoch Totals = check_reading lines in
     last_line (printed_made (made_in checking s.phase s.types s.kept line))
@@ -51,7 +51,7 @@ one-on lines line = grind (
 
 -- ---- one line is printed for each line read
 
--- no fault after more lines, none before them
+-- without a fault after more lines there is none before them
 good-before : (lines more : List ReadLine) → fault_of_stop (rinex_reading false (lines ++ more)).stop ≡ None
     → fault_of_stop (rinex_reading false lines).stop ≡ None
 good-before lines more none = by_fault (fault_of_stop (rinex_reading false lines).stop) refl

@@ -1,4 +1,4 @@
--- A compaction is given one line more.
+-- A compaction takes one more line.
 use Rattle.crx_filter.proofs
 use proofs.Words.{List, [], ◌∷◌, ◌++◌, length, refl, arith, length-append, ReadLine, Choices}
 use Rattle.crx_filter.{proofs.following.MoreLines.more-line, specs.Laws.IsCompactedOn}

@@ -13,11 +13,11 @@ use Rattle.crx_rinex.proofs.SoundEpochs.{sound-epoch_place}
 
 -- ---- an epoch that is read
 
--- the epoch after some items, with its mark
+-- the epoch after some items, marked whether it is full
 abbrev marked : Choices → List (Item Epoch) → Epoch → Marked
 marked choices items epoch = record { in_full = is_in_full choices.every items; epoch = epoch }
 
--- what the next epoch is written after
+-- the tail that the next epoch continues from
 same-tail : (choices : Choices) (items : List (Item Epoch)) (epoch : Epoch)
     → tail_before (marked choices items epoch) (marked_epochs choices.every items) ≡ tail_written_after
     (is_at_every choices.every (epochs_accepted items)) (written_of choices.every items).tail

@@ -1,4 +1,4 @@
--- The warning after which a line comes a second time is that of the epoch that it cuts off.
+-- The warning after which a line is fed again is the warning of the epoch that it cuts off.
 use Rattle.crx_filter.proofs
 use proofs.Words.{common_steps, arith, ℕ, ◌≡◌, ◌+◌, Bool, true, false, List, [], ◌∷◌, ◌++◌, length, Some, refl, sym}
 use proofs.Words.{◌∙◌, ReadLine, Choices, At, Item, Reading, Stop, AtFault, AtLines, Looking, Phase, LookingOn, RunState}

@@ -1,4 +1,4 @@
--- Both directions go line by line, in the words of their filters.
+-- Both directions follow their filters line by line.
 use Rattle.crx_filter.proofs.Words
 use Words.{arith, [], map, refl, length-map, reverse-append, append-nil}
 use Words.{flat_map-append, as_read, compaction, compaction_state, expansion, expansion_state}

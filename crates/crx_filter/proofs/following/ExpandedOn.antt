@@ -1,4 +1,4 @@
--- An expansion is given one line more.
+-- An expansion takes one more line.
 use Rattle.crx_filter.proofs.Words
 use Words.{common_steps, ℕ, ◌≡◌, ◌+◌, Bool, List, [], ◌∷◌, ◌++◌, length, drop, Option, Some, None, Result, Ok}
 use Words.{Err, LineTooLong, refl, sym, subst, arith, length-append, drop-append-le, length-drop, ReadLine}
@@ -17,7 +17,7 @@ use Rattle.crx_filter.specs.{Laws.IsExpandedOn}
 
 -- ---- the reading, by the first two lines
 
--- the reading of compact text by what is at its first two lines
+-- the reading of compact text, by the reading of its first two lines
 abbrev pub reading_by : Bool → List ReadLine → Place (List (List ℕ)) → Reading ReadEpoch
 reading_by skip lines p = elim p [
   | Done two count ↦ reading_from compact_place skip [] (count + 1) (drop count lines)
@@ -45,8 +45,7 @@ two-lines first (Content second) lines (Ok version) e wanted =
     grind (arith, common_steps, crinex_program, first_lines)
 
 module _ (choices : Choices) where
-  -- one line more, by what is at the first two lines before and then, by what it is fed as, and by what it
-  -- makes
+  -- one more line, by the reading of the first two lines before and then, by its effect, and by its outcome
   abbrev FollowsAs : List ReadLine → ReadLine → Place (List (List ℕ)) → Place (List (List ℕ))
       → Fed OpenRawEpoch (Option Tail) → Made HeldEpoch OpenRawEpoch → Type 0
   FollowsAs lines line before after = Follows (expansion_meaning choices) (state_by choices (lines ++ line ∷
@@ -58,7 +57,7 @@ module _ (choices : Choices) where
       (fed expansion (state_by choices lines before) line) (last_made expansion (state_by choices lines
       before) line)
 
-  -- in the first two lines no line comes again
+  -- in the first two lines no line is fed again
   abbrev FollowsOnce : List ReadLine → ReadLine → Type 0
   FollowsOnce lines line = let s : RunState OpenRawEpoch (Option Tail) = state_by choices lines NeedsMore in
       FollowsAs lines line NeedsMore (first_lines (lines ++ line ∷ []))
@@ -86,7 +85,7 @@ module _ (choices : Choices) where
   first-line (Content content) = by-once [] (Content content) (by_result (crinex_version content)
       (λ version e. rw e (search rules)) (λ fault e. rw (e, ends 0 (Content content) fault) (search rules)))
 
-  -- the second line, the first being good
+  -- the second line, after a valid first one
   second-line : (first : List ℕ) (line : ReadLine) (version : List ℕ) → crinex_version first ≡ Ok version
       → FollowsBy (Content first ∷ []) line NeedsMore (first_lines (Content first ∷ line ∷ []))
   second-line first Overlong version good =
@@ -95,7 +94,7 @@ module _ (choices : Choices) where
       (by_result (crinex_program content) (λ program e. rw good (rw e (search rules)))
       (λ fault e. rw good (rw (e, ends 1 (Content content) fault) (search rules))))
 
-  -- a direction that reads compact text is given one line more
+  -- a direction that reads compact text takes one more line
   pub compact-on : (lines : List ReadLine) (line : ReadLine) (p : Place (List (List ℕ)))
       → first_lines lines ≡ p → FollowsBy lines line (first_lines lines) (first_lines (lines ++ line ∷ []))
   compact-on lines line (Done two count) e =

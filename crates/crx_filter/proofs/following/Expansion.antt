@@ -18,11 +18,11 @@ use proofs.reading.ForwardCompact.{compact-forward, compact_beginning}
 
 -- ---- one line
 
--- a first line alone
+-- only a first line
 steps-last : (step : RawStep) → place_of_steps 0 step [] ≡ place_of_step 0 step
 steps-last step = grind (arith, common_steps)
 
--- where an epoch is open, no event began
+-- if an epoch is open, no event began
 no-event : (items : List (Item ReadEpoch)) (lines : List ReadLine) (so_far : OpenRawEpoch) (b : Bool)
     → begins_event lines ≡ b → compact_open items lines ≡ Some so_far → begins_event lines ≡ false
 no-event items lines so_far b e opens = grind (arith, common_steps, none-some, begins_event, compact_open)
@@ -32,7 +32,7 @@ at-observation : (items : List (Item ReadEpoch)) (line : ReadLine) (lines : List
     ≡ as_observation (epoch_at (types_in_force items) (raws_kept items) (line ∷ lines))
 at-observation items line lines e = grind (arith, common_steps)
 
--- what the definitions say of an expansion
+-- the definitions for an expansion
 abbrev pub expansion_meaning : Choices → Meaning ReadEpoch HeldEpoch OpenRawEpoch (Option Tail)
 expansion_meaning choices = record {
   direction = expansion;
@@ -59,7 +59,7 @@ module _ (choices : Choices) where
         taken = λ number phase types kept either. (left, cc);
       }
 
-  -- what some lines make where no event begins, by the step that the last of them is
+  -- the outcome of some lines if no event begins, by the step of the last of them
   agree-by : (items : List (Item ReadEpoch)) (lines : List ReadLine) (before : ℕ) (step : RawStep)
       (p : Place ReadEpoch) → epoch_at (types_in_force items) (raws_kept items) lines ≡ p
       → compact_beginning items lines ≡ as_observation p

@@ -1,4 +1,4 @@
--- One line more, as it is fed and as it is read: the same in every direction.
+-- One more line, as it is fed and as it is read: the same in every direction.
 use Rattle.crx_filter.proofs
 use proofs.Words.{ℕ, ◌≡◌, ◌⊎◌, ◌+◌, true, false, List, [], ◌∷◌, ◌++◌, length}
 use proofs.Words.{Option, Some, None, refl, ◌&&◌, nat_lt}
@@ -16,9 +16,8 @@ pub use Rattle.crx_filter.proofs.Pending.{state_in}
 
 -- ---- the conditions of a direction
 
--- what the definitions of whole inputs say of a direction, by the user's choices: what is at some lines where
--- an epoch or an event may begin, and the epoch that they leave open; what is kept after some items, and the
--- lines of a unit
+-- the definitions of whole inputs for a direction, with the user's options: the unit at lines that may begin an epoch
+-- or an event, and the epoch that they leave open; the state kept after some items; and the lines of a unit
 pub record Meaning (E U O K : Type 0) : Type 0 where
   pub direction : Direction U O K
   pub choices : Choices
@@ -31,26 +30,25 @@ module _ {E U O K : Type 0} (m : Meaning E U O K) where
   abbrev pub place : List (Item E) → List ReadLine → Place (FileUnit E)
   place = unit_place m.beginning
 
-  -- what is seen after so many lines, where these items were read
+  -- the state after `count` lines, from which these items were read
   abbrev pub state_at : ℕ → Phase O → List (Item E) → K → RunState O K
   state_at count phase items kept = state_in m.choices count phase (types_in_force items) kept
 
-  -- what is kept where an epoch or an event may begin, and in an epoch
+  -- the state kept between two units, and in an epoch
   abbrev pub AreKept : List (Item E) → K → Type 0
   AreKept items kept = (kept ≡ m.kept_of items) ⊎ (kept ≡ m.direction.kept_open (m.kept_of items))
 
-  -- what is kept and written of a unit as it comes line by line is what is kept and written of it as it is
-  -- read
+  -- the same of a unit is kept and written line by line as in the whole reading
   abbrev pub IsTaken : List (Item E) → RunState O K → FileUnit E → FileUnit U → Type 0
   IsTaken items state unit held = (m.direction.kept_after state held ≡ m.kept_of (Accepted unit ∷ items))
       × (m.direction.written state held ≡ m.unit_lines items unit)
 
-  -- an epoch that is read, and the same as it comes line by line
+  -- an epoch that is read, and the same epoch line by line
   pub record IsSameEpoch (items : List (Item E)) (epoch : E) (held : U) : Type 0 where
     pub taken : (number : ℕ) (phase : Phase O) (types : List Count) (kept : K) → AreKept items kept
         → IsTaken items (state_in m.choices number phase types kept) (Observation epoch) (Observation held)
 
-  -- what is at some lines where an epoch or an event may begin, and what the last of them makes
+  -- the unit at lines that may begin an epoch or an event, and the outcome of the last of them
   abbrev pub AgreeOn : List (Item E) → List ReadLine → Made U O → Type 0
   AgreeOn items lines (Completes (EventLine line)) = (count : ℕ)
       × (m.beginning items lines ≡ Done (EventLine line) count) × (length lines ≡ 1)
@@ -91,15 +89,14 @@ module _ {E U O K : Type 0} (m : Meaning E U O K) where
 
   -- ---- in each phase
 
-  -- a unit that is read in a phase, and the same as it comes line by line: what follows from it, and its
-  -- lines
+  -- a unit that is read in a phase, and the same unit line by line: its consequences, and its lines
   pub record IsSameUnit (items : List (Item E)) (phase : Phase O) (kept : K) (unit : FileUnit E)
       (held : FileUnit U) : Type 0 where
     pub phases : phase_after_items {O = O} (Accepted unit ∷ items) None ≡ phase_after phase held
     pub types : types_in_force (Accepted unit ∷ items) ≡ types_after phase (types_in_force items) held
     pub taken : (count : ℕ) → IsTaken items (state_at count phase items kept) unit held
 
-  -- what is at some lines, and what the last of them makes
+  -- the unit at some lines, and the outcome of the last of them
   abbrev pub Agrees : List (Item E) → Phase O → K → List ReadLine → Made U O → Type 0
   Agrees items phase kept lines (Completes held) = (count : ℕ) × (unit : FileUnit E)
       × (place items lines ≡ Done unit count) × IsSameUnit items phase kept unit held
@@ -109,8 +106,8 @@ module _ {E U O K : Type 0} (m : Meaning E U O K) where
   Agrees items phase kept lines (Rejects fault) = (offset : ℕ) × (place items lines ≡ Fails offset fault)
   Agrees items phase kept lines made = ⊥
 
-  -- a phase says what these items and lines say: more lines are wanted; faults are skipped in both; an epoch
-  -- is open where there are lines; what a fault leaves; and what the end of the input means
+  -- a phase agrees with these items and lines: more lines are expected; faults are skipped in both; an epoch is open
+  -- if there are lines; and the state after a fault and the fault at the end are the same
   pub record StandsAt (items : List (Item E)) (rest : List ReadLine) (phase : Phase O) (kept : K) : Type 0
     where
       pub wanted : place items rest ≡ NeedsMore
@@ -121,13 +118,13 @@ module _ {E U O K : Type 0} (m : Meaning E U O K) where
       pub ends : (count : ℕ) → state_end m.direction (state_at count phase items kept)
           ≡ end_step m.direction [] (state_at count phase items kept) (fault_at_end items rest)
 
-  -- a reading after these items, and what is seen after it, where one line more is fed so and makes this
+  -- a reading after these items, and the state after it, if one more line is fed with this effect and this outcome
   pub record Follows (state_then : RunState O K) (items : List (Item E)) (r : Reading E) (line_fed : Fed O K)
       (made : Made U O) : Type 0 where
     pub followed : IsFollowed state_then (written_lines m.unit_lines items) (written_lines m.unit_lines
         r.items) (warnings_in items) (warnings_in r.items) (fault_of_stop r.stop) line_fed
 
--- where an epoch or an event may begin
+-- between two units, after the header
 pub body-place : {E : Type 0} (beginning : List (Item E) → List ReadLine → Place (FileUnit E))
     (items : List (Item E)) (lines : List ReadLine) → header_has_ended items ≡ true
     → records_left items ≡ 0 → unit_place beginning items lines ≡ beginning items lines

@@ -1,4 +1,4 @@
--- One line more, wherever a reading has stopped.
+-- One more line, wherever a reading has stopped.
 use Rattle.crx_filter.proofs
 use proofs.Words.{common_steps, ℕ, zero, suc, ◌≡◌, inl, ◌+◌, ◌<◌, Bool, true, false, cond, List, [], ◌∷◌}
 use proofs.Words.{◌++◌, length, Option, Some, None, Result, refl, ap, sym, subst, ◌∙◌, arith, append-nil}
@@ -24,7 +24,7 @@ use proofs.Words.{after_fault}
 use Rattle.crx_filter.specs.LineByLine.{made_of_line}
 use Rattle.crx_header.proofs.Counts.{types_of-push}
 
--- only in an epoch does a line come again
+-- only in an epoch is a line fed again
 pub quiet-elsewhere : {U O K : Type 0} (direction : Direction U O K) (state : RunState O K) (line : ReadLine)
     (made : Made U O) → is_in_epoch state.phase ≡ false → is_again
     (step_of_made direction state line made).answer ≡ false
@@ -49,16 +49,16 @@ record-place beginning items left lines ended some = grind (arith, common_steps,
 
 -- ---- a reading that has stopped
 
--- one line decides what is there
+-- one line decides a unit of one line
 pub one_line-decided : {X : Type 0} (r : Result X Fault) → one_line r ≡ NeedsMore → ⊥
 one_line-decided r e = grind (arith, common_steps)
 
--- where the first line is wanted, none has come
+-- if the first line is needed, none has been read
 only_none : {X : Type 0} (read : List ℕ → Result X Fault) (ls : List ReadLine)
     → first_line ls read ≡ NeedsMore → ls ≡ []
 only_none read ls e = grind (arith, common_steps, one_line-decided)
 
--- where the reading of so many lines can stop
+-- the stops of the reading of lines up to number `next`
 abbrev pub IsStopped : {E : Type 0}
     → (List (Item E) → List ReadLine → Place (FileUnit E)) → List (Item E) → Stop → ℕ → Type 0
 IsStopped place items (AtFault at) next = ⊤
@@ -67,12 +67,12 @@ IsStopped place items (AtLines number rest) next = (place items rest ≡ NeedsMo
 IsStopped place items (Looking number) next = (number ≡ next)
     × (header_has_ended items ≡ true) × (records_left items ≡ 0)
 
--- the end after whole units is good
+-- the end after whole units is no fault
 pub closes-well : {E : Type 0} (items : List (Item E))
     → header_has_ended items ≡ true → records_left items ≡ 0 → fault_at_end items [] ≡ None
 closes-well items e f = grind (arith, common_steps)
 
--- a line is looked at again where some came before it and it begins with >, and else none is found
+-- a line is looked at again if others came before it and it begins with >; otherwise none is found
 module _ {E : Type 0} (read : ℕ → List ReadLine → Reading E) (items : List (Item E)) (number : ℕ)
     (rest : List ReadLine) (line : ReadLine) where
   abbrev looked : Reading E
@@ -89,7 +89,7 @@ module _ {E : Type 0} (read : ℕ → List ReadLine → Reading E) (items : List
 
 -- ---- the outcome of a line that is fed twice
 
--- what it makes, where it comes again the second time
+-- its outcome the second time, if it is fed again
 abbrev pub last_made : {U O K : Type 0} → Direction U O K → RunState O K → ReadLine → Made U O
 last_made direction state line =
     let one : Step _ _ = state_next direction state line in
@@ -116,7 +116,7 @@ kept-with_records direction left counted kept = grind (arith, common_steps)
 -- ---- one line more
 
 module _ {E U O K : Type 0} {m : Meaning E U O K} (h : IsCarriedOut m) where
-  -- what is so in each phase that a reading can be in where more lines are wanted, is so there
+  -- a fact about each phase in which a reading expects more lines holds for the phase of the reading
   pub by_phase : (P : List ReadLine → Phase O → Type 0) (items : List (Item E)) (rest : List ReadLine)
       → place m items rest ≡ NeedsMore → (header_has_ended items ≡ false → P [] (InHeader (is_at_start
       items))) → ((left : ℕ) → header_has_ended items ≡ true → records_left items ≡ suc left → P [] (InEvent
@@ -158,7 +158,7 @@ module _ {E U O K : Type 0} {m : Meaning E U O K} (h : IsCarriedOut m) where
       by_fault None e = (1, unit l, e, s l)
       by_fault (Some fault) e = (0, e)
 
-  -- where an epoch or an event may begin, and in an epoch
+  -- between two units, and in an epoch
   body-agrees : (items : List (Item E)) (phase : Phase O) (kept : K) (lines : List ReadLine) (made : Made U O)
       → header_has_ended items ≡ true → records_left items ≡ 0 → AreKept m items kept
       → (length lines ≡ 1 → kept ≡ m.kept_of items) → AgreeOn m items lines made
@@ -178,7 +178,7 @@ module _ {E U O K : Type 0} {m : Meaning E U O K} (h : IsCarriedOut m) where
       → m.open_with items ls ≡ Some so_far → 0 < length ls
   some_lines items so_far ls e = grind (arith, common_steps, none-some, h.none_open)
 
-  -- what is so where more lines are wanted
+  -- the facts if more lines are expected
   abbrev Stands : List (Item E) → List ReadLine → Phase O → Type 0
   Stands items rest phase = let kept : K = kept_in m.direction phase (m.kept_of items) in
       StandsAt m items rest phase kept × ((line : ReadLine) → Agrees m items phase kept (rest ++ line ∷ [])
@@ -204,7 +204,7 @@ module _ {E U O K : Type 0} {m : Meaning E U O K} (h : IsCarriedOut m) where
       (λ so_far e none opens.
       grind (arith, common_steps, closes-well, some_lines, body-agrees, so_far, opens, length-append))
 
-  -- where a line is looked for, the one that reading goes on at is looked at as where an epoch may begin
+  -- while a line is looked for, the line at which reading resumes is read as between two units
   looking-stands : (items : List (Item E)) (line : ReadLine) → header_has_ended items ≡ true
       → records_left items ≡ 0 → can_go_on line ≡ true → StandsAt m items [] LookingOn (m.kept_of items)
       × Agrees m items LookingOn (m.kept_of items) (line ∷ [])
@@ -216,7 +216,7 @@ module _ {E U O K : Type 0} {m : Meaning E U O K} (h : IsCarriedOut m) where
   abbrev reads : List (Item E) → ℕ → List ReadLine → Reading E
   reads = reading_from (place m) m.choices.skip
 
-  -- what is seen after so many lines and their reading
+  -- the state after `count` lines and their reading
   abbrev pub seen_after : ℕ → Reading E → RunState O K
   seen_after count r = state_of m.direction m.open_with m.kept_of m.choices count r
 
@@ -237,7 +237,7 @@ module _ {E U O K : Type 0} {m : Meaning E U O K} (h : IsCarriedOut m) where
     abbrev AgreeHere : Made U O → Type 0
     AgreeHere = Agrees m items phase kept (rest ++ line ∷ [])
 
-    -- what is read of it: a unit that it completes; a fault that it decides, which ends with it
+    -- its reading: a unit that it completes, or a fault that it decides, which ends with it
     last-here : (unit : FileUnit E) (lines : ℕ) → place m items (rest ++ line ∷ []) ≡ Done unit lines
         → after ≡ record { items = Accepted unit ∷ items; stop = AtLines (number + lines) [] }
     last-here unit lines e = from-here (place m) h.forward m.choices.skip items number (rest ++ line ∷ [])
@@ -262,7 +262,7 @@ module _ {E U O K : Type 0} {m : Meaning E U O K} (h : IsCarriedOut m) where
           (Warned at ∷ items) (number + max (length rest) 1) (drop (max (length rest) 1) (rest ++ line ∷ []))
       last-skips on = at-last ∙ rw (s.skips fault ∙ on, counted, after_fault) refl
 
-      -- it ends the run; it is skipped, and reading goes on at this line, or no line is at hand to go on at
+      -- its fault ends the run; or it is skipped, and reading resumes at this line, or finds no line to resume at
       last-ends : is_skipped_in state fault ≡ false → FollowsAs (count + 1) items after
           (fed_once (step (Rejects fault))) (Rejects fault)
       last-ends off = grind (arith, common_steps, at-last, fault, failed-ends)
@@ -281,7 +281,7 @@ module _ {E U O K : Type 0} {m : Meaning E U O K} (h : IsCarriedOut m) where
         (fed_once (step (Completes held))) (Completes held)
     followed-unit n unit held same = grind (arith, kept-with_records, noticed-lines, failed-lines)
 
-    -- where it is given once
+    -- if it is fed once
     made-once : (made : Made U O) → Agrees m items phase kept (rest ++ line ∷ []) made
         → is_again (step made).answer ≡ false → FollowsAs (count + 1) items after (fed_once (step made)) made
     made-once (Completes held) (lines, unit, there, same) quiet = rw (last-here unit lines there)
@@ -293,7 +293,7 @@ module _ {E U O K : Type 0} {m : Meaning E U O K} (h : IsCarriedOut m) where
         (failed-skipped m.direction state line fault on)) ∙ quiet)) (last-ends fault offset there)
     made-once made agree quiet = absurd agree
 
-  -- its warning, and then what it makes the second time
+  -- its warning, and then its outcome the second time
   followed-twice : (count : ℕ) (items : List (Item E)) (at : At) (r : Reading E) (next : RunState O K)
       (two : Step O K) (made : Made U O) → FollowsAs count (Warned at ∷ items) r (fed_once two) made
       → FollowsAs count items r (fed_twice (record { answer = Notice at true; handed_out = []; next = next })
@@ -342,7 +342,7 @@ module _ {E U O K : Type 0} {m : Meaning E U O K} (h : IsCarriedOut m) where
         (λ off. rw (fed-once m.direction here line off, last-once m.direction here line off)
         (made-once items number count rest line phase kept s counted made agree off))
 
-  -- one line more, wherever a reading has stopped
+  -- one more line, wherever a reading has stopped
   pub next-line : (items : List (Item E)) (stop : Stop) (count : ℕ) (line : ReadLine)
       → IsStopped (place m) items stop (count + 1) →
       let state : RunState O K = seen_after count (record { items = items; stop = stop }) in

@@ -1,4 +1,4 @@
--- One line more after some, where the reading begins with no items, at a line of any number.
+-- One more line after some, if the reading begins with no items, at a line of any number.
 use Rattle.crx_filter.proofs.following.{Following.{Meaning, IsCarriedOut, place}}
 use Rattle.crx_filter.proofs.following.{Lines.{FollowsAs, seen_after}}
 use Rattle.crx_filter.proofs.{following.Lines.{last_made, next-line}, reading.Resuming.resumed}
@@ -6,15 +6,15 @@ use Rattle.crx_filter.proofs.{reading.Stopping.reading-stopped, Words.{ℕ, ◌�
 use Rattle.crx_filter.proofs.Words.{length, ReadLine, Reading, reading_from, RunState, fed}
 
 module _ {E U O K : Type 0} {m : Meaning E U O K} (h : IsCarriedOut m) where
-  -- lines that are read with no items before them, the first at a line of some number
+  -- lines that are read with no items before them, from line `number` on
   abbrev pub read_from : ℕ → List ReadLine → Reading E
   read_from number lines = reading_from (place m) m.choices.skip [] number lines
 
-  -- what an engine that has taken some lines has seen of them
+  -- the state of an engine that has taken some lines
   abbrev pub state_from : ℕ → ℕ → List ReadLine → RunState O K
   state_from number count lines = seen_after h count (read_from number lines)
 
-  -- what a reading and an engine make of one line more agree
+  -- a reading and an engine agree on one more line
   pub more-line : (number count next : ℕ) (lines more : List ReadLine) (line : ReadLine) → number + length
       lines ≡ count + 1 → next ≡ count + 1 → more ≡ lines ++ line ∷ []
       → FollowsAs h next (read_from number lines).items (read_from number more)

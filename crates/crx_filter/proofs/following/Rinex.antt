@@ -1,5 +1,5 @@
--- Lines of a RINEX file one by one: what the last of some lines makes is what is at them. Every direction
--- that reads RINEX goes this way.
+-- Lines of a RINEX file one by one: the outcome of the last of some lines is the unit at them, in every direction
+-- that reads RINEX.
 use Rattle.crx_filter.proofs.Words
 use Words.{common_steps, arith, ℕ, zero, suc, ◌≡◌, ◌⊎◌, List, [], ◌∷◌, ◌++◌, length, Some, None, Result, Ok}
 use Words.{Err, refl, ReadLine, Content, Fault, Epoch, Count, Done}
@@ -14,7 +14,7 @@ use Rattle.crx_filter.proofs.{reading.Forward.rinex_beginning}
 
 -- ---- the conditions of a direction
 
--- what the definitions say of a direction that reads RINEX, and keeps and writes this
+-- the definitions for a direction that reads RINEX, and keeps and writes this
 abbrev pub rinex_meaning : {K : Type 0} → Direction Epoch OpenEpoch K → (List (Item Epoch) → K)
     → (List (Item Epoch) → FileUnit Epoch → List (List ℕ)) → Choices → Meaning Epoch Epoch OpenEpoch K
 rinex_meaning direction kept_of unit_lines choices = record {
@@ -26,20 +26,20 @@ rinex_meaning direction kept_of unit_lines choices = record {
   unit_lines = unit_lines;
 }
 
--- an epoch that is read is kept and written as it is
+-- an epoch is kept and written as it is read
 abbrev pub AreSame : {K : Type 0} → Direction Epoch OpenEpoch K → (List (Item Epoch) → K)
     → (List (Item Epoch) → FileUnit Epoch → List (List ℕ)) → Choices → Type 0
 AreSame direction kept_of unit_lines choices = (items : List (Item Epoch)) (lines : List ReadLine)
     (epoch : Epoch) (count : ℕ) → epoch_place (types_in_force items) lines ≡ Done (Observation epoch) count
     → IsSameEpoch (rinex_meaning direction kept_of unit_lines choices) items epoch epoch
 
--- what an open epoch leaves as it was is kept in one way
+-- an open epoch that leaves the kept state unchanged keeps it in one way
 pub either-same : {X : Type 0} {a b : X} → (a ≡ b) ⊎ (a ≡ b) → a ≡ b
 either-same e = grind (arith, common_steps)
 
 -- ---- one line
 
--- an epoch's line with so many satellites
+-- an epoch's line with `wanted` satellites
 first-place : (so_far : OpenEpoch) (wanted : ℕ) → after_lines 1 (then_place (rows_at so_far wanted []) []
     (λ epoch rest. Done (Observation epoch) 0)) ≡ place_after 0 (when_wanted wanted so_far)
 first-place so_far zero = refl
@@ -51,7 +51,7 @@ module _ {K : Type 0} {direction : Direction Epoch OpenEpoch K} {kept_of : List 
   abbrev Agrees : List (Item Epoch) → List ReadLine → Made Epoch OpenEpoch → Type 0
   Agrees = AgreeOn (rinex_meaning direction kept_of unit_lines choices)
 
-  -- what some lines make, by the step that the last of them is
+  -- the outcome of some lines, by the step of the last of them
   agree-step : (items : List (Item Epoch)) (lines : List ReadLine) (line : ReadLine) (step : EpochStep)
       → epoch_place (types_in_force items) (lines ++ line ∷ []) ≡ place_after (length lines) step
       → open_with (types_in_force items) (lines ++ line ∷ []) ≡ still_open step

@@ -1,4 +1,4 @@
--- A line is answered as ready exactly where lines are borrowed.
+-- The answer to a line is that lines are ready if and only if some are.
 use Rattle.crx_filter.proofs.Words.{common_steps, arith, ◌≡◌, ReadLine, RunState, Made, Direction}
 use Rattle.crx_filter.proofs.Words.{step_of_made, compaction, expansion, IsReadyWhereHandedOut}
 use Rattle.crx_filter.proofs.following.Following.{failed-ends, failed-skipped}

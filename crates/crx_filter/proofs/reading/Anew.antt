@@ -1,4 +1,4 @@
--- Where the reading of compact text starts anew, it depends on the types in force alone.
+-- A restart in the reading of compact text: from there on the reading depends only on the types in force.
 use Rattle.crx_filter.proofs
 use proofs.Words.{common_steps, [], ℕ, zero, suc, ◌≡◌, ◌+◌, ◌<◌, max, Bool, true, List, ◌∷◌, ◌++◌, drop}
 use proofs.Words.{Option, refl, ap, sym, ◌∙◌, arith, subst, append-nil, append_assoc, and_parts, ⊤, ReadLine}
@@ -17,7 +17,7 @@ use proofs.reading.{Resuming.by_place, WhatStands.{of-unit, of-compact}}
 
 -- ---- two lists of items that are alike
 
--- both are in the body of a file, with the same records to come and the same types
+-- both are in the body of a file, with the same number of records still to be read and the same types
 pub record AreAlike (a b : List (Item ReadEpoch)) : Type 0 where
   pub one : header_has_ended a ≡ true
   pub two : header_has_ended b ≡ true
@@ -25,7 +25,7 @@ pub record AreAlike (a b : List (Item ReadEpoch)) : Type 0 where
   pub counts : 0 < records_left a → records_count_types a ≡ records_count_types b
   pub types : types_in_force a ≡ types_in_force b
 
--- and what is read next goes on from the same block, or all starts anew at these lines
+-- the next lines continue from the same block, or reading restarts at these lines
 abbrev GoesOn : List (Item ReadEpoch) → List (Item ReadEpoch) → List ReadLine → Type 0
 GoesOn a b lines =
     (block_of (raws_kept a) ≡ block_of (raws_kept b)) ⊎ (starts_anew (records_left a) lines ≡ true)
@@ -34,7 +34,7 @@ record AreSame (a b : List (Item ReadEpoch)) (lines : List ReadLine) : Type 0 wh
   alike : AreAlike a b
   goes_on : GoesOn a b lines
 
--- the units that can be after some items
+-- the units that may follow some items
 abbrev MayFollow : List (Item ReadEpoch) → FileUnit ReadEpoch → Type 0
 MayFollow items (HeaderLine line) = ⊥
 MayFollow items (EventRecord line) = 0 < records_left items
@@ -138,8 +138,8 @@ ended-alike : (skip : Bool) (a b : List (Item ReadEpoch)) (m n : ℕ) (o : Optio
     → AreAlike a b → kind_of (ended_with skip a m o) ≡ kind_of (ended_with skip b n o)
 ended-alike skip a b m n o h = grind (arith, common_steps, skipped-alike)
 
--- two readings, each after some items, write the same and are ended alike; and where they began at lines of
--- one number, they go on by the same items
+-- two readings, each after some items, write the same and end alike; and if they began at lines of the same number,
+-- they continue with the same items
 pub record AreReadAlike (one_number : Type 0) (skip : Bool) (a b : List (Item ReadEpoch))
     (one two : Reading ReadEpoch) : Type 0 where
   pub same : one_number → GoOnAlike a b one two
@@ -152,7 +152,7 @@ module _ (one_number : Type 0) (skip : Bool) where
   abbrev Alike : (a b : List (Item ReadEpoch)) (one two : Reading ReadEpoch) → Type 0
   Alike = AreReadAlike one_number skip
 
-  -- one item more
+  -- one more item
   onto : {a b : List (Item ReadEpoch)} {item other : Item ReadEpoch} {one two : Reading ReadEpoch}
       → Alike (item ∷ a) (other ∷ b) one two → (one_number → item ≡ other) → (text : List (List ℕ))
       → expanded_lines (item ∷ a) ≡ expanded_lines a ++ text
@@ -194,7 +194,7 @@ module _ (one_number : Type 0) (skip : Bool) where
     looked a b one two (m + 1) (n + 1) lines (λ k. ap (λ x. x + 1) (number k)) h,
   )
 
-  -- after the one and the other items, so many units are read alike
+  -- after the two lists of items `units` units are read alike
   abbrev ReadAlike : ℕ → List (Item ReadEpoch) → List (Item ReadEpoch) → ℕ → ℕ → List ReadLine → Type 0
   ReadAlike units a b m n lines = (one_number → m ≡ n)
       → Alike a b (reading_within compact_place skip units a m
@@ -205,7 +205,7 @@ module _ (one_number : Type 0) (skip : Bool) where
       (record { items = b; stop = AtLines n lines })
   lines-stopped a b m n lines h number = grind (arith, common_steps, stopped, end-alike, ended-alike)
 
-  -- one step: what is there is the same, and what is read after it goes on alike
+  -- one step: the unit is the same, and the reading after it continues alike
   one-step : (units : ℕ) (a b : List (Item ReadEpoch)) (m n : ℕ) (lines : List ReadLine)
       → AreAlike a b → compact_place a lines ≡ compact_place b lines
       → ((unit : FileUnit ReadEpoch) (count : ℕ) → compact_place a lines ≡ Done unit count → ReadAlike units

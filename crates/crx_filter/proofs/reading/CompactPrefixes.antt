@@ -1,4 +1,4 @@
--- Where the first two lines of compact text are read.
+-- The reading of the first two lines of compact text.
 use Rattle.crx_filter.proofs.Words.{ℕ, ◌≡◌, ◌+◌, List, [], ◌++◌, length, drop, refl, Bool, ReadLine, Place}
 use Rattle.crx_filter.proofs.Words.{Done}
 use Rattle.crx_filter.proofs.Words.{Remains, reading_from, whole_reading, first_lines, compact_place}

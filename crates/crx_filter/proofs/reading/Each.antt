@@ -1,4 +1,4 @@
--- Lists of lines and of what was accepted: what holds of each of two lists holds of both together, and of
+-- Lists of lines and of accepted units: a fact about each element of two lists is one about both together, and about
 -- each part.
 use Rattle.crx_filter.proofs.Words.{ℕ, zero, suc, ◌≡◌, true, List, [], ◌∷◌, ◌++◌, drop, arith, common_steps}
 use Rattle.crx_filter.proofs.Words.{map, AllByRecursion, Item, header_has_ended, InputLine}

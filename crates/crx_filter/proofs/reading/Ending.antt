@@ -14,7 +14,7 @@ module _ {E U O K : Type 0} {m : Meaning E U O K} (h : IsCarriedOut m) where
   EndsAs items whole end = IsEndedBy (written_lines m.unit_lines items) (written_lines m.unit_lines
       whole.items) (warnings_in items) (warnings_in whole.items) whole.fault end
 
-  -- where the phase means what the items mean
+  -- if the phase agrees with the items
   ends-same : (items : List (Item E)) (count : ℕ) (phase : Phase O) (kept : K) (fault : Option Fault)
       → ((f : Fault) → is_skipped m.choices.skip items f ≡ is_skipped_in (state_at m count phase items kept)
       f) → EndsAs items (ended_with m.choices.skip items (count + 1) fault)

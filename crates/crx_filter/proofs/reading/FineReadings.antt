@@ -1,4 +1,4 @@
--- A reading stops at faults of lines alone, and so does the end of the input.
+-- A reading stops only at faults of lines, and so does the end of the input.
 use Rattle.crx_filter.proofs.Words.{common_steps, arith, ℕ, ◌≡◌, ◌+◌, Bool, true, List, [], length, Some, ⊤}
 use Rattle.crx_filter.proofs.Words.{ReadLine, At, Place, FileUnit, Item, Reading, fault_of_stop, is_of_lines}
 use Rattle.crx_filter.proofs.Words.{reading_from, whole_reading, rinex_place, whole_rinex, rinex_reading}
@@ -6,7 +6,7 @@ use Rattle.crx_filter.proofs.Words.{whole_compact, compact_reading}
 use Rattle.crx_filter.proofs.reading.{KeptThroughout.{KeptAt, within-kept}, LineFaults.{IsFineAt, rinex-fine}}
 use Rattle.crx_filter.proofs.reading.LineFaults.{compact-fine, first_lines-fine}
 
--- where all that is at a place has such faults, they are all that is found
+-- if all units at places have such faults only, a reading finds no others
 module _ {E : Type 0} (place : List (Item E) → List ReadLine → Place (FileUnit E))
     (fine : (items : List (Item E)) (lines : List ReadLine) → IsFineAt (place items lines)) (skip : Bool)
     (number : ℕ) (lines : List ReadLine) (at : At) where

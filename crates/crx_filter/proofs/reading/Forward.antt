@@ -1,10 +1,10 @@
--- What is at a line is certain as soon as its last line has come, in both directions.
+-- The unit at a line is certain as soon as its last line has been read, in both directions.
 use Rattle.crx_filter.proofs.Words
 use Words.{common_steps, arith, ◌≡◌, Bool, cond, List, [], refl, ReadLine, Place, NeedsMore, IsSteady}
 use Words.{FileUnit, Epoch, epoch_place, Item, types_in_force, unit_place, rinex_place, IsReadForward}
 use Rattle.crx_rinex.proofs.{OpenEpochs.steady-epoch_place, Steady.steady-first_line}
 
--- where an epoch or an event may begin in RINEX
+-- the beginning of an epoch or an event in RINEX
 abbrev pub rinex_beginning : List (Item Epoch) → List ReadLine → Place (FileUnit Epoch)
 rinex_beginning items = epoch_place (types_in_force items)
 

@@ -1,4 +1,4 @@
--- What is at a line of compact text is certain as soon as its last line has come.
+-- The unit at a line of compact text is certain as soon as its last line has been read.
 use Rattle.crx_filter.proofs.Words.{ℕ, List, [], ◌∷◌, refl, arith, ReadLine}
 use Rattle.crx_filter.proofs.Words.{Content, Overlong, FileUnit, Place, IsSteady}
 use Rattle.crx_filter.proofs.Words.{IsDecidedAfter, is_event_line, Count, RawEpoch, ReadEpoch, epoch_at, Item}
@@ -8,7 +8,7 @@ use Rattle.crx_compact.proofs.reading.SteadyEpochs.{steady-after_line}
 use Rattle.crx_filter.proofs.reading.Forward.{unit_place-forward}
 use Rattle.crx_rinex.proofs.Steady.{steady-here, steady-first_line, steady-then}
 
--- where an epoch or an event may begin in compact text
+-- the beginning of an epoch or an event in compact text
 abbrev pub compact_beginning : List (Item ReadEpoch) → List ReadLine → Place (FileUnit ReadEpoch)
 compact_beginning items = compact_epoch_place (types_in_force items) (raws_kept items)
 

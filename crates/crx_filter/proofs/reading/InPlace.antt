@@ -1,4 +1,4 @@
--- What was accepted of a RINEX file is in place.
+-- The accepted units of a RINEX file are in place.
 use Rattle.crx_filter.proofs.Words.{ℕ, ◌≡◌, [], List, ◌∷◌, ReadLine, Epoch, Item, Accepted, Warned}
 use Rattle.crx_filter.proofs.Words.{types_in_force}
 use Rattle.crx_filter.proofs.Words.{refl, subst, rinex_place, ItemsAreRead, AreInPlace, arith}
@@ -7,7 +7,7 @@ use Rattle.crx_filter.proofs.reading.{Forward.rinex_beginning, Types.counts-in_f
 use Rattle.crx_filter.proofs.reading.WhatStands.{StandsAt, Stands, of-unit, of-rinex}
 use Rattle.crx_rinex.proofs.SoundEpochs.{sound-epoch_place}
 
--- an epoch is one that is read of some lines
+-- an epoch is read from some lines
 abbrev pub IsEpochAt : List (Item Epoch) → List ReadLine → Epoch → ℕ → Type 0
 IsEpochAt items lines epoch count = epoch_place (types_in_force items) lines ≡ Done (Observation epoch) count
 

@@ -1,4 +1,4 @@
--- What each step of a reading keeps holds of all that it has accepted.
+-- An invariant of each step of a reading holds of all that it has accepted.
 use Rattle.crx_filter.proofs.Words.{ℕ, zero, suc, ◌≡◌, ◌+◌, max, Bool, true, List, [], ◌∷◌, drop, ReadLine}
 use Rattle.crx_filter.proofs.Words.{At, Place, Done, Fails, FileUnit, Item, Accepted, Warned, Reading}
 use Rattle.crx_filter.proofs.Words.{is_skipped, can_go_on, looked_for, after_fault, reading_within, by_bool}
@@ -15,15 +15,15 @@ none-after items lines h3 = grind (arith, common_steps)
 
 module _ {E : Type 0} (place : List (Item E) → List ReadLine → Place (FileUnit E)) (skip : Bool)
     (Keeps : List (Item E) → List ReadLine → Type 0) where
-  -- what holds of the items so far and of the lines from there on, after each step too;
-  -- it holds of the lines that are left where a reading stops
+  -- an invariant of the items so far and of the lines from there on. It also holds of the lines that are left when a
+  -- reading stops
   pub record IsKept : Type 0 where
     pub here : (items : List (Item E)) (lines : List ReadLine) (unit : FileUnit E) (count : ℕ) → place
         items lines ≡ Done unit count → Keeps items lines → Keeps (Accepted unit ∷ items) (drop count lines)
     pub passed : (items : List (Item E)) (lines : List ReadLine) (at : At) (n : ℕ)
         → is_skipped skip items at.fault ≡ true → Keeps items lines → Keeps (Warned at ∷ items) (drop n lines)
 
-  -- the lines that are left there, and at a fault what is at them
+  -- the lines that are left there, and at a fault the place that has it
   abbrev IsLeft : List (Item E) → Stop → List ReadLine → Type 0
   IsLeft items (AtLines number rest) lines = lines ≡ rest
   IsLeft items (Looking number) lines = lines ≡ []
@@ -83,7 +83,7 @@ module _ {E : Type 0} (place : List (Item E) → List ReadLine → Place (FileUn
           (record { line = number + length rest; fault = fault }) (length lines) on h)))
           (λ off. let never = rw (off, ended_with) at f in absurd (cc never))
 
-  -- it holds of all that is read to a good end
+  -- the invariant holds at the end of a reading without a fault
   pub whole-kept : IsKept → (number : ℕ) (lines : List ReadLine) → Keeps [] lines
       → WholeReading.fault (whole_reading place skip number lines) ≡ None
       → Keeps (WholeReading.items (whole_reading place skip number lines)) []

@@ -1,4 +1,4 @@
--- The faults that a reading finds are those of lines, or of the end of the input.
+-- The faults that a reading finds are faults of lines, or of the end of the input.
 use Rattle.crx_filter.proofs.Words
 use Words.{common_steps, arith, ℕ, zero, suc, ◌≡◌, Bool, true, List, Option, Some, None, Result, refl, ⊤}
 use Words.{list_all, columns, is_blank, clock_of, ReadLine, Fault, HeadLine, records_in, event_head}

@@ -1,4 +1,4 @@
--- What is written and reported for some lines is at the beginning of what is for more lines.
+-- The output and messages for some lines are prefixes of the output and messages for more lines.
 use Rattle.crx_filter.proofs
 use proofs.Words.{arith, ◌≡◌, List, [], ◌∷◌, ◌++◌, ap, sym, ◌∙◌, append_assoc, append-nil, ReadLine, Choices}
 use proofs.Words.{flat_map-append, ℕ, InputLine, RunState, Direction, lines_text, Begins, IsWrittenFirst, At}
@@ -10,7 +10,7 @@ use Rattle.crx_filter.specs.{Compacted.compaction_so_far, EngineLaws.GoesLineByL
 use Rattle.crx_filter.specs.{Expanded.expansion_so_far}
 use Rattle.crx_runs.specs.meaning.Filters.{Filter}
 
--- what grows with each thing more grows with more of them
+-- a list that grows with each element grows with several
 pub grown : {X Y : Type 0} (made : List X → List Y)
     → ((xs : List X) (x : X) → (ys : List Y) × (made (xs ++ x ∷ []) ≡ made xs ++ ys))
     → (xs more : List X) → (ys : List Y) × (made (xs ++ more) ≡ made xs ++ ys)
@@ -20,7 +20,7 @@ grown made one xs (x ∷ more) =
     let rest = grown made one (xs ++ x ∷ []) more in
     (first.0 ++ rest.0, grind (arith, append_assoc, first, rest))
 
--- the same in the words of a filter that goes line by line
+-- the same in the words of a filter that works line by line
 module _ {U O K : Type 0} {direction : Direction U O K} {closing_after : List InputLine → List (List ℕ)}
     {state_after : List ReadLine → RunState O K}
     {filter : Filter} (goes : GoesLineByLine direction closing_after state_after filter)

@@ -1,4 +1,4 @@
--- A reading goes on from where it stopped, once more lines have come.
+-- A reading continues from its stop with more lines.
 use Rattle.crx_filter.{specs.Laws.IsResumed, proofs.Words.{common_steps, ℕ, zero, suc, ◌≡◌, ◌+◌, max, ◌<◌}}
 use Rattle.crx_filter.proofs.Words.{◌≤◌, Bool, true, false, List, [], ◌∷◌, ◌++◌, length, drop, refl, arith}
 use Rattle.crx_filter.proofs.Words.{◌∙◌}
@@ -11,7 +11,7 @@ use Rattle.crx_filter.proofs.Words.{reading_within, reading_from, continued_read
 
 module _ {E : Type 0} (place : List (Item E) → List ReadLine → Place (FileUnit E)) (h : IsReadForward place)
     (items : List (Item E)) (lines : List ReadLine) where
-  -- a thing has at least one line, and its lines are among those there
+  -- a unit has at least one line, and its lines are among these
   pub here-within : (unit : FileUnit E) (count : ℕ)
       → place items lines ≡ Done unit count → (0 < count) × (count ≤ length lines)
   here-within unit count e =
@@ -21,7 +21,7 @@ module _ {E : Type 0} (place : List (Item E) → List ReadLine → Place (FileUn
       → place items lines ≡ Fails offset fault → offset < length lines
   wrong-within offset fault e = (rw e at (h.steady items lines [])).0
 
-  -- it stays when more lines come
+  -- it stays the same with more lines
   pub here-stays : (more : List ReadLine) (unit : FileUnit E) (count : ℕ)
       → place items lines ≡ Done unit count → place items (lines ++ more) ≡ Done unit count
   here-stays more unit count e = (rw e at (h.steady items lines more)).1
@@ -59,7 +59,7 @@ module _ {E : Type 0} (skip : Bool) (read : List (Item E) → ℕ → List ReadL
 
 module _ {E : Type 0} (read : ℕ → List ReadLine → Reading E) (items : List (Item E))
     (number : ℕ) (line : ReadLine) (lines : List ReadLine) where
-  -- where a line is looked for
+  -- looking for a line that begins with >
   pub looked-here : can_go_on line ≡ true
       → looked_for read items number (line ∷ lines) ≡ read number (line ∷ lines)
   looked-here e = rw (e, looked_for) refl
@@ -137,7 +137,7 @@ module _ {E : Type 0} (place : List (Item E) → List ReadLine → Place (FileUn
 
 module _ {E : Type 0} (place : List (Item E) → List ReadLine → Place (FileUnit E)) (h : IsReadForward place)
     (skip : Bool) (more : List ReadLine) where
-  -- the reading of so few lines and more goes on from the reading of the first
+  -- the reading of fewer than `bound` lines and more continues the reading of the first
   abbrev GoesOn : ℕ → List (Item E) → Type 0
   GoesOn bound items = (number : ℕ) (lines : List ReadLine) → length lines < bound
       → reading_from place skip items number (lines ++ more)
@@ -172,7 +172,7 @@ module _ {E : Type 0} (place : List (Item E) → List ReadLine → Place (FileUn
       (omega (arith, few, length-drop (max offset 1) lines)))) (λ off. rw (off, after_fault) refl)))
       (λ e. rw (from-wanted place h skip items number lines e) refl)
 
--- the reading of some lines and more goes on from the reading of the first
+-- the reading of some lines and more continues the reading of the first
 pub resumed : {E : Type 0} (place : List (Item E) → List ReadLine → Place (FileUnit E))
     → IsReadForward place → IsResumed place
 resumed place h skip items number lines more =

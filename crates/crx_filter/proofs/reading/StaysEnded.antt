@@ -1,4 +1,4 @@
--- Once a fault has ended the run, more lines change nothing.
+-- After a fault has ended the run, more lines change nothing.
 use Rattle.crx_filter.proofs.Words
 use Words.{common_steps, arith, ℕ, ◌≡◌, ◌+◌, Bool, List, [], ◌++◌, drop, Some, refl}
 use Words.{drop-append-le, none-some, ReadLine, At, Place, Done, Fails, NeedsMore, FileUnit, Item}

@@ -1,4 +1,4 @@
--- Where a reading stops: more lines are wanted there, or a line is looked for after the last.
+-- The stops of a reading: more lines are needed, or a line is looked for after the last.
 use Rattle.crx_filter.proofs.Words.{ℕ, zero, suc, ◌≡◌, ◌+◌, ◌<◌, Bool, true, List, [], ◌∷◌, length}
 use Rattle.crx_filter.proofs.Words.{arith, length-drop, ReadLine, Place, FileUnit, Item}
 use Rattle.crx_filter.proofs.Words.{header_has_ended, records_left, Reading, looked_for}

@@ -1,4 +1,4 @@
--- The counts of types in force are allowed, and no letter is there twice among them.
+-- The counts of types in force are allowed, and no letter occurs twice among them.
 use Rattle.crx_filter.proofs.Words.{ℕ, ◌≡◌, List, [], ◌∷◌, ◌++◌, Option, Some, None, refl, All-nil}
 use Rattle.crx_filter.proofs.Words.{HeaderLine, EventRecord, Count, types_of, is_types_line, count_in, Item}
 use Rattle.crx_filter.proofs.Words.{Accepted, Warned, records_count_types, declaring_lines, types_in_force}

@@ -1,4 +1,4 @@
--- What holds of each thing that can be at some lines holds of the one that is there.
+-- A fact about each possible unit at some lines holds of the unit that is read there.
 use Rattle.crx_filter.proofs.Words
 use Words.{common_steps, [], take, ℕ, zero, suc, ◌≡◌, nat_lt, rules, ◌<◌, Bool, true, false, cond, List, ◌∷◌}
 use Words.{Option, Some, None, Result, Ok, Err, refl, ap, arith, ⊤, is_some, character_at, ReadLine, Content}
@@ -9,13 +9,13 @@ use Words.{FileUnit, HeaderLine, EventLine, EventRecord, Observation, ReadEpoch,
 use Words.{is_at_start, header_has_ended, records_left, records_count_types, unless_wrong, types_fault}
 use Words.{header_line_fault, unit_place, event_line, as_observation, compact_epoch_place, by_bool}
 
--- one of two things is chosen, and what holds of both holds of it
+-- one of two values is chosen, and a fact about both holds of it
 pub chosen : {A : Type 0} (P : A → Type 0) (b : Bool) (x y : A) → P x → P y → P (cond b x y)
 chosen P other x y h k = grind (arith, common_steps)
 
 -- ---- units that may begin at a line of RINEX
 
--- a line begins an event only where it is an event's first one
+-- a line begins an event only if it is an event's first one
 abbrev IsBeginning : List ℕ → Result Beginning Fault → Type 0
 IsBeginning line (Ok (EventBegins event)) =
     (event ≡ line) × (is_event_line line ≡ true) × (is_some (records_in line) ≡ true)
@@ -35,13 +35,13 @@ line-begun line = grind (arith, common_steps, event-begun, epoch-begun)
 
 module _ {E : Type 0} (P : Place (FileUnit E) → Type 0) (wanted : P NeedsMore)
     (wrong : (offset : ℕ) (fault : Fault) → P (Fails offset fault)) where
-  -- a line that is copied, unless something is wrong with it
+  -- a copied line, unless it has a fault
   copied-line : (unit : List ℕ → FileUnit E) (fault_in : List ℕ → Option Fault) (lines : List ReadLine)
       → ((line : List ℕ) (rest : List ReadLine) → lines ≡ Content line ∷ rest → fault_in line ≡ None
       → P (Done (unit line) 1)) → P (first_line lines (λ line. unless_wrong (unit line) (fault_in line)))
   copied-line unit fault_in lines h = grind (arith, common_steps)
 
-  -- a header line, an event's record, or what may begin there
+  -- a header line, an event's record, or a unit that may begin there
   pub of-unit : (beginning : List (Item E) → List ReadLine → Place (FileUnit E)) (items : List (Item E))
       (lines : List ReadLine) → ((line : List ℕ) (rest : List ReadLine) → lines ≡ Content line ∷ rest
       → header_has_ended items ≡ false → header_line_fault (is_at_start items) line ≡ None → P
@@ -66,7 +66,7 @@ module _ {E : Type 0} (P : Place (FileUnit E) → Type 0) (wanted : P NeedsMore)
       → P (Done (Observation epoch) count)) → P (as_observation p)
   observed p h = grind (arith, common_steps)
 
--- where an epoch or an event of RINEX may begin
+-- the beginning of an epoch or an event of RINEX
 module _ (P : Place (FileUnit Epoch) → Type 0) (wanted : P NeedsMore)
     (wrong : (offset : ℕ) (fault : Fault) → P (Fails offset fault)) where
   pub of-rinex : (types : List Count) (lines : List ReadLine) → ((line : List ℕ) (rest : List ReadLine)
@@ -88,7 +88,7 @@ module _ (P : Place (FileUnit Epoch) → Type 0) (wanted : P NeedsMore)
       by_beginning (Ok (EventBegins other)) e h = rw h.0 (event line lines refl h.1 h.2)
       by_beginning (Ok (EpochBegins head)) e h = by_rest head e (rest_at (opened types head) lines) refl
 
--- where an epoch or an event of compact text may begin
+-- the beginning of an epoch or an event of compact text
 module _ (P : Place (FileUnit ReadEpoch) → Type 0) (wanted : P NeedsMore)
     (wrong : (offset : ℕ) (fault : Fault) → P (Fails offset fault)) where
   pub of-compact : (types : List Count) (raws : List RawEpoch) (lines : List ReadLine) → ((line : List ℕ)
@@ -107,8 +107,7 @@ module _ (P : Place (FileUnit ReadEpoch) → Type 0) (wanted : P NeedsMore)
 
 -- ---- the unit at a place
 
--- a line that is copied is the first of some lines, where it may be; and an epoch is read of them, between
--- units
+-- a copied line is the first of some lines, if it may be there; and an epoch is read from them, between units
 abbrev pub StandsAt : {E : Type 0} → (List ReadLine → E → ℕ → Type 0) → List (Item E) → List ReadLine
     → FileUnit E → ℕ → Type 0
 StandsAt IsRead items lines (HeaderLine line) count = (take count lines ≡ Content line ∷ [])

@@ -1,4 +1,4 @@
--- The end of the input, as a check takes it; and which files it names as standard.
+-- The end of the input, as a check takes it; and the files that it calls standard.
 use Rattle.crx_filter.proofs.Words
 use Words.{common_steps, arith, ℕ, ◌≡◌, false, List, [], ◌∷◌, ◌++◌, map, length, Option, None, refl, ap}
 use Words.{append-nil, none-some, InputLine, ReadLine, as_read, Fault, Count, Epoch, HeaderLine, OpenEpoch}
@@ -58,7 +58,7 @@ version-same lines = grind (arith, common_steps, is-first, items-in_place, items
 
 -- ---- the end
 
--- what is kept doesn't hang on the phase
+-- the kept state doesn't depend on the phase
 pub kept-always : (phase : Phase OpenEpoch) (kept : Totals) → kept_in checking phase kept ≡ kept
 kept-always phase kept = grind (arith, common_steps)
 
@@ -80,7 +80,7 @@ check-ended lines =
       append-nil,
     )
 
--- where the end is good, printing gives back as many lines as have come
+-- after an end without a fault one line is printed for each line read
 pub whole-many : (lines : List InputLine) → WholeReading.fault (whole_reading_of lines) ≡ None
     → length (printed_items (whole_reading_of lines).items) ≡ length lines
 whole-many lines good = grind (arith, common_steps, as-many, whole-items, none-open, check-ended)

@@ -1,4 +1,4 @@
--- The lines that printing gives back for some lines of a file, and for one line more.
+-- The printed lines for some lines of a file, and for one more line.
 use Rattle.crx_filter.proofs.Words
 use Words.{common_steps, arith, ℕ, zero, suc, ◌≡◌, ◌+◌, ◌-◌, Bool, false, List, [], ◌∷◌, ◌++◌, length, drop}
 use Words.{Option, Some, None, Result, sym, append-nil, ⊤, map-append, none-some, ReadLine, Content, Fault}
@@ -48,7 +48,7 @@ phase-reached lines = let r = rinex_reading false lines in
 
 -- ---- the last line of a line's outcome
 
--- an epoch with one row more is printed with one line more
+-- an epoch with one more row is printed with one more line
 row-printed : (so_far : OpenEpoch) (row : Row) → printed_epoch (epoch_of (with_next_row so_far row))
     ≡ printed_epoch (epoch_of so_far) ++ last_line (printed_epoch (epoch_of (with_next_row so_far row))) ∷ []
 row-printed so_far row =
@@ -56,7 +56,7 @@ row-printed so_far row =
 
 -- ---- one line more
 
--- the step of a line makes the lines grow by one, unless it is a fault
+-- the step of a line adds one line, unless it is a fault
 abbrev pub Grows : ℕ → Phase OpenEpoch → List Count → Totals → ReadLine → Made Epoch OpenEpoch → Type 0
 Grows number phase types kept line made =
     let step : Step OpenEpoch Totals = step_of_made checking

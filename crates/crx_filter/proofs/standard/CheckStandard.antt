@@ -1,4 +1,4 @@
--- A file is named as standard exactly where it is; and that is where it comes back.
+-- A file is called standard if and only if it is, and if and only if it is restored.
 use Rattle.crx_filter.proofs.Words.{ℕ, ◌≡◌, ◌+◌, Bool, true, List, [], ◌∷◌, length, Option, None, refl}
 use Rattle.crx_filter.proofs.Words.{arith, list_all, and_parts, InputLine, Choices}
 use Rattle.crx_filter.proofs.Words.{first_not_standard, common_steps}
@@ -11,7 +11,7 @@ use Rattle.crx_compact.proofs.Characters.{bytes_eq-same, bytes_eq-is}
 abbrev are_plain : List InputLine → Bool
 are_plain lines = list_all (λ (line : InputLine). line.is_plain) lines
 
--- where no line is named, each is plain and is what printing gives back
+-- if no line is named, each is plain and is its printed form
 none-named : (number : ℕ) (lines : List InputLine) (texts : List (List ℕ)) → length texts ≡ length lines
     → first_not_standard number lines texts ≡ None → (are_plain lines ≡ true) × (contents lines ≡ texts)
 none-named number [] [] many e = (refl, refl)

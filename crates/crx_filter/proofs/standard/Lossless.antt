@@ -1,4 +1,4 @@
--- What passes a check comes back.
+-- A file that passes a check is restored.
 use Rattle.crx_filter.proofs.Words
 use Words.{ℕ, List, Option, sym, ◌∙◌, At, arith, common_steps, checked, IsResult, Device}
 use Rattle.crx_filter.proofs.standard.CheckStandard.{named-where_not, none-where_0}

@@ -10,7 +10,7 @@ use Rattle.crx_filter.specs.{CheckingParts.is_reading}
 use Rattle.crx_filter.specs.{LineByLine.{end_step, fault_at_end_in}, Stages.{is_ended, bare_phase}}
 use Rattle.crx_filter.specs.Totals.{totals_held, found_held}
 
--- the fault of the whole reading is that of the stage
+-- the fault of the whole reading is the stage's fault
 end-fault : (reader : RinexReader) (number : ℕ) (totals : Held) (named : Option ℕ) (lines : List InputLine)
     → is_reading (reader_phase reader) ≡ true
     → checker_state_with reader number totals named ≡ check_state lines
@@ -19,7 +19,7 @@ end-fault : (reader : RinexReader) (number : ℕ) (totals : Held) (named : Optio
     (bare_phase reader.stage))).answer
 end-fault reader number totals named lines reads same = grind (arith, common_steps, check-ended)
 
--- what is held at a good end is what there is to find
+-- without a fault at the end the state holds the findings
 pub found-at-end : (choices : Choices) (reader : RinexReader) (totals : Held) (named : Option ℕ)
     (lines : List InputLine) → no_choices ≡ choices → state_in choices (length lines) (reader_phase reader)
     reader.types (totals_held totals) ≡ check_reading (map as_read lines)

@@ -1,4 +1,4 @@
--- A checker takes a line, by what its reader makes of it.
+-- A checker takes a line, by its reader's outcome.
 use Rattle.crx_filter.proofs
 use proofs.Words.{common_steps, arith, ℕ, ◌≡◌, ◌+◌, true, false, List, [], Option, None, refl, ap, sym, subst}
 use proofs.Words.{◌∙◌, InputLine, is_long, ReadLine, Content, as_read, Fault, OpenEpoch, ObservationEpoch}
@@ -31,18 +31,18 @@ use Rattle.std.proofs.{Math.Bool.not-not, lemmas.{List.drop_all, Slice.Eq.bytes_
 abbrev pub nothing_kept : Written
 nothing_kept = record { index = 0; tail = None }
 
--- what a reader's line makes then
+-- the outcome of a reader's line then
 abbrev pub made_there : RinexReader → List ℕ → Made ObservationEpoch OpenEpoch
 made_there before content = made_at before content nothing_kept
 
--- a check keeps nothing of the epochs: what a line makes does not hang on it
+-- a check keeps nothing of the epochs, and the outcome of a line doesn't depend on it
 made-same : (phase : Phase OpenEpoch) (types : List Count) (kept : Totals) (line : ReadLine) → made_in
     checking phase types kept line ≡ made_in compaction phase types nothing_kept line
 made-same phase types kept line = grind (arith, common_steps)
 
 -- ---- the step of a line
 
--- what a line makes, as what an engine does with it: nothing is handed out
+-- the outcome of a line, as the engine's step: no line is ready
 abbrev StepsTo : Choices → ℕ → Totals → ReadLine → RinexReader → RinexReader → Made ObservationEpoch OpenEpoch
     → Type 0
 StepsTo choices number totals line before after made =
@@ -54,7 +54,7 @@ StepsTo choices number totals line before after made =
           (totals_made totals (is_before_header (reader_phase before)) made);
     }
 
--- the reader has taken a line that makes this
+-- the reader has taken a line with this outcome
 abbrev pub IsTaken : RinexReader → RinexReader → Made ObservationEpoch OpenEpoch → Type 0
 IsTaken before after made = (choices : Choices) (number : ℕ) (totals : Totals) (line : ReadLine)
     → StepsTo choices number totals line before after made
@@ -101,12 +101,12 @@ module _ (serves : Choices → Type 0) (before after : RinexReader) (totals : He
 
 -- ---- the notes of a check
 
--- it reads on where no fault has ended it
+-- it reads on unless a fault has ended it
 pub reads-on : (begun : Option OpenEpoch) (stage : Stage) → IsReached (phase_of_stage begun stage)
     → is_ended stage ≡ false → is_reading (phase_of_stage begun stage) ≡ true
 reads-on begun stage reached running = grind (arith, common_steps, false≢true)
 
--- no line comes a second time
+-- no line is fed again
 module _ (choices : Choices) (lines : List InputLine) (line : InputLine)
     (parts : DirectionParts OpenEpoch Totals) (given : ComesAfter check_by_line (λ choices. no_choices)
     (λ choices. check_reading) choices lines line parts) where
@@ -132,12 +132,12 @@ module _ (choices : Choices) (before : RinexReader) (totals : Held) (lines : Lis
       → checker_state_with before (length lines) totals named ≡ check_state lines
   state-there named known = grind (arith, common_steps, state_in, same-state)
 
--- whether a line is the last one that printing gives for it
+-- whether a line is the last one printed for it
 abbrev is_standard_there : RinexReader → InputLine → Bool
 is_standard_there before line =
     is_standard_line line (last_line (printed_made (made_there before line.content)))
 
--- a unit is at most one epoch or event more
+-- a unit adds at most one epoch or event
 counts-one : (is_first : Bool) (made : Made ObservationEpoch OpenEpoch) (totals then : Held)
     → totals_held then ≡ totals_made (totals_held totals) is_first made
     → then.epochs + then.events ≤ totals.epochs + totals.events + 1
@@ -184,7 +184,7 @@ module _ (before after : RinexReader) (old new : Noted) (line : InputLine) (numb
     stays = λ choices lines known. tt;
   }
 
--- or has refused a line as its reader did
+-- or has refused a line, as its reader did
 pub refused-takes : {served : Choices → Type 0} {before after : DirectionParts OpenEpoch Totals}
     {number count : ℕ}
     {line : InputLine} {fault : Fault} {ready : List (List ℕ)}
@@ -197,7 +197,7 @@ refused-takes reads = grind (arith, common_steps)
 
 -- ---- names and counts
 
--- where no row has come, none has to be named
+-- if no row has been read, none has to be named
 none-named : (names : List Bool) (rows : List ObservationRow) → rows ≡ []
     → ((name : List ℕ) → has_identifier names name ≡ false) → AreNamed names rows
 none-named names rows none empty = λ name named. empty name ∙ rw (none) refl
@@ -228,7 +228,7 @@ module _ (names then : List Bool) (rows : List ObservationRow) (row : Observatio
   named-next = λ name is.
       put name is ∙ ap (λ b. bytes_eq row.name name || b) (named name is) ∙ sym (among-more name rows row)
 
-  -- and with one that is there already nothing changes
+  -- with a repeated one nothing changes
   pub named-still : has_satellite row.name rows ≡ true → AreNamed then rows
   named-still there = λ name is. put name is ∙ decided name is (bytes_eq row.name name) refl
     where
@@ -238,7 +238,7 @@ module _ (names then : List Bool) (rows : List ObservationRow) (row : Observatio
           ((bytes_eq-Decides row.name name).0 same) there)
       decided name is false other = named name is
 
--- where an epoch is open after a line that is no row, the line has begun it, and none of its rows has come
+-- if an epoch is open after a line that isn't a row, the line has begun it, and none of its rows has been read
 module _ (made : Made ObservationEpoch OpenEpoch) (before after : RinexReader) (line : List ℕ)
     (step : RinexStep)
     (takes : TakesRinexLine made before line step after) where
@@ -252,12 +252,12 @@ module _ (made : Made ObservationEpoch OpenEpoch) (before after : RinexReader) (
       → AreCounted after noted
   step-counted noted fresh = grind (arith, common_steps, step-begun, none-named)
 
--- all six lines of a report were handed out where none is pending, and only there
+-- all lines of a report have been lent if and only if none is pending
 pub all-out : (handed_out : ℕ) (found : Findings) → drop handed_out (report_lines found) ≡ [] → 6 ≤ handed_out
 all-out handed_out found none =
     omega (arith, length-drop handed_out (report_lines found), ap length none)
 
--- so none is pending, whatever was found
+-- so none is pending, whatever the findings are
 pub still-drained : (handed_out : ℕ) (found other : Findings)
     → drop handed_out (report_lines found) ≡ [] → drop handed_out (report_lines other) ≡ []
 still-drained handed_out found other none =

@@ -1,4 +1,4 @@
--- What a compaction makes of a line that it takes, in the words of a direction.
+-- The step of a compaction at a line that it takes, in the words of a direction.
 use Rattle.crx_filter.proofs
 use proofs.Words.{ℕ, ◌≡◌, true, false, List, [], ◌∷◌, Ok, Err, Result, common_steps, arith, ◌+◌, ◌≤◌, false≢true}
 use proofs.Words.{InputLine, Epoch, Observation, OpenEpoch, Choices, Made, compaction, compaction_state}
@@ -23,7 +23,7 @@ use Rattle.std.specs.Prelude.{⊤}
 abbrev pub compaction_of : ℕ → RinexReader → EncoderState → CompactionState
 compaction_of index reader encoder = record { index = index; reader = reader; encoder = encoder }
 
--- what a compaction keeps of the epochs before
+-- the state that a compaction keeps of the epochs before
 abbrev pub kept_in : Compaction → Written
 kept_in inside = record { index = inside.index; tail = inside.encoder.before }
 
@@ -71,7 +71,7 @@ module _ (served : Choices → Type 0) (before after : CompactionState) (line : 
   unit-takes unit done written counted =
       grind (arith, common_steps, served-closed, again-lines)
 
-  -- it is copied, and everything is forgotten
+  -- it is copied, and all epochs are dropped
   pub copied-takes : (step : RinexStep) (date : List ℕ) → is_copied step ≡ true
       → TakesRinexLine made before.reader line.content step after.reader
       → ((choices : Choices) → served choices → choices.date ≡ date)
@@ -88,7 +88,7 @@ module _ (served : Choices → Type 0) (before after : CompactionState) (line : 
       grind (arith, common_steps)) (omega (arith, counted))
   copied-takes step date copied takes dated emptied counted = absurd (false≢true copied)
 
-  -- it completes an epoch, whose rows the encoder had
+  -- it completes an epoch whose rows the encoder had
   pub ended-takes : (done : CompletedEpoch made before.reader after.reader) (mid : EncoderState)
       → ((choices : Choices) → served choices → mid.in_full ≡ is_at_every choices.every before.index)
       → mid.before ≡ before.encoder.before → mid.rows ≡ after.reader.rows.rows

@@ -1,4 +1,4 @@
--- What a compaction makes of a line: a fault, another stage, a line that is copied, or an epoch.
+-- The step of a compaction at a line: a fault, another stage, a copied line, or an epoch.
 use Rattle.crx_filter.proofs.Words.{common_steps, arith, ◌≡◌, ℕ, false, false≢true, true, List, Bool}
 use Rattle.crx_filter.proofs.Words.{ObservationEpoch, OpenEpoch, Made, epoch_open}
 use Rattle.crx_filter.proofs.Words.{is_open_stage, TakesRinexLine, RinexStep, Header}
@@ -8,17 +8,17 @@ use Rattle.crx_filter.specs.DirectionParts.{DirectionParts}
 
 -- ---- a line's step, by the reader
 
--- what is there between two lines, by the reader and what is kept of the epochs
+-- the parts between two lines, by the reader and the state kept of the epochs
 abbrev pub parts_with : {K : Type 0} → RinexReader → K → DirectionParts OpenEpoch K
 parts_with reader kept =
     record { stage = reader.stage; begun = epoch_open reader; types = reader.types; kept = kept }
 
--- whether a line is the header's first one, before which others are written
+-- whether a line is the first header line, before which others are written
 abbrev pub is_first_line : RinexStep → Bool
 is_first_line (Header is_first) = is_first
 is_first_line step = false
 
--- whether a line is one that is copied, and none of an epoch
+-- whether a line is copied, and isn't of an epoch
 abbrev pub is_copied : RinexStep → Bool
 is_copied (Header is_first) = true
 is_copied Event = true

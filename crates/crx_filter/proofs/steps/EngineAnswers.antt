@@ -1,5 +1,4 @@
--- From the steps of an engine of either direction to what every engine answers, and to the lines it has
--- taken.
+-- From the steps of an engine of either direction to the answers of every engine, and to the lines taken.
 use Rattle.crx_filter.proofs
 use proofs.Words.{common_steps, arith, ℕ, ◌≡◌, inl, inr, ◌+◌, true}
 use proofs.Words.{false, List, [], ◌∷◌, map, length, Some, None}
@@ -28,7 +27,7 @@ use proofs.following.Following.{fed-once as feeds-once, fed-twice as feeds-twice
 
 -- ---- a line that is fed again
 
--- where a line is to come again, it is in an epoch whose fault is skipped, and one is looked for then
+-- a line that is to be fed again is in an epoch whose fault is skipped, and one is looked for then
 pub record ComesAgain {U O K : Type 0} (direction : Direction U O K) (before next : RunState O K)
     (line : ReadLine) : Type 0 where
   pub skips : before.choices.skip ≡ true
@@ -102,7 +101,7 @@ module _ {U O K : Type 0} {direction : Direction U O K} {closing_after : List In
     module _ (shows : List InputLine → List Awaited → Type 0) (now : RunState O K) (ready : List (List ℕ))
         (showing : (ls : List InputLine) (ns : List Awaited) → HasTaken direction state_after_lines now ls ns
         → shows ls ns) where
-      -- what is answered where the line was fed so, and doesn't come again
+      -- the answer if the line was fed so and isn't fed again
       fed-answers : (notices : List Awaited) (warned : List At) (result : Result Step At)
           → fed direction first (as_read line) ≡ record {
             warned = warned;
@@ -171,7 +170,7 @@ module _ {U O K : Type 0} {direction : Direction U O K} {closing_after : List In
       → is_again (step_of_made direction state line made).answer ≡ false
   quiet-there state line made e = grind (arith, common_steps)
 
-  -- a line at which memory may run out doesn't come a second time
+  -- a line at which memory may run out isn't fed again
   reserves-once : (first next : Bool) (before : RunState O K) (line : ReadLine) → may_reserve first next before.phase
       line ≡ true → noticed_again (state_next direction before line).answer ≡ []
   reserves-once first next before line may = once-again (state_next direction before line).answer
@@ -242,7 +241,7 @@ as-read-within line bytes h e = grind (arith, common_steps, as-read-short, short
 module _ {U O K : Type 0} {direction : Direction U O K} {closing_after : List InputLine → List (List ℕ)}
     {state_after_lines : List ReadLine → RunState O K} {filter : Filter}
     (goes : GoesLineByLine direction closing_after state_after_lines filter) where
-  -- the count of an engine that has taken some lines is that of the lines
+  -- an engine that has taken some lines has counted these lines
   pub taken-lines : (now : RunState O K) (lines : List InputLine) (notices : List Awaited)
       → HasTaken direction state_after_lines now lines notices → now.number ≡ length lines
   taken-lines now lines [] taken = ap (λ (s : RunState O K). s.number) taken ∙ goes.number lines
@@ -250,7 +249,7 @@ module _ {U O K : Type 0} {direction : Direction U O K} {closing_after : List In
       (as_read a.line) a.notice [] taken).number ∙ goes.number lines
   taken-lines now lines (a ∷ b ∷ others) taken = absurd taken
 
--- an answer shows what is known, too
+-- an answer shows the notes, too
 answers-known : (knows : List InputLine → Type 0) (lines : List InputLine) (line : InputLine) (filter :
     Filter) (shows : List InputLine → List Awaited → Type 0) (has_ended : List InputLine → Type 0)
     (ready : List (List ℕ)) (notices : List Awaited) (result : Result Step At) → KnowsAfter knows lines line
@@ -260,25 +259,25 @@ answers-known : (knows : List InputLine → Type 0) (lines : List InputLine) (li
 answers-known knows lines line filter shows has_ended ready notices result known answers =
     grind (arith, common_steps)
 
--- an engine goes as its direction does
+-- an engine follows its filter if its direction does
 pub goes-on : {D : Type 0} (d : Ghosts D) (e : EngineParts D) → d.chosen e.options ≡ e.options
     → IsLawfulDirection d.by_line d.chosen d.closing_after d.state_after_lines d.filter
     → EngineGoes d e
 goes-on d e chosen lawful = record { chosen = chosen; lawful = lawful e.options chosen }
 
 module _ {D : Type 0} (d : Ghosts D) (before : EngineParts D) (goes : EngineGoes d before) where
-  -- an engine that has taken some lines has come to them
+  -- an engine that has taken some lines is in the state after them
   after-lines : (lines : List InputLine) → engine_took d before lines []
       → IsAfterLines d.chosen d.state_after_lines before.options lines (d.parts before.direction)
   after-lines lines took = grind (arith, common_steps, taken-lines goes.lawful, goes.chosen)
 
-  -- and is given the next one
+  -- and takes the next one
   given-line : (lines : List InputLine) (notices : List Awaited) (line : InputLine)
       → engine_took d before lines notices → IsAwaited notices line
       → ComesAfter d.by_line d.chosen d.state_after_lines before.options lines line (d.parts before.direction)
   given-line lines notices line took awaited = grind (arith, common_steps, taken-lines)
 
--- a line that an engine took is answered as its filter says, or memory ran out
+-- the answer to a line that an engine took is as its filter says, or memory ran out
 pub line-answered : {D : Type 0} (d : Ghosts D) (before after : EngineParts D) (has_ended : List InputLine →
     Type 0) {ready : List (List ℕ)} (line : InputLine) (read : ReadLine) (result : Result Step At) → as_read
     line ≡ read

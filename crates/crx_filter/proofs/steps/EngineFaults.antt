@@ -1,4 +1,4 @@
--- What an engine answers to a line with a fault, to one that is too long, and at the input's end.
+-- The answer of an engine to a line with a fault, to a line that is too long, and to the input's end.
 use Rattle.crx_filter.proofs.Words
 use Rattle.crx_filter.specs
 use Words.{common_steps, arith, ◌≡◌, ℕ, ◌+◌, Bool, true, false, ◌&&◌, List, [], Option, Some, None, Result}
@@ -19,12 +19,12 @@ use Rattle.std.proofs.Common.{IfErr, OnErr}
 use Rattle.crx_runs.specs.Engines.{answer_given, lines_handed_out}
 use Rattle.crx_runs.specs.declared.engine.HandedOut.{HandedOut}
 
--- what is true after any answer is true after an error
+-- a fact about every answer is one about an error
 pub after-error : {A B P : Type 0} (result : Result A B) → P → OnErr result P
 after-error result is = grind (arith, common_steps)
 
 module _ {U O K : Type 0} (direction : Direction U O K) where
-  -- a line was taken that hands something out, or nothing
+  -- a line was taken, with output or without
   pub handed-line : (serves : Choices → Type 0) (choices : Choices) (last : ℕ)
       (before parts : DirectionParts O K) (line : List ℕ) (out : HandedOut)
       (stored : Result Step At) (ready : List (List ℕ)) → serves choices
@@ -37,7 +37,7 @@ module _ {U O K : Type 0} (direction : Direction U O K) where
   never-skipped : (state : RunState O K) → is_skipped_in state OutOfMemory ≡ false
   never-skipped state = grind (arith, common_steps)
 
-  -- by a fault nothing is handed out
+  -- at a fault no line is ready
   pub none-handed : (state : RunState O K) (line : ReadLine) (fault : Fault)
       → (failed_step direction state line fault).handed_out ≡ []
   none-handed state line fault = grind (arith, common_steps)
@@ -76,7 +76,7 @@ module _ {U O K : Type 0} (direction : Direction U O K) where
   long-next first next choices last stage parts was held going =
       grind (arith, common_steps, made-too_long first next parts.stage parts.begun parts.types parts.kept)
 
-  -- a fault that is answered ends the run
+  -- a fault that is returned ends the run
   pub ended-by : (before after : RunState O K) (fault : Fault) (read : ReadLine) (result : Result Step At)
       (ready : List (List ℕ)) → step_made result ready after ≡ failed_step direction before read fault
       → IfErr result (λ at. after.phase ≡ EndedPhase at)
@@ -97,7 +97,7 @@ module _ {U O K : Type 0} (direction : Direction U O K) where
         → c ≡ is_skippable fault → is_skipped_in (state_by choices number before) fault ≡ ((a && b) && c)
     skips fault a b c is-a is-b is-c = grind (arith, common_steps)
 
-    -- a good end: what is answered is by the lines that are handed out
+    -- an end without a fault: the answer depends on the lines that are ready
     pub ends-well : (result : Result Step At) (ready : List (List ℕ)) → answer_of_step result
         ≡ answer_of_lines closing → ready ≡ closing → after.stage ≡ Closed → after.kept ≡ before.kept
         → fault_at_end_in (bare_phase stage) ≡ None → step_made result ready (state_by choices number after)
@@ -124,7 +124,7 @@ module _ {D : Type 0} (d : Ghosts D) (before after : EngineParts D) (line : Inpu
     (d.notes before.direction))
     (stays : (choices : Choices) (lines : List InputLine) → d.notes before.direction choices lines
     → d.notes after.direction choices lines) where
-  -- what was taken, and what is known after it
+  -- the line was taken, and these are the notes after it
   pub refused-takes : (fault : Fault) (read : ReadLine) (result : Result Step At) (ready : List (List ℕ))
       → step_made result ready (engine_state d after) ≡ failed_step d.by_line (engine_state d before) read
       fault
@@ -137,7 +137,7 @@ module _ {D : Type 0} (d : Ghosts D) (before after : EngineParts D) (line : Inpu
     stays = λ choices lines known. after-error result (stays choices lines known);
   }
 
-  -- so once its fault is answered
+  -- the same once its fault is answered
   pub refused-read : {stage : Stage} {fault : Fault} {goes_on : Bool} {parts : DirectionParts d.Open d.Kept}
       {serves : Choices → Type 0} {given : List (List ℕ)} → length line.content ≤ LINE_LIMIT
       → AnswersToFault d.by_line before.options (before.number + 1) stage fault goes_on parts after.answer

@@ -1,4 +1,4 @@
--- What an expansion makes of a line that it takes, in the words of a direction.
+-- The step of an expansion at a line that it takes, in the words of a direction.
 use Rattle.crx_filter.proofs.Words.{common_steps, arith, ℕ, true, Bool, List, Choices, InputLine, Fault, Result, refl}
 use Rattle.crx_filter.proofs.Words.{expansion, expansion_state}
 use Rattle.crx_compact.specs.Blocks.{PendingLines}
@@ -12,7 +12,7 @@ use Rattle.std.specs.Prelude.{⊤}
 abbrev pub expansion_of : CompactReader → PendingLines → Expansion
 expansion_of reader lines = record { reader = reader; lines = lines }
 
--- a reader's answer to a line is that of an expansion
+-- a reader's result for a line is an expansion's
 pub reader-takes : (old new : CompactReader) {served : Choices → Type 0} (number : ℕ) (line : InputLine)
     (result : Result Bool Fault) (ready : List (List ℕ)) → ReadsCompactLine old line.content result ready new
     → DirectionTakes expansion (λ cs. cs) expansion_state served (compact_reader_parts old) number line

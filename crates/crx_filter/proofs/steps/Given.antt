@@ -1,6 +1,4 @@
--- A line that is given to a direction comes for the first time, or a second time after a warning: what is
--- seen
--- then.
+-- A direction takes a line for the first time, or again after a warning: the state then.
 use Rattle.crx_filter.proofs
 use proofs.Words.{◌≡◌, ◌⊎◌, inl, inr, List, [], map, length, InputLine, ReadLine, as_read, Choices, RunState}
 use proofs.Words.{Direction}

@@ -1,4 +1,4 @@
--- A row that was read, and then taken: what is said of the reader between is said of the one before.
+-- A row that was read and then taken: facts about the reader in between are facts about the one before.
 use Rattle.crx_filter.proofs.Words.{common_steps, arith, ◌≡◌, Bool, List, ℕ, Written, compaction, made_in}
 use Rattle.crx_filter.proofs.Words.{made_at, reader_phase, IsSameReader, TakesRow, RinexReader}
 
@@ -6,7 +6,7 @@ pub same-made : (before mid : RinexReader) (line : List ℕ) (kept : Written) �
     → made_at mid line kept ≡ made_at before line kept
 same-made before mid line kept same = grind (arith, common_steps, made_in, compaction, reader_phase)
 
--- what was taken by the reader between was taken by the one before
+-- the row taken by the reader in between was taken by the one before
 pub taken-from : (before mid after : RinexReader) (line : List ℕ) (kept : Written) (is_last : Bool)
     → IsSameReader before mid → TakesRow (made_at mid line kept) is_last mid after
     → TakesRow (made_at before line kept) is_last before after

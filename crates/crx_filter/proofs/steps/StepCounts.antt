@@ -1,4 +1,4 @@
--- How many lines have been taken after a step, and where lines are borrowed.
+-- The number of lines taken after a step, and its ready lines.
 use Rattle.crx_filter.proofs.Words.{common_steps, arith, ◌≡◌, inl, inr, ℕ}
 use Rattle.crx_filter.proofs.Words.{false, List, [], Result, Some, length}
 use Rattle.crx_filter.proofs.Words.{length-append, InputLine, ReadLine, At}
@@ -10,14 +10,14 @@ use Rattle.crx_runs.specs.Engines.{Awaited, EngineAnswers, HasStepped, taken_aft
 use Rattle.crx_runs.specs.{declared.engine.Step.Step, meaning.Filters.Filter}
 use Rattle.std.proofs.Common.{IfOk, OnErr}
 
--- only where the answer is that lines are ready are some borrowed
+-- lines are ready only if the answer is that they are
 drained-where : (ready : List (List ℕ)) (result : Result Step At) → (is_ready (answer_of_step result) ≡ false
     → ready ≡ []) → IfOk result (λ step. IsDrainedAfter step ready) × OnErr result (ready ≡ [])
 drained-where ready result none = grind (arith, common_steps)
 
 module _ {U O K : Type 0} (direction : Direction U O K) (before now : RunState O K) (line : ReadLine)
     (ready : List (List ℕ)) (result : Result Step At) where
-  -- a line counts unless it comes again
+  -- a line counts unless it is fed again
   made-counted : (made : Made U O) → step_made result ready now ≡ step_of_made direction before line made
       → IfOk result (λ s. now.number ≡ taken_after s before.number)
   made-counted made step = grind (arith, common_steps)
@@ -26,19 +26,19 @@ module _ {U O K : Type 0} (direction : Direction U O K) (before now : RunState O
       → now.choices ≡ before.choices
   made-choices made step = grind (arith, common_steps)
 
-  -- how many lines were taken after a line
+  -- the number of lines taken after a line
   pub steps-counted : Steps direction before line result ready now
       → IfOk result (λ s. now.number ≡ taken_after s before.number)
   steps-counted (inl step) = made-counted (made_in direction before.phase before.types before.kept line) step
   steps-counted (inr out) = grind (arith, common_steps, taken_after)
 
-  -- the choices stay
+  -- the options stay
   pub steps-choices : Steps direction before line result ready now
       → now.choices ≡ before.choices
   steps-choices (inl step) = made-choices (made_in direction before.phase before.types before.kept line) step
   steps-choices (inr out) = grind (arith, common_steps)
 
-  -- lines are borrowed only where they are said to be ready
+  -- lines are ready only if the answer says so
   steps-drained : Steps direction before line result ready now
       → IfOk result (λ s. IsDrainedAfter s ready) × OnErr result (ready ≡ [])
   steps-drained (inl step) =
@@ -52,7 +52,7 @@ module _ {U O K : Type 0} (direction : Direction U O K) (before now : RunState O
       let drained = steps-drained steps in
       record { filter = ap filter (steps-choices steps); drained = drained.0; nothing = drained.1 }
 
--- an answer to a line shows how many lines were taken, where as many were counted before it
+-- an answer to a line shows how many lines were taken, if they were counted before it
 pub answers-counted : (filter : Filter) (shows : List InputLine → List Awaited → Type 0)
     (has_ended : List InputLine → Type 0) (before after : ℕ)
     (ready : List (List ℕ)) (lines : List InputLine) (notices : List Awaited) (line : InputLine)

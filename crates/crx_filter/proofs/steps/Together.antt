@@ -1,4 +1,4 @@
--- How the parts of a compaction belong together after a line, and what is said of a row that it takes.
+-- The parts of a compaction after a line, and the facts about a row that it takes.
 use Rattle.crx_filter.proofs.Words
 use Words.{common_steps, arith, ◌≡◌, ◌++◌, ◌∷◌, [], ℕ, Bool, true, false, not, List}
 use Words.{Fault, OutOfMemory, None, Ok, sym, ap, ◌∙◌, true≢false, false≢true}
@@ -18,7 +18,7 @@ use Rattle.std.{specs.Prelude.{◌<◌, ◌+◌}}
 rows-opened : (s : Stage) (rows : List ObservationRow) → is_open_stage s ≡ true → rows_open s rows ≡ rows
 rows-opened s rows e = grind (arith, common_steps, false≢true)
 
--- an open epoch is in full where it is due, and no other has to be
+-- an open epoch is full if it is due, and no other has to be
 pub served-closed : (s : Stage) (in_full due : Bool) → is_open_stage s ≡ false
     → is_full_where_due s in_full due ≡ true
 served-closed s in_full due e = grind (arith, common_steps, true≢false)
@@ -47,24 +47,24 @@ pub rows-there : (reader : RinexReader) (encoder : EncoderState) → BelongToget
     → is_open_stage reader.stage ≡ true → encoder.rows ≡ reader.rows.rows
 rows-there reader encoder t opened = t.rows ∙ rows-opened reader.stage reader.rows.rows opened
 
--- there is place for a row more
+-- there is room for one more row
 pub rows-few : (reader : RinexReader) (encoder : EncoderState) → BelongTogether reader encoder
     → is_open_stage reader.stage ≡ true → length encoder.rows < SATELLITES_LIMIT + 1
 rows-few reader encoder t opened = omega (arith, reader.few, ap length (rows-there reader encoder t opened))
 
--- where no epoch is open, the encoder has no rows
+-- if no epoch is open, the encoder has no rows
 pub none-there : (reader : RinexReader) (encoder : EncoderState) → BelongTogether reader encoder
     → is_open_stage reader.stage ≡ false → encoder.rows ≡ []
 none-there reader encoder t closed = grind (arith, common_steps, true≢false)
 
--- they go on together where the reader is as it was
+-- they still belong together if the reader is unchanged
 pub same-together : (before after : RinexReader) (encoder : EncoderState) → BelongTogether before encoder
     → IsSameReader before after → BelongTogether after encoder
 same-together before after encoder t same = grind (arith, common_steps)
 
 -- ---- a row
 
--- whether its satellite is there, by the encoder's answer
+-- whether its satellite is repeated, by the encoder's answer
 pub row-known : (answer : Bool) (row read : ObservationRow) (rows there : List ObservationRow)
     → answer ≡ not (has_satellite row.name rows) → row ≡ read → rows ≡ there
     → has_satellite read.name there ≡ not answer
@@ -72,7 +72,7 @@ row-known answer row read rows there said same where_ = grind (arith, common_ste
 
 module _ (before mid : RinexReader) (encoder new : EncoderState) (line : List ℕ)
     (together : BelongTogether before encoder) (same : IsSameReader before mid) where
-  -- the row was written and taken
+  -- the row was encoded and taken
   pub row-written : (after : RinexReader) (is_last answer : Bool) (row : ObservationRow)
       → is_open_stage before.stage ≡ true → row_of before.types line ≡ Ok mid.row → begins_epoch line ≡ false
       → row ≡ mid.row → answer ≡ not (has_satellite row.name encoder.rows) → answer ≡ true → new ≡ record
@@ -95,7 +95,7 @@ module _ (before mid : RinexReader) (encoder new : EncoderState) (line : List �
       → HasRefusedRow before encoder line fault mid new
   row-refused fault is none refuses = grind (arith, common_steps, same-together)
 
-  -- everything was forgotten
+  -- all epochs were dropped
   pub row-lost : (after : RinexReader) → new ≡ forgotten encoder [] → after.types
       ≡ mid.types → is_open_stage after.stage ≡ false → ((kept : Written) → RefusesRinexLine (made_at before
       line kept) before line OutOfMemory)
@@ -122,13 +122,13 @@ module _ {before after : RinexReader} {encoder new : EncoderState} {line : List 
     row-together is = open-together after new (row-moves (record { index = 0; tail = None }) is).1 still-open
         (ap (λ (e : EncoderState). e.rows) row.written)
 
-    -- what the epoch's end asks for
+    -- the conditions of the epoch's end
     pub row-asked : is_last ≡ true → HasWholeEpoch after new
     row-asked is = grind (arith, common_steps, row-ends (record { index = 0; tail = None }) is, still-open)
 
 -- ---- the line of an epoch
 
--- it moves the reader on where the epoch wants rows, and else completes it
+-- it moves the reader on if the epoch expects rows, and otherwise completes it
 pub begun-open : (made : Made ObservationEpoch OpenEpoch) (before after : RinexReader)
     → BeginsEpoch made before after → is_open_stage after.stage ≡ true → MovesReader made before after
 begun-open made before after begins is = grind (arith, common_steps)

@@ -1,5 +1,5 @@
--- Units that are kept after a damaged stretch, whoever wrote them: they are read as themselves, whatever was
--- read of the stretch.
+-- Units kept after a damaged stretch, whoever wrote them: they are read as themselves, whatever was read of the
+-- stretch.
 use Rattle.crx_filter.proofs
 use proofs.Words.{ℕ, ◌≡◌, ◌+◌, ◌≤◌, At, true, List, [], ◌∷◌, ◌++◌, map, length, Option, None, refl, ◌∙◌}
 use proofs.Words.{arith, append-nil, inl, and_parts, ReadLine, Content, Epoch, FileUnit, common_steps}
@@ -45,7 +45,7 @@ pub record AreKeptRead (block kept : List (FileUnit Epoch)) (items : List (Item 
   pub like : IsLike (more ++ with_warnings warnings items) (kept ++ block)
   pub stops : IsOpen (more ++ with_warnings warnings items) r
 
--- what is known of the units before, and of what was read in their place
+-- the facts about the units before, and about the items read instead of them
 pub record CanGoOnAs (block : List (FileUnit Epoch)) (items : List (Item ReadEpoch)) : Type 0 where
   pub header : header_has_ended (as_items block) ≡ true
   pub left : records_left (as_items block) ≡ 0

@@ -1,5 +1,5 @@
--- The reading of a damaged stretch: whatever its lines are, but an event's first one, epochs and warnings are
--- read of it alone; and it goes on at the next line that begins with >.
+-- The reading of a damaged stretch: if none of its lines is an event's first one, only epochs and warnings are read
+-- from it; and reading resumes at the next line that begins with >.
 use Rattle.crx_filter.proofs.Words
 use Words.{common_steps, ℕ, zero, suc, ◌≡◌, ◌+◌, ◌<◌, ◌≤◌, max, ◌⊎◌, inl, inr, true, false, List, [], ◌∷◌}
 use Words.{◌++◌}
@@ -23,14 +23,14 @@ use Rattle.std.proofs.lemmas.List.{Folds.list_all-append, drop-drop}
 
 -- ---- the lines of a stretch, and their reading
 
--- epochs and warnings alone
+-- only epochs and warnings
 abbrev pub AreEpochs : List (Item ReadEpoch) → Type 0
 AreEpochs [] = ⊤
 AreEpochs (Accepted (Observation read) ∷ before) = AreEpochs before
 AreEpochs (Warned at ∷ before) = AreEpochs before
 AreEpochs (Accepted unit ∷ before) = ⊥
 
--- a reading has stopped where more lines could make an epoch, or looks for a line that begins with >
+-- a reading has stopped at lines that more lines could complete to an epoch, or looks for a line that begins with >
 abbrev pub IsOpen : List (Item ReadEpoch) → Reading ReadEpoch → Type 0
 IsOpen items r = ((number : ℕ) × (rest : List ReadLine) × (list_all begins_no_event rest ≡ true)
     × (compact_place items rest ≡ NeedsMore) × (r ≡ record { items = items; stop = AtLines number rest }))
@@ -49,7 +49,7 @@ epochs-types (item ∷ news) items h = grind (arith, common_steps, epochs-types 
 
 -- ---- the unit at such lines
 
--- where more lines are wanted, the first one is no event's
+-- if more lines are needed, the first one isn't an event's
 wanted-no_event : (items : List (Item ReadEpoch)) (line : List ℕ) (lines : List ReadLine)
     → IsBetweenUnits items → begins_no_event (Content line) ≡ true
     → compact_place items (Content line ∷ lines) ≡ NeedsMore → is_event_line line ≡ false
@@ -57,7 +57,7 @@ wanted-no_event items line lines h text e = grind (arith, common_steps, by_bool,
 
 -- ---- the reading
 
--- epochs and warnings alone were read since some items, and no line from there on begins an event
+-- only epochs and warnings were read since some items, and no line from there on begins an event
 abbrev ReadsEpochs : List (Item ReadEpoch) → List (Item ReadEpoch) → List ReadLine → Type 0
 ReadsEpochs items all lines = (news : List (Item ReadEpoch)) × AreEpochs news × (all ≡ news ++ items)
     × IsBetweenUnits all × (list_all begins_no_event lines ≡ true)
@@ -90,7 +90,7 @@ is-open items all (AtFault at) next (lines, h, left) stopped =
 is-open items all (AtLines number rest) next (lines, h, left) stopped = grind (arith, common_steps)
 is-open items all (Looking number) next (lines, h, left) stopped = grind (arith, common_steps)
 
--- more lines of a stretch, after what was read so far
+-- more lines of a stretch, after the lines read so far
 pub stretch-more : (items : List (Item ReadEpoch)) (so_far lines : List ReadLine) → IsBetweenUnits items
     → IsOpen items (reading_from compact_place true [] 3 so_far) → list_all begins_no_event lines ≡ true
     → IsStretchRead items (reading_from compact_place true [] 3 (so_far ++ lines))
@@ -119,7 +119,7 @@ stretch-more items so_far lines between stops text =
 
 -- ---- few warnings
 
--- an epoch is open: one more warning may come
+-- an epoch is open: one more warning may follow
 abbrev pub pending : Stop → ℕ
 pending (AtLines number (line ∷ rest)) = 1
 pending stop = 0
@@ -142,7 +142,7 @@ pending-few : (items : List (Item ReadEpoch)) (number : ℕ) (lines : List ReadL
     → length (warnings_in items) + pending (AtLines number lines) ≤ length (warnings_in items) + 1
 pending-few items number lines = grind (arith, common_steps)
 
--- of lines of which none but the first begins with >, there is at most one warning, now or later
+-- if only the first of some lines begins with >, they give at most one warning, now or later
 pub few-warned : (units : ℕ) (items : List (Item ReadEpoch)) (number : ℕ) (lines : List ReadLine)
     → list_all is_inside (drop 1 lines) ≡ true → length (warnings_in (reading_within compact_place true units
     items number lines).items) + pending (reading_within compact_place true units items number lines).stop
@@ -163,7 +163,7 @@ few-warned (suc units) items number lines h = by_place (compact_place items line
 
 -- ---- the next line that begins with >
 
--- reading goes on at some lines, after these items and a warning, if an epoch was open
+-- reading resumes at some lines, after these items and a warning, if an epoch was open
 pub open-continued : (items : List (Item ReadEpoch)) (r : Reading ReadEpoch) (line : List ℕ)
     (tail : List ReadLine) → IsBetweenUnits items → IsOpen items r → begins_epoch line ≡ true
     → GoesOnAt (pending r.stop) items (Content line ∷ tail) (continued_reading compact_place true r

@@ -1,5 +1,5 @@
--- The compact text of a file that is compacted here, damaged in stretches or cut off, is such a text as any
--- writer's.
+-- The compact text of a file that is compacted here, damaged in stretches or cut off, is a damaged text as of any
+-- writer.
 use Rattle.crx_filter.proofs
 use proofs.Words.{ℕ, ◌≡◌, true, false, List, [], ◌∷◌, ◌++◌, map, Option, None, refl, ap, sym, ◌∙◌}
 use proofs.Words.{subst, arith, AllByRecursion, flat_map, printed_epoch, list_all}
@@ -82,7 +82,7 @@ whole-first file choices expanding text dated h = by_units h.before
 
 -- ---- its stretches
 
--- where what is kept begins anew, it comes after whole units
+-- if the kept units begin with a restart, they follow whole units
 left-before : (choices : Choices) (kept block : List (Item Epoch)) → AreInPlace (kept ++ block)
     → BeginsAnew choices block kept → (kept ≡ [] → records_left block ≡ 0) → records_left block ≡ 0
 left-before choices [] block h anew closed = closed refl

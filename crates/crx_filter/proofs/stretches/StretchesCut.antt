@@ -1,5 +1,5 @@
--- The compact text of a file that is compacted here, damaged in stretches, cut into lines: those of its
--- units, and those that come in the stretches.
+-- The compact text of a file that is compacted here, damaged in stretches, cut into lines: those of its units, and
+-- those in the stretches.
 use Rattle.crx_filter.proofs.Words
 use Words.{common_steps, arith, ℕ, ◌≡◌, ◌⊎◌, inl, inr, true, List, [], ◌∷◌, ◌++◌, map, refl, Option}
 use Words.{append-nil, AllByRecursion, list_all, drop-append_seam, Piece}
@@ -36,7 +36,7 @@ good-up_to before (s ∷ later) h = grind (arith, good-before, good-up_to (up_to
 
 -- ---- the units that are kept
 
--- their lines are those of the longer text without those of the shorter
+-- their lines are the lines of the longer text after those of the shorter
 pub kept-lines : (choices : Choices) (kept block : List (Item Epoch)) → AreInPlace (kept ++ block)
     → header_has_ended block ≡ true
     → lines_after choices block (kept ++ block) ≡ lines_on choices.every kept block
@@ -65,7 +65,7 @@ as_stretches every before (s ∷ later) =
 
 -- ---- the lines of the text
 
--- bytes that end with a line, and then others, if there are any
+-- bytes that end with a line, followed by others, if there are any
 ended-cut : (instead : List ℕ) (lines : List (List ℕ)) (text : List ℕ) → AllByRecursion IsClean lines
     → ((lines ≡ []) × (text ≡ [])) ⊎ (list_all (λ (piece : Piece). piece.is_ended) (pieces_of instead) ≡ true)
     → map as_read (lines_of (instead ++ (lines_text lines ++ text)))

@@ -1,4 +1,4 @@
--- The reading of a text that is damaged in stretches: after each stretch the units that are kept, exactly.
+-- The reading of a text that is damaged in stretches: after each stretch exactly the kept units.
 use Rattle.crx_filter.proofs
 use proofs.Words.{arith, ◌≡◌, true, List, [], ◌∷◌, ◌++◌, map, refl, append_assoc, append-nil}
 use proofs.Words.{AllByRecursion, flat_map, flat_map-append, ReadLine, Content, Epoch, FileUnit, IsWholeEpoch}
@@ -64,7 +64,7 @@ sound-later before s later sound = grind (arith, common_steps, header-on)
 
 -- ---- one stretch
 
--- what is read of its lines, and then of those that are kept
+-- the items read from its lines, and then from the kept ones
 pub record IsStepRead (before : List (FileUnit Epoch)) (s : Stretch) (so_far : List ReadLine)
     (items : List (Item ReadEpoch))
     : Type 0 where
@@ -105,7 +105,7 @@ one-stretch before s later so_far items sound come =
 
 -- ---- its output
 
--- the printed epochs among what is read of a stretch
+-- the printed epochs among the items read from a stretch
 news-printed : (news : List (Item ReadEpoch))
     → AreEpochs news → expanded_lines news ≡ flat_map printed_epoch (epochs_of news)
 news-printed [] h = refl

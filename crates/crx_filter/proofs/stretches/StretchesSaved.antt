@@ -1,4 +1,4 @@
--- What an expansion that skips faults writes and reports of a text that is damaged in stretches.
+-- The output and messages of an expansion that skips faults, of a text that is damaged in stretches.
 use Rattle.crx_filter.proofs
 use proofs.Words.{ℕ, ◌≡◌, true, List, [], ◌++◌, map, reverse, None, refl, arith}
 use proofs.Words.{append-nil, lines_of, lines_text, ReadLine, Content, as_read, Epoch, FileUnit, ReadEpoch}
@@ -16,7 +16,7 @@ use proofs.stretches.OpenReading.{open-ends, open-items, pending}
 use proofs.stretches.StretchesRead.{WereReadAs, AreSound, next-closed, stretches-read, placed-up_to}
 use proofs.wayback.{ExpandedStandard.printed-read, ExpandedWhole.{AreGoodEpochs, epochs-good}}
 
--- what is written and reported where such a reading ends, with more read after the items of the units before
+-- the output and messages if such a reading ends, with more read after the items of the units before
 pub record IsWrittenFor (before : List (FileUnit Epoch)) (items more : List (Item ReadEpoch))
     (r : Reading ReadEpoch)
     (result : FilterResult) : Type 0 where
@@ -34,7 +34,7 @@ module _ (before : List (FileUnit Epoch)) (stretches : List Stretch) (damaged : 
   pub sound : AreSound before stretches
   sound = grind (arith, common_steps, in-place)
 
-  -- how the lines before the first stretch are read
+  -- the reading of the lines before the first stretch
   pub front : AreRead true 3 before (d.text).lines (d.text).last
   front = all-read true 3 before (d.text).lines (d.text).last
       (placed-up_to before stretches sound.in_place) (d.text).written

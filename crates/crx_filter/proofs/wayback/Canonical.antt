@@ -1,11 +1,11 @@
--- Compact text is canonical: a file's normal form is compacted as the file, and comes back from that text.
+-- Compact text is canonical: a file's normal form is compacted as the file, and is restored from that text.
 use Rattle.crx_filter.proofs.Words.{ℕ, ◌≡◌, List, None, map, lines_of, as_read}
 use Rattle.crx_filter.proofs.Words.{Choices, compact_unit, compacted, normal_form, whole_of}
 use Rattle.crx_filter.proofs.Words.{HasNormalForm, result_of}
 use Rattle.crx_filter.proofs.wayback.{NormalForm.read-as_normal, Standard.same-reading}
 use Rattle.crx_filter.specs.meaning.Canonical.{CompactsAsNormal}
 
--- a compaction is what the reading makes of it that skips nothing, where that has no fault
+-- without a fault a compaction follows the reading that skips nothing
 pub compacted-by : (file : List ℕ) (choices : Choices) → (whole_of file).fault ≡ None
     → compacted file choices ≡ result_of (compact_unit choices) (whole_of file)
 compacted-by file choices good = cc (same-reading choices.skip (map as_read (lines_of file)) good)

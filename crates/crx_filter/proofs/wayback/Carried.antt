@@ -1,5 +1,5 @@
--- What was accepted of a RINEX file, written again and read again: the units without the warnings between
--- them, with the same header, events and types in force.
+-- The accepted units of a RINEX file, written and read again: the units without the warnings between them, with the
+-- same header, events and types in force.
 use Rattle.crx_filter.proofs.Words
 use Words.{rules, refl, length-map, common_steps, ℕ, ◌≡◌, ◌+◌, ◌<◌, true, false, cond, Bool, List, [], ◌∷◌}
 use Words.{◌++◌, map, length, None}
@@ -19,7 +19,7 @@ units_in (Warned at ∷ before) = units_in before
 
 -- ---- the same state
 
--- some items leave what some units do: the same header, the same records to come, and the same types
+-- some items leave the same as some units: the same header, the same number of records to be read, and the same types
 pub record IsLike {E : Type 0} (items : List (Item E)) (units : List (FileUnit Epoch)) : Type 0 where
   pub header : header_has_ended items ≡ header_has_ended (as_items units)
   pub start : is_at_start items ≡ is_at_start (as_items units)
@@ -56,7 +56,7 @@ record-here beginning items line other ended_reading e some good = grind arith
 
 -- ---- one unit after another
 
--- so many lines were read to their end, after some items
+-- these lines were read to their end, after some items
 abbrev pub AllRead : {E : Type 0} → (List (Item E) → List ReadLine → Place (FileUnit E)) → Bool
     → List (Item E) → ℕ
     → List (List ℕ) → List (Item E) → Type 0

@@ -1,4 +1,4 @@
--- A file comes back only where it is standard: the lines that are written are plain, and printed as they are.
+-- Only a standard file is restored: the written lines are plain, and printed as they are.
 use Rattle.std.proofs.Common.{rules}
 use Rattle.crx_filter.proofs
 use proofs.Words.{ℕ, ℤ, zero, suc, ◌≡◌, ◌+◌, ◌-◌, ◌<◌, ◌≤◌, true, List, [], ◌∷◌, ◌++◌, map}
@@ -66,7 +66,7 @@ row-printable : (row : Row) → IsSoundRow row → list_all is_printable (printe
 row-printable row sound =
     search (cells-printable, kept-text, sound-name_kept, trimmed-printable, list_all-append)
 
--- what holds of each printed row holds of all
+-- a fact about each printed row is one about all
 pub rows-all : (P : List ℕ → Type 0) → ((row : Row) → IsSoundRow row → P (printed_row row)) →
     (rows : List Row)
     → All IsSoundRow rows → AllByRecursion P (map printed_row rows)

@@ -1,5 +1,4 @@
--- Lines that are written and cut again are these lines; and what is read of an input holds no LF and isn't
--- too long.
+-- Lines that are written and cut again are these lines; and a line read from an input holds no LF and isn't too long.
 use Rattle.crx_filter.proofs.Words
 use Words.{◌++◌, common_steps, arith, ℕ, ◌≡◌, ◌≤◌, true, false, List, [], ◌∷◌, map, length, refl}
 use Words.{ap, append_assoc, ⊤, AllByRecursion, All-head, All-tail, All-cons, All-nil, ltb-false}
@@ -39,7 +38,7 @@ front-cut (line ∷ lines) text h = search (front-cut lines text h.1, append_ass
 abbrev pub CanStand : List ℕ → Type 0
 CanStand line = HasNoFeed line × (length line ≤ LINE_LIMIT)
 
--- what holds of a line's content
+-- a fact about a line's content
 abbrev pub OfContent : (List ℕ → Type 0) → ReadLine → Type 0
 OfContent P (Content line) = P line
 OfContent P Overlong = ⊤

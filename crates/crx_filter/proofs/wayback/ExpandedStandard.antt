@@ -1,5 +1,5 @@
--- What an expansion writes is standard: what was read of compact text is in place, as units of RINEX, and
--- what is copied is a line.
+-- The output of an expansion is standard: the units read from compact text are in place, as units of RINEX, and a
+-- copied line is a line.
 use Rattle.crx_filter.proofs
 use proofs.Words.{common_steps, [], ℕ, ◌≡◌, Bool, true, List, ◌∷◌, ◌++◌, None}
 use proofs.Words.{refl, ap, ◌∙◌, arith, AllByRecursion, and_parts, not-true}
@@ -85,7 +85,7 @@ printed-read [] = refl
 printed-read (Accepted unit ∷ before) = ap (λ ls. ls ++ printed_unit (rinex_unit unit)) (printed-read before)
 printed-read (Warned at ∷ before) = printed-read before
 
--- lines of which each is plain once they are written and cut again have no CR at their ends
+-- if each of some lines is plain after they are written and cut again, none has a CR at its end
 cut-plain : (lines : List (List ℕ)) → AllByRecursion CanStand lines
     → has_plain_lines (lines_text lines) ≡ true → AllByRecursion NoReturn lines
 cut-plain [] h e = tt

@@ -1,4 +1,4 @@
--- What was accepted of compact text: each epoch is whole, by the types in force where it was read.
+-- The accepted units of compact text: each epoch is whole, by the types in force at its lines.
 use Rattle.crx_filter.proofs.Words
 use Words.{refl, subst, [], ℕ, ◌≡◌, List, ◌∷◌, ⊤, AllByRecursion, ReadLine, Done, FileUnit}
 use Words.{Observation, ReadEpoch, epoch_at, IsGood, Item, Accepted, Warned, arith}
@@ -7,7 +7,7 @@ use Rattle.crx_filter.proofs.reading.{ForwardCompact.compact_beginning, Types.co
 use Rattle.crx_filter.proofs.reading.WhatStands.{StandsAt, Stands, chosen, of-unit, of-compact}
 use Rattle.crx_compact.{proofs.soundness.Goodness.reads-whole, specs.ReadingLaws.HasPrintableMarks}
 
--- an epoch is one that is read of some lines
+-- an epoch is read from some lines
 abbrev pub IsReadAt : List (Item ReadEpoch) → List ReadLine → ReadEpoch → ℕ → Type 0
 IsReadAt items lines read count = epoch_at (types_in_force items) (raws_kept items) lines ≡ Done read count
 
@@ -23,7 +23,7 @@ compact-stands items lines unit count e =
 
 -- ---- all that were accepted
 
--- each epoch is good by the types in force where it was read
+-- each epoch is good by the types in force at its lines
 abbrev pub AreGoodEpochs : List (Item ReadEpoch) → Type 0
 AreGoodEpochs [] = ⊤
 AreGoodEpochs (Accepted (Observation read) ∷ before) = IsGood (types_in_force before) read

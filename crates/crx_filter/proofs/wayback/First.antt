@@ -27,7 +27,7 @@ program-read date = grind (arith, common_steps, drop-append_seam, date-width)
 
 -- ---- each is cut off again
 
--- a printable character is none that isn't
+-- a printable character differs from every other
 pub printable-other : (c d : ℕ) → is_printable d ≡ false → is_printable c ≡ true → c ≢ d
 printable-other c d isn_t is_so is = grind arith
 

@@ -1,4 +1,4 @@
--- What was accepted by a compaction, and how its compact text is read: the same header, events and types in
+-- The accepted units of a compaction, and the reading of its compact text: the same header, events and types in
 -- force.
 use Rattle.crx_filter.proofs.Words
 use Words.{common_steps, ℕ, ◌≡◌, false, List, [], ◌∷◌, Option, refl, arith}
@@ -10,11 +10,11 @@ use Rattle.crx_compact.proofs.wayback.Standing.{lines-stand}
 use Rattle.crx_compact.specs.Laws.{AreWhole}
 use Rattle.crx_compact.specs.meaning.Compaction.{since_full}
 
--- an epoch with its mark
+-- an epoch marked whether it is full
 abbrev pub marked_now : Option ℕ → List (Item Epoch) → Epoch → Marked
 marked_now every before epoch = record { in_full = is_in_full every before; epoch = epoch }
 
--- the lines of a unit, the two first lines of compact text left out
+-- the lines of a unit, without the two first lines of compact text
 abbrev pub body_unit : Option ℕ → List (Item Epoch) → FileUnit Epoch → List (List ℕ)
 body_unit every before (HeaderLine line) = line ∷ []
 body_unit every before (EventLine line) = line ∷ []
@@ -28,7 +28,7 @@ pub not-interrupted : (every : Option ℕ) (before : List (Item Epoch))
     → is_in_full every before ≡ false → is_interrupted before ≡ false
 not-interrupted every before e = grind (arith, common_steps)
 
--- they are whole by the types in force: types change only at an event, and the next epoch after it is in full
+-- they are whole by the types in force: types change only at an event, and the next epoch after it is full
 whole-since : (every : Option ℕ) (items : List (Item Epoch)) → AreInPlace items
     → is_interrupted items ≡ false → AreWhole (types_in_force items) (since_full (marked_epochs every items))
 whole-since every (Accepted (Observation epoch) ∷ before) h e =

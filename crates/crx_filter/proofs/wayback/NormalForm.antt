@@ -1,4 +1,4 @@
--- What was accepted, printed and read again; the normal form of a file, and a file that is in order.
+-- The accepted units, printed and read again; the normal form of a file, and a file in order.
 use Rattle.crx_filter.proofs
 use proofs.Words.{ℕ, ◌≡◌, ◌+◌, ◌*◌, ◌≤◌, true, false, List, [], ◌∷◌, ◌++◌, map, length, Option, None, refl}
 use proofs.Words.{ap, ◌∙◌, arith, append-nil, AllByRecursion, is_some, length-map}
@@ -65,7 +65,7 @@ whole-none lines =
     }) (length lines + 1) [] 1 lines refl).1 in
     of-ended (λ items. warnings_in items ≡ []) false r.items r.stop none (λ at on. absurd (cc))
 
--- they are all that was accepted
+-- without warnings they are all items
 pub accepted-all : (items : List (Item Epoch)) → warnings_in items ≡ [] → as_items (units_in items) ≡ items
 accepted-all [] h = refl
 accepted-all (Accepted unit ∷ before) h = cc (accepted-all before h)
@@ -99,7 +99,7 @@ epoch-within n most types epoch h =
       )) epoch.rows h.sound.rows_sound,
     )
 
--- what holds of clean lines, and of each line that is copied, holds of all
+-- a fact about clean lines, and about each copied line, is one about all
 printed-lines : (P : List ℕ → Type 0) → ((line : List ℕ) → IsClean line → P line)
     → (items : List (Item Epoch))
     → AreInPlace items → OfCopiedLines P items → AllByRecursion P (printed_items items)
@@ -122,7 +122,7 @@ pub printed-stand : (items : List (Item Epoch)) → AreInPlace items
     → OfCopiedLines CanStand items → AllByRecursion CanStand (printed_items items)
 printed-stand = printed-lines CanStand (λ line c. (c.one_line, c.short))
 
--- what was accepted, printed and read again
+-- the accepted units, printed and read again
 pub printed-again : (items : List (Item Epoch)) → IsSettled items → HaveNoReturns items → whole_of (lines_text
     (printed_items items)) ≡ record { items = as_items (units_in items); fault = None }
 printed-again items h none =

@@ -1,5 +1,5 @@
--- The lines that a compaction wrote, read one unit after another; and what an input's lines give to the lines
--- that are copied.
+-- The lines that a compaction wrote, read one unit after another; and facts about an input's lines as facts about the
+-- copied lines.
 use Rattle.crx_filter.proofs.Words
 use Words.{[], ◌∷◌, ℕ, ◌≡◌, ◌≤◌, Bool, List, Option, AllByRecursion, ReadLine}
 use Words.{Epoch, Item, HeaderLine}
@@ -28,7 +28,7 @@ copied (Accepted (EventRecord line) ∷ before) = line ∷ copied before
 copied (Accepted (Observation epoch) ∷ before) = copied before
 copied (Warned at ∷ before) = copied before
 
--- what holds of each line's content holds of each line that is copied
+-- a fact about each line's content is one about each copied line
 pub of-own : {E : Type 0} (place : List (Item E) → List ReadLine → Place (FileUnit E)) → CopiesLines place
     → (P : List ℕ → Type 0) (number : ℕ) (items : List (Item E)) (lines kept : List ReadLine)
     → OwnInOrder place number items lines kept → AllByRecursion (OfContent P) lines
@@ -51,7 +51,7 @@ of-own place copies P number (Warned at ∷ before) lines kept (front, own, othe
       of-own place copies P number before front others rest,
     )
 
--- and the lines that are copied have no more bytes 13
+-- the copied lines have no more bytes 13 than all lines
 pub own-counted : {E : Type 0} (place : List (Item E) → List ReadLine → Place (FileUnit E))
     → CopiesLines place
     → (number : ℕ) (items : List (Item E)) (lines kept : List ReadLine)

@@ -1,5 +1,5 @@
--- The bytes 13 of a file on the way to compact text and back: they never become more, and fewer where a
--- copied line ends in CR. So a file that comes back has no such line.
+-- The bytes 13 of a file on the way to compact text and back: their number never rises, and it falls if a copied line
+-- ends in CR. So a restored file has no such line.
 use Rattle.crx_filter.proofs.Words
 use Words.{ℕ, ◌≡◌, ◌+◌, ◌<◌, ◌≤◌, true, cond, List, [], ◌∷◌, ◌++◌, map, take, drop, refl, arith}
 use Words.{◌==◌, AllByRecursion, list_all, and_parts, Piece, pieces_of, ends_with_return}
@@ -9,7 +9,7 @@ use Rattle.crx_filter.proofs.wayback.{Cut.first-cut, First.printable-other}
 use Words.{common_steps}
 use Rattle.std.proofs.lemmas.List.{take-append-drop}
 
--- what the elements of a list have together
+-- the sum of `f` over a list
 abbrev pub total : {X : Type 0} → (X → ℕ) → List X → ℕ
 total f [] = 0
 total f (x ∷ xs) = f x + total f xs
@@ -82,7 +82,7 @@ of-pieces : (input : List ℕ) → returns_of (pieces_of input) ≤ returns inpu
 of-pieces [] = omega arith
 of-pieces (b ∷ bs) = grind (arith, of-pieces bs)
 
--- what is read of an input has no more than the input
+-- the lines read from an input have no more than the input
 pub read-input : (input : List ℕ) → returns_read (map as_read (lines_of input)) ≤ returns input
 read-input input = omega (arith, read-pieces (pieces_of input), of-pieces input)
 
@@ -94,7 +94,7 @@ pub left-kept : (lines : List (List ℕ)) → returns_left lines ≤ returns_in 
 left-kept [] = omega arith
 left-kept (line ∷ lines) = omega (arith, returns-kept line, left-kept lines)
 
--- lines that are written and read again have lost one CR where one ended them
+-- lines that are written and read again have lost one CR if one ended them
 pub read-written : (lines : List (List ℕ)) → AllByRecursion HasNoFeed lines
     → returns_read (map as_read (lines_of (lines_text lines))) ≤ returns_left lines
 read-written [] h = omega arith

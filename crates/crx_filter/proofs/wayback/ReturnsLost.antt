@@ -1,5 +1,5 @@
--- A file comes back byte for byte only where no copied line ends in CR: else it comes back with fewer bytes
--- 13. So it is standard.
+-- A file is restored byte for byte only if no copied line ends in CR; otherwise it has fewer bytes 13 then. So it is
+-- standard.
 use Rattle.crx_filter.proofs
 use proofs.Words.{ℕ, ◌≡◌, ◌+◌, ◌<◌, ◌≤◌, Bool, true, List, [], ◌∷◌, map, drop, refl}
 use proofs.Words.{arith, ◌⊎◌, inl}
@@ -47,7 +47,7 @@ keeps-or_loses (Accepted unit ∷ before) = grind
     (arith, returns-fewer, left-kept, returns-kept, keeps-or_loses before)
 keeps-or_loses (Warned at ∷ before) = keeps-or_loses before
 
--- the lines of compact text have no more of them at their ends than the lines that are copied
+-- the lines of compact text have no more of them at their ends than the copied lines
 first-none : (date : List ℕ) → is_date date ≡ true → (b : Bool)
     → returns_left (lines_before_header date b) ≡ 0
 first-none date dated true = omega (

@@ -1,5 +1,5 @@
--- A standard file comes back byte for byte: nothing of it is skipped, no line of it ends in CR, and printing
--- gives back its lines.
+-- A standard file is restored byte for byte: nothing of it is skipped, no line of it ends in CR, and its lines are as
+-- RINEX prints them.
 use Rattle.crx_filter.proofs.Words
 use Words.{common_steps, arith, ℕ, zero, suc, ◌≡◌, ◌+◌, Bool, true, false, List, []}
 use Words.{◌∷◌, map, length, Option, Some, None, refl, ap, ◌∙◌, AllByRecursion, list_all}

@@ -66,7 +66,7 @@ all-accepted : (file : List ℕ)
     → as_items (units_in (WholeReading.items (whole_of file))) ≡ WholeReading.items (whole_of file)
 all-accepted file = grind (arith, common_steps, accepted-all, whole_of, whole-none, as_read, lines_of)
 
--- the units that are read of a standard file
+-- the units read from a standard file
 pub read-units : (file : List ℕ) → IsStandard file → MakeAFile (units_in (WholeReading.items (whole_of file)))
 read-units file h = search (all-accepted, make-file, whole-settled, whole-copied, plain-no_return)
 

@@ -1,4 +1,4 @@
--- What was compacted comes back.
+-- A compacted file is restored.
 use Rattle.crx_filter.proofs
 use proofs.Words.{common_steps, ℕ, ◌≡◌, ◌+◌, ◌*◌, ◌≤◌, Bool, true, false, List, [], ◌∷◌, map, length}
 use proofs.Words.{Option, Some, None, refl, arith, AllByRecursion, list_all, lines_of}
@@ -22,7 +22,7 @@ use proofs.wayback.Reading.{lines_back, whole-copied}
 
 -- ---- the end of the compaction
 
--- what was accepted, where the compaction isn't ended by a fault
+-- the accepted units, if no fault ends the compaction
 pub record IsSettled (items : List (Item Epoch)) : Type 0 where
   pub in_place : AreInPlace items
   pub copied : OfCopiedLines CanStand items
@@ -32,7 +32,7 @@ pub record IsSettled (items : List (Item Epoch)) : Type 0 where
 abbrev pub IsClosed : {E : Type 0} → List (Item E) → Type 0
 IsClosed items = (header_has_ended items ≡ true) × (records_left items ≡ 0)
 
--- where the end of the input is no fault, it comes after whole units
+-- if the end of the input is no fault, it follows whole units
 closes : {E : Type 0} (place : List (Item E) → List ReadLine → Place (FileUnit E)) (skip : Bool)
     (items : List (Item E)) (stop : Stop) (next : ℕ) → IsStopped place items stop next
     → WholeReading.fault (ended_reading skip (record { items = items; stop = stop })) ≡ None
@@ -86,7 +86,7 @@ lines-same choices (Warned at ∷ before) h e = lines-same choices before h.1 (s
 
 -- ---- each of them is read as it was written
 
--- what holds of each unit's lines, and of each line that is copied, holds of all
+-- a fact about each unit's lines, and about each copied line, is one about all
 pub written-all : (P Q : List ℕ → Type 0) (lines_of_unit : List (Item Epoch) → FileUnit Epoch → List (List ℕ))
     → ((before : List (Item Epoch)) (unit : FileUnit Epoch) → AreInPlace (Accepted unit ∷ before)
     → OfCopiedLine Q unit → AllByRecursion P (lines_of_unit before unit)) → (items : List (Item Epoch))
@@ -110,7 +110,7 @@ epoch-clean [] h k = tt
 epoch-clean (line ∷ lines) h k =
     grind (arith, epoch-clean lines h.1 k.1, printable-no_feed, printable-no_return)
 
--- what holds of clean lines, and of each line that is copied, holds of all
+-- a fact about clean lines, and about each copied line, is one about all
 pub lines-hold : (P : List ℕ → Type 0) → ((line : List ℕ) → IsClean line → P line) → (every : Option ℕ)
     (items : List (Item Epoch)) → AreInPlace items → OfCopiedLines P items
     → AllByRecursion P (lines_back every items)

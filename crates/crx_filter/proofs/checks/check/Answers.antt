@@ -42,7 +42,7 @@ returns-after-fault g c =
 pub run-status-requires-clause-drained : goal.run-status-requires-clause-drained
 run-status-requires-clause-drained g c = rw (c.over-begun.ensures) c.in-Ok.ensures.drained
 
--- a run that memory was refused to has a fault, so it is judged as any run that a fault ended
+-- a run to which memory was refused has a fault, so it is judged like any run that a fault ended
 refused-runs : (input : Input) (writer messages : Device) (status : ℕ) (fault : Option At)
     → Runs (result_by check_filter) check_filter input writer messages status fault → is_some fault ≡ true
     → Runs checked check_filter input writer messages status fault

@@ -5,7 +5,7 @@ use Rattle.crx_filter.proofs.checking.CheckingDirection.next_line.Goals as goal
 use Rattle.std.proofs.Common.{arith}
 use Rattle.std.proofs.lemmas.Grind.{common_steps}
 
--- the first of the lines behind others
+-- the first line after `count` others
 first-behind : (lines : List (List ℕ)) (count : ℕ) → slice_get (drop count lines) 0 ≡ slice_get lines count
 first-behind [] zero = refl
 first-behind [] (suc count) = refl

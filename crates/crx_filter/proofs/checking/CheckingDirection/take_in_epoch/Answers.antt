@@ -10,7 +10,7 @@ use Rattle.{crx_lines.specs.Reading.{line_shown}, std.proofs.lemmas.Result.err_f
 use Rattle.crx_filter.proofs.checking.CheckingDirection.take_in_epoch.Goals.{After-put}
 use Rattle.crx_filter.proofs.checking.CheckingDirection.take_in_epoch.Goals as goal
 
--- whether the row's satellite has come
+-- whether the row's satellite is repeated
 has-come : (c : After-put) → is_open_stage c.self.inside.reader.stage ≡ true
     → has_satellite c.read_row.new.self.row.name c.self.inside.reader.rows.rows ≡ not c.put.result
 has-come c opened = named-answer c.self.inside.noted.names c.self.inside.reader.rows.rows

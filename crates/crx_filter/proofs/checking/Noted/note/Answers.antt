@@ -31,12 +31,12 @@ begun c before made takes is =
     subst (λ step. TakesRinexLine made before (line_shown c.args.line).content step c.args.reader.now)
     is takes
 
--- whether printing gives the line back was answered
+-- whether the line equals its printed form
 abbrev IsGivenBack : After-is_some → Made ObservationEpoch OpenEpoch → Type 0
 IsGivenBack c made =
     c.match-step.is_given_back ≡ bytes_eq (line_shown c.args.line).content (last_line (printed_made made))
 
--- what the line adds, and whether printing gives it back
+-- the counts of the line, and whether it equals its printed form
 adds : (c : After-is_some) (before : RinexReader) (made : Made ObservationEpoch OpenEpoch)
     → TakesRinexLine made before (line_shown c.args.line).content c.args.step c.args.reader.now
     → (totals_held c.match-step.self.totals
@@ -85,7 +85,7 @@ adds c before made takes = elim c.match-step.branch [
 pub returns-then-is_some-plain-clause-notes : goal.returns-then-is_some-plain-clause-notes
 returns-then-is_some-plain-clause-notes c before made takes = grind (arith, adds)
 
--- where none was named before and the line isn't given back as it is, it is named
+-- if no line was named before and this one differs from its printed form, it is named
 named : (old held : Option ℕ) (is_held plain is_plain back same : Bool) (number shown : ℕ)
     → held ≡ old → is_held ≡ is_some held → (is_held || (plain && back)) ≡ false
     → plain ≡ is_plain → back ≡ same → number ≡ shown → Some number ≡ earliest old (is_plain && same) shown

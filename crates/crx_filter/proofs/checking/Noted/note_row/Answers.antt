@@ -7,7 +7,7 @@ use Rattle.crx_filter.proofs.checking.Noted.note_row.Goals.{After-is_some}
 use Rattle.crx_compact.proofs.Characters.{bytes_eq-same}
 use Rattle.crx_filter.proofs.checking.Noted.note_row.Goals as goal
 
--- what the row adds
+-- the counts of the row
 adds : (c : After-is_some) (before : RinexReader) (made : Made ObservationEpoch OpenEpoch)
     → TakesRow made c.args.is_last before c.args.reader.now
     → (totals_held c.if-is_last.self.totals

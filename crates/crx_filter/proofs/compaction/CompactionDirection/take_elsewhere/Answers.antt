@@ -17,7 +17,7 @@ use Rattle.{crx_lines.specs.Reading.line_shown}
 use Rattle.std.proofs.lemmas.Result.{err_from_is_err_and}
 use Rattle.crx_filter.proofs.compaction.CompactionDirection.take_elsewhere.Goals as goal
 
--- an epoch that was begun is in full where it is due
+-- an epoch that was begun is full if it is due
 due : (c : After-begin) (choices : Choices) → choices ≡ c.args.options.now
     → c.begin.new.self.in_full ≡ is_at_every choices.every c.self.inside.index
 due c choices chosen = ap (λ (e : EncoderState). e.in_full) c.begin.ensures.begun ∙ c.is_at_every.ensures
@@ -129,7 +129,7 @@ returns-in-Header-true c =
           (rw (c.in-Header-true.is_first-test, c.put_first_lines.ensures.put) refl) refl;
     })
 
--- the line is one that is copied, and not the header's first one
+-- the line is copied, and isn't the first header line
 is-copied : (c : After-reset)
     → (is_copied c.in_ok-take.field-0 ≡ true) × (is_first_line c.in_ok-take.field-0 ≡ false)
 is-copied c = elim c.in_default.branch [

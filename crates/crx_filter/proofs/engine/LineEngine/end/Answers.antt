@@ -10,14 +10,14 @@ use Rattle.crx_runs.specs.declared.engine.Step.{Step}
 use Rattle.crx_runs.specs.declared.engine.Step.TheVariants as Steps
 use Rattle.crx_filter.proofs.engine.LineEngine.end.Goals as goal
 
--- the engine as it was
+-- the engine before the end
 abbrev engine : {D : Type 0} → Inside D → EngineParts D
 engine e = record { options = e.options; number = e.number; direction = e.direction; answer = e.answer }
 
 goes : (g : Over) (c : After-stage-stage g) → EngineGoes g.D.Direction (engine c.self.inside)
 goes g c = goes-on g.D.Direction _ c.self.invariant.3 c.stage-stage.ensures.lawful
 
--- a good end
+-- an end without a fault
 concluded : (g : Over) (c : After-conclude g) (step : Step) → EngineGoes g.D.Direction (engine c.self.inside)
     → answer_of_step (Ok step) ≡ answer_for c.conclude.result
     → TakesEnd g.D.Direction (engine c.self.inside) (Ok step) (g.D.Direction.ready c.conclude.new.self)

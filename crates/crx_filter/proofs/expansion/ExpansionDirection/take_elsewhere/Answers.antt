@@ -5,7 +5,7 @@ use Rattle.crx_filter.{proofs.expansion.ExpansionDirection.take_elsewhere.Goals.
 use Rattle.crx_filter.{specs.ExpansionParts.expansion_ready}
 use Rattle.crx_filter.proofs.expansion.ExpansionDirection.take_elsewhere.Goals as goal
 
--- no line is ready beside one that is copied
+-- no other line is ready with a copied one
 none : (c : After-read_between)
     → expansion_ready (expansion_of c.read_between.new.self c.self.inside.lines) ≡ []
 none c = grind (arith, common_steps)
