@@ -21,7 +21,6 @@ opened-wants : (types : List Count) (line : List ℕ) (tail : Option Tail)
     → wants_more (opening (opened_raw types line tail)) ≡ true
 opened-wants types line tail = grind (arith, common_steps, satellites-wanted)
 
--- an epoch that was begun expects lines
 pub begun-wants : (types : List Count) (tail : Option Tail) (line : List ℕ) (after : ColumnsState)
     → HasMade (first_step types tail (Content line)) after None → wants_lines after ≡ true
 begun-wants types tail line after (begun, going, is) = cc (opened-wants types line (tail_for_line tail line))

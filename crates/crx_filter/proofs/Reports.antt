@@ -21,7 +21,6 @@ pub version-same : (line : List ℕ) → version_in (columns line 1 9) ≡ versi
 version-same line =
     grind (arith, common_steps, length-append, length-replicate, length-take, take-append-le, take-length)
 
--- a place within a list has an element
 pub one-there : {X : Type 0} (xs : List X) (index : ℕ) → slice_get xs index ≡ None → index < length xs → ⊥
 one-there [] index e within = omega (arith, within)
 one-there (x ∷ xs) zero e within = none-some x (sym e)

@@ -1,4 +1,4 @@
--- Compact text is read as it means, whoever wrote it, and no other text is read.
+-- Compact text of a file is expanded to that file, whoever wrote it, and no other text is accepted.
 pub mod AnyText
 pub mod OwnText
 pub mod ComesBack

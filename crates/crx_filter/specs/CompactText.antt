@@ -27,7 +27,7 @@ abbrev pub OwnTextIsOne : Type 0
 OwnTextIsOne = (units : List (FileUnit Epoch)) (choices : Choices) → is_date choices.date ≡ true → MakeAFile units
     → AreWholeFile units × IsCompactTextOf units (compact_text choices units)
 
--- ---- text that is cut off, or bad from some place on
+-- ---- text that is cut off, or damaged from some place on
 
 -- the RINEX text of the whole units that a text begins with is written first, with -s or without
 abbrev pub WritesFirstUnits : Type 0

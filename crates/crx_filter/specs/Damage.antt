@@ -68,10 +68,8 @@ pub record IsOwnDamaged (input : List ℕ) (choices : Choices) (damaged : List �
 
 -- ---- the saved units
 
--- the output and messages of an expansion of damaged text that skips faults: the exact text of all units before the
--- block, then the text of some epochs, and then the exact text of all units after it, with at most one warning. Each
--- of these epochs is whole, by the types in force at the block. The first of them are the block's own, as far as the
--- replacing lines begin with theirs
+-- the output and messages of an expansion of damaged text that skips faults, as `IsSalvaged` says. The first of the
+-- epochs are the block's own, as far as the replacing lines begin with theirs
 pub record IsOwnSalvaged (input : List ℕ) (choices : Choices)
     (damaged : List ℕ) (damage : IsOwnDamaged input choices damaged) (result : FilterResult) : Type 0 where
   pub epochs : List Epoch

@@ -30,8 +30,7 @@ pub record IsReadWhole (file : List ℕ) (choices : Choices) : Type 0 where
 
 -- ---- stretches
 
--- a damaged stretch: the lost units, the bytes that replace their lines, and the units that are kept after it, up to
--- the next stretch or the end
+-- a damaged stretch, as `Stretch`, with bytes instead of lines
 pub record OwnStretch : Type 0 where
   pub lost : List (Item Epoch)
   pub instead : List ℕ
@@ -92,8 +91,7 @@ pub record HasOwnStretches (file : List ℕ) (choices : Choices) (damaged : List
 
 -- ---- the saved units
 
--- the lines written after these units: for each stretch some whole epochs, by the types in force there, and then
--- exactly the kept units
+-- the lines written after these units, as `Saves` says
 abbrev pub SavesOwn : List (Item Epoch) → List OwnStretch → List (List ℕ) → Type 0
 SavesOwn before [] lines = lines ≡ []
 SavesOwn before (s ∷ later) lines = (found : List Epoch) × (rest : List (List ℕ))
@@ -101,8 +99,7 @@ SavesOwn before (s ∷ later) lines = (found : List Epoch) × (rest : List (List
     × (lines ≡ flat_map printed_epoch found ++ (printed_items s.kept ++ rest))
     × SavesOwn (up_to_own_next before s) later rest
 
--- the output and messages of an expansion of such a text that skips faults: exactly the units before the first
--- stretch, and the saved lines after them. No fault ends it, and all its messages are warnings
+-- the output and messages of an expansion of such a text that skips faults, as `KeepsTheRest` says
 pub record KeepsOwnRest (file : List ℕ) (choices : Choices)
     (damaged : List ℕ) (damage : HasOwnStretches file choices damaged) (result : FilterResult) : Type 0 where
   pub lines : List (List ℕ)

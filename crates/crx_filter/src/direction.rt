@@ -75,7 +75,7 @@ pub trait Direction: Drop {
         ensures value { result ≡ chosen options }
         ensures same { chosen result ≡ result };
 
-    /// Returns a direction before the first line of its input, or `Refused`.
+    /// Returns a direction before the first line of its input, or `Refused` if memory is refused.
     fn new(alloc: Global) -> Result<Self, Refused>
         ensures state { (choices : Choices) → chosen choices ≡ choices
             → IfOk result (λ d. state_by choices 0 (parts d) ≡ state_after_lines choices []) }
@@ -92,7 +92,7 @@ pub trait Direction: Drop {
         ensures lawful { IsLawfulDirection by_line chosen closing_after state_after_lines filter }
         ensures passes { KnowsStill by_line chosen state_after_lines (parts self.now) (notes self.now) };
 
-    /// Takes a line of the open epoch. `Ok(true)`: lines are ready. Returns the line's fault.
+    /// Takes a line of the open epoch. `Ok(true)`: lines are ready. Returns the fault of an invalid line.
     fn take_in_epoch(&mut self, line: Line<'_>) -> Result<bool, Fault>
         requires open { is_open_stage (parts self.old).stage ≡ true }
         requires asked { AwaitsLine (ready self.old) (counted self.old) }
@@ -102,7 +102,7 @@ pub trait Direction: Drop {
             (notes self.old) (notes self.new) };
 
     /// Takes a line when no epoch is open, and returns its output: nothing, the ready lines, or these and
-    /// then the line itself. Returns the line's fault.
+    /// then the line itself. Returns the fault of an invalid line.
     fn take_elsewhere(&mut self, options: &Options, line: Line<'_>) -> Result<HandedOut, Fault>
         requires running { is_ended (parts self.old).stage ≡ false }
         requires closed { is_open_stage (parts self.old).stage ≡ false }

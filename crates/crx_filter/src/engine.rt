@@ -71,9 +71,9 @@ impl<D: Direction> LineEngine<D> {
         }
     }
 
-    /// Stores the answer to `fault` in the current line. `skips`: faults may be skipped at this stage;
-    /// `is_open`: an epoch is open; `goes_on`: reading may resume at this line. Flags instead of the stage
-    /// need no temporary at each line.
+    /// Stores the answer to `fault` in the current line: a warning if it is skipped, otherwise the end of the
+    /// run. `skips`: faults may be skipped at this stage; `is_open`: an epoch is open; `goes_on`: reading may
+    /// resume at this line. Flags instead of the stage need no temporary at each line.
     #[cold]
     #[inline(never)]
     fn fail(&mut self, skips: bool, is_open: bool, fault: Fault, goes_on: bool)
@@ -163,8 +163,8 @@ impl<D: Direction> LineEngine<D> {
         }
     }
 
-    /// Takes line `number`, which is too long. Returns the answer to the fault `LineTooLong`, or `Quiet` if
-    /// the engine is looking for a line that begins with `>`.
+    /// Takes line `number`, which is too long. Returns `Quiet` if the engine is looking for a line that
+    /// begins with `>`; otherwise its fault is `LineTooLong`, which is skipped with a warning or returned.
     pub(crate) fn overlong(&mut self, number: u64) -> Result<Step, At>
         requires next { IsNextLine (engine_ready D.Direction self.old) self.old.number number }
         ensures steps { step_made result [] (engine_state D.Direction self.new)
@@ -187,8 +187,8 @@ impl<D: Direction> LineEngine<D> {
         }
     }
 
-    /// Takes the end of the input. `Ready`: the direction has lines if the input ends without a fault, as a
-    /// check does. `Warned`: the fault at the end is skipped. Returns the fault at the end, or the fault that
+    /// Takes the end of the input. Returns `Ready` if the direction has lines then, as a check does, or
+    /// `Warned` if the fault at the end is skipped; or as an error the fault at the end, or the fault that
     /// had ended the run.
     pub(crate) fn end(&mut self) -> Result<Step, At>
         requires drained { engine_ready D.Direction self.old ≡ [] }

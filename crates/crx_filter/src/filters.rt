@@ -78,10 +78,10 @@ pub fn compact<R: Source, W: Sink, M: Sink>(
 /// option that it uses is whether faults are skipped.
 ///
 /// A file that passes a check is restored byte for byte from its compact text, and the compact text of units
-/// that make a file becomes their RINEX text. Compact text that follows the format is read as it means,
-/// whoever wrote it, and no other text ends with status 0. If no fault ends the run, whatever the text, the
-/// output is a standard file unless a line of it ends in CR. Then each unit is read from its own lines after
-/// the first two, and a warning drops the other lines, never past the next `>`.
+/// that make a file becomes their RINEX text. Compact text that follows the format is expanded to the file
+/// that it encodes, whoever wrote it, and no other text ends with status 0. If no fault ends the run,
+/// whatever the text, the output is a standard file unless a line of it ends in CR. Then each unit is read
+/// from its own lines after the first two, and a warning drops the other lines, never past the next `>`.
 #[inline(never)]
 pub fn expand<R: Source, W: Sink, M: Sink>(
     alloc: Global,

@@ -65,8 +65,8 @@ impl<D: Direction> Lender<D> {
         })
     }
 
-    /// Takes line `number`, which is too long: as [`Lender::feed`] with the fault `LineTooLong`, or `Quiet`
-    /// if the engine is looking for a line that begins with `>`.
+    /// Takes line `number`, which is too long. Returns `Quiet` if the engine is looking for a line that
+    /// begins with `>`; otherwise the answer of [`Lender::feed`] to the fault `LineTooLong`.
     pub fn overlong(&mut self, number: u64) -> Result<Step, At>
         requires next { IsNextLine (lender_ready D.Direction self.old) self.old.engine.number number }
         ensures steps { step_made result [] (lender_state D.Direction self.new)
@@ -78,8 +78,8 @@ impl<D: Direction> Lender<D> {
         self.engine.overlong(number)
     }
 
-    /// Takes the end of the input. `Ready`: the direction has lines if the input ends without a fault, as a
-    /// check does. `Warned`: the fault at the end is skipped. Returns the fault at the end. A second call
+    /// Takes the end of the input. Returns `Ready` if the direction has lines then, as a check does, or
+    /// `Warned` if the fault at the end is skipped; or as an error the fault at the end. A second call
     /// succeeds with the same lines, or returns the fault that ended the run.
     pub fn end(&mut self) -> Result<Step, At>
         requires drained { lender_ready D.Direction self.old ≡ [] }

@@ -3,7 +3,7 @@ use Rattle.crx_filter.proofs.Words.{ℕ, List, subst, Choices, expanded, FilterR
 use Rattle.crx_filter.specs.meaning.CompactText.{ReadsAnyText}
 use Rattle.crx_filter.proofs.anywriter.AnyText.{any-text}
 
--- facts about the result of a text's expansion are facts about the meaning of the text
+-- if `holds` is true of the result of a text's expansion, it is true of the text's meaning
 pub reads-any : (holds : FilterResult → Type 0) (choices : Choices) (text : List ℕ)
     → holds (expanded text choices)
     → ReadsAnyText holds text

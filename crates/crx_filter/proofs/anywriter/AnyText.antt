@@ -224,7 +224,7 @@ one-file text one two h k first second =
     (sym a.reads ∙ ap (reading_from compact_place false [] 3) same ∙ b.reads) in
     cc (units-again one, units-again two, a.known, b.known, items)
 
--- ---- text that is cut off, or bad from some place on
+-- ---- text that is cut off, or damaged from some place on
 
 pub first-units : WritesFirstUnits
 first-units units text choices placed h =

@@ -81,7 +81,6 @@ module _ (items : List (Item ReadEpoch)) (units : List (FileUnit Epoch)) (before
         written = (found.now, found.epoch, refl, found.written);
       }
 
-  -- the lines of a unit at some lines are these lines
   pub unit-back : (lines : List ReadLine) (unit : FileUnit ReadEpoch) (count : ℕ)
       → compact_place items lines ≡ Done unit count → UnitBack items units before unit (take count lines)
   unit-back lines unit count e = by_unit unit (compact-stands items lines unit count e)

@@ -40,8 +40,8 @@ pub printed-append : (later before : List (Item Epoch))
 printed-append [] before = sym (append-nil (printed_items before))
 printed-append (item ∷ later) before = grind (arith, common_steps, printed-append later before, append_assoc)
 
--- ---- the epoch that the lines after some items may go on from,
--- the epoch that the lines after a block may continue from
+-- ---- the epoch that later lines may continue from
+-- the epoch that the lines after a block may continue from; `start` is the one for the first of them
 
 abbrev pub state_on : Option WrittenEpoch → Option ℕ → List (Item Epoch) → List (Item Epoch)
     → Option WrittenEpoch

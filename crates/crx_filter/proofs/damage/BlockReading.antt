@@ -56,7 +56,6 @@ pub skipped-here : (items : List (Item ReadEpoch)) (fault : Fault)
     → IsBetweenUnits items → is_skippable fault ≡ true → is_skipped true items fault ≡ true
 skipped-here items fault h may = cc
 
--- the next line that begins with > cuts an epoch off
 pub place-cut : (items : List (Item ReadEpoch)) (first : List ℕ) (lines : List ReadLine)
     (line : List ℕ) (rest : List ReadLine) → IsBetweenUnits items → is_event_line first ≡ false
     → begins_epoch line ≡ true → compact_place items (Content first ∷ lines) ≡ NeedsMore → compact_place items

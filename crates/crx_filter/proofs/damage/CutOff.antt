@@ -6,7 +6,6 @@ use Rattle.crx_filter.proofs.Words.{RawEpoch, Past, BegunEpoch, rows_read, epoch
 use Rattle.crx_compact.proofs.reading.SteadyEpochs.{steady-rows_read}
 use Rattle.{crx_filter.proofs.following.Lines.one_line-decided, crx_rinex.proofs.Steady.steady-first_line}
 
--- if more lines are expected, one that begins with > is a fault
 abbrev IsCutOff : {X : Type 0} → (List ReadLine → Place X) → Type 0
 IsCutOff place = (lines : List ReadLine) (line : List ℕ) → begins_epoch line ≡ true
     → place lines ≡ NeedsMore → place (lines ++ Content line ∷ []) ≡ Fails (length lines) Truncated

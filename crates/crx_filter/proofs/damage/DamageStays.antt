@@ -54,7 +54,7 @@ module _ (before : List (FileUnit Epoch)) (s : Stretch) (damaged : List ℕ)
   block-few : length (warnings_in (one.first.news ++ start)) + pending (reading s.instead).stop ≤ 1
   block-few = grind (arith, common_steps, open-items, one, after-front, few-warned, start-silent)
 
-  -- ---- the epochs whose lines stand at the block's beginning
+  -- ---- the epochs whose lines are at the block's beginning
 
   own-epochs : (units : List (FileUnit Epoch)) (lines : List (List ℕ)) (last : Option WrittenEpoch)
       (rest : List ReadLine)

@@ -26,7 +26,7 @@ pub lines-append : (one two : List ℕ) → EachEnded (pieces_of one) → map as
     ≡ map as_read (lines_of one) ++ map as_read (lines_of two)
 lines-append one two e = search (pieces-append, map-append)
 
--- ---- the lines in place of the block's
+-- ---- the lines that replace the block's
 
 -- none of them is too long
 pub instead-read : (lines : List InputLine) → list_all may_replace lines ≡ true

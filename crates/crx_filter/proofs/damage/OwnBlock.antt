@@ -83,7 +83,7 @@ epochs-among [] = refl
 epochs-among (epoch ∷ later) =
     grind (arith, common_steps, epochs-among later, units-append, among-append, units_in)
 
--- ---- the lines in place of the block's
+-- ---- the lines that replace the block's
 
 inside-read : (lines : List InputLine) → list_all may_replace lines ≡ true
     → list_all is_inside (map as_read lines) ≡ true
@@ -183,7 +183,7 @@ module _ (input : List ℕ) (choices : Choices) (damaged : List ℕ)
     text = d.text ∙ rw (d.parts, epochs-items d.before epochs, text-append) (simp (append_assoc, append-nil));
   }
 
-  -- its stretch is a block as of any writer
+  -- its stretch is a block, as in text of any writer
   text-cut : map as_read (lines_of (lines_text (full ∷ []) ++ d.instead))
       ≡ Content full ∷ map as_read (lines_of d.instead)
   text-cut = front-cut (full ∷ []) d.instead (first-clean, tt)

@@ -34,7 +34,7 @@ pub warnings-with : (warnings : List At) (items : List (Item ReadEpoch))
 warnings-with [] items = refl
 warnings-with (at ∷ older) items = ap (λ w. at ∷ w) (warnings-with older items)
 
--- ---- which epochs were read
+-- ---- the epochs read
 
 -- the epochs among some items, the oldest first
 abbrev pub epochs_of : List (Item ReadEpoch) → List Epoch

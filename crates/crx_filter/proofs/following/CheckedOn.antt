@@ -20,7 +20,6 @@ pub once-again : (lines : List ReadLine) (line : ReadLine)
     → is_again (state_next checking (check_reading lines) line).answer ≡ false
 once-again lines line = grind (arith, common_steps, check_reading, made_in, checking)
 
--- the printed lines of a reading
 abbrev pub printed_of : List ReadLine → List (List ℕ)
 printed_of lines = let r : Reading Epoch = rinex_reading false lines in
     printed_items r.items ++ printed_open (phase_of rinex_open r)

@@ -11,7 +11,7 @@ use Rattle.crx_filter.proofs.following.Rinex.{agree-continues, no-lines}
 use Rattle.crx_filter.proofs.reading.{Forward.rinex-forward, Types.counts-in_force}
 use Rattle.crx_rinex.proofs.SoundEpochs.{sound-epoch_place}
 
--- ---- an epoch that is read
+-- ---- reading an epoch
 
 -- the epoch after some items, marked whether it is full
 abbrev marked : Choices → List (Item Epoch) → Epoch → Marked

@@ -79,7 +79,6 @@ module _ (choices : Choices) where
       }
   ends count line fault = grind (arith, common_steps)
 
-  -- the first line
   first-line : (line : ReadLine) → FollowsBy [] line (first_lines []) (first_lines (line ∷ []))
   first-line Overlong = grind (arith, common_steps, by-once, ends)
   first-line (Content content) = by-once [] (Content content) (by_result (crinex_version content)

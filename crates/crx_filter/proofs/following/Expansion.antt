@@ -18,7 +18,6 @@ use proofs.reading.ForwardCompact.{compact-forward, compact_beginning}
 
 -- ---- one line
 
--- only a first line
 steps-last : (step : RawStep) → place_of_steps 0 step [] ≡ place_of_step 0 step
 steps-last step = grind (arith, common_steps)
 

@@ -130,7 +130,7 @@ pub body-place : {E : Type 0} (beginning : List (Item E) → List ReadLine → P
     → records_left items ≡ 0 → unit_place beginning items lines ≡ beginning items lines
 body-place beginning items lines ended none = rw (ended, none) refl
 
--- ---- how a line is fed
+-- ---- feeding a line
 
 module _ {U O K : Type 0} (direction : Direction U O K) where
   pub fed-once : (state : RunState O K) (line : ReadLine) → is_again (state_next direction state line).answer

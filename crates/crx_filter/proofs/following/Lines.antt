@@ -116,7 +116,7 @@ kept-with_records direction left counted kept = grind (arith, common_steps)
 -- ---- one line more
 
 module _ {E U O K : Type 0} {m : Meaning E U O K} (h : IsCarriedOut m) where
-  -- a fact about each phase in which a reading expects more lines holds for the phase of the reading
+  -- if `P` holds of each phase in which a reading can expect more lines, it holds of this one
   pub by_phase : (P : List ReadLine → Phase O → Type 0) (items : List (Item E)) (rest : List ReadLine)
       → place m items rest ≡ NeedsMore → (header_has_ended items ≡ false → P [] (InHeader (is_at_start
       items))) → ((left : ℕ) → header_has_ended items ≡ true → records_left items ≡ suc left → P [] (InEvent
@@ -178,7 +178,7 @@ module _ {E U O K : Type 0} {m : Meaning E U O K} (h : IsCarriedOut m) where
       → m.open_with items ls ≡ Some so_far → 0 < length ls
   some_lines items so_far ls e = grind (arith, common_steps, none-some, h.none_open)
 
-  -- the facts if more lines are expected
+  -- the conditions if more lines are expected
   abbrev Stands : List (Item E) → List ReadLine → Phase O → Type 0
   Stands items rest phase = let kept : K = kept_in m.direction phase (m.kept_of items) in
       StandsAt m items rest phase kept × ((line : ReadLine) → Agrees m items phase kept (rest ++ line ∷ [])
@@ -342,7 +342,6 @@ module _ {E U O K : Type 0} {m : Meaning E U O K} (h : IsCarriedOut m) where
         (λ off. rw (fed-once m.direction here line off, last-once m.direction here line off)
         (made-once items number count rest line phase kept s counted made agree off))
 
-  -- one more line, wherever a reading has stopped
   pub next-line : (items : List (Item E)) (stop : Stop) (count : ℕ) (line : ReadLine)
       → IsStopped (place m) items stop (count + 1) →
       let state : RunState O K = seen_after count (record { items = items; stop = stop }) in

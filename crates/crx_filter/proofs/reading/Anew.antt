@@ -56,7 +56,7 @@ record-passed (suc left) line lines some anew =
     rw same anew
 
 module _ (a b : List (Item ReadEpoch)) (h : AreAlike a b) where
-  -- ---- the same is at the same lines
+  -- ---- the same unit at the same lines
 
   record-same : (left : ℕ) (lines : List ReadLine) → records_left a ≡ suc left
       → compact_place a lines ≡ compact_place b lines
@@ -74,7 +74,7 @@ module _ (a b : List (Item ReadEpoch)) (h : AreAlike a b) where
   place-same lines (inr anew) zero none = anew-same lines none (rw none at anew)
   place-same lines goes_on (suc left) some = record-same left lines some
 
-  -- ---- so it is after the unit that is there
+  -- ---- after the unit that is read
 
   record-block : (line : List ℕ) → 0 < records_left a → block_of (raws_kept a) ≡ block_of (raws_kept b)
       → block_of (raws_kept (Accepted (EventRecord line) ∷ a))
@@ -152,7 +152,6 @@ module _ (one_number : Type 0) (skip : Bool) where
   abbrev Alike : (a b : List (Item ReadEpoch)) (one two : Reading ReadEpoch) → Type 0
   Alike = AreReadAlike one_number skip
 
-  -- one more item
   onto : {a b : List (Item ReadEpoch)} {item other : Item ReadEpoch} {one two : Reading ReadEpoch}
       → Alike (item ∷ a) (other ∷ b) one two → (one_number → item ≡ other) → (text : List (List ℕ))
       → expanded_lines (item ∷ a) ≡ expanded_lines a ++ text
@@ -194,7 +193,7 @@ module _ (one_number : Type 0) (skip : Bool) where
     looked a b one two (m + 1) (n + 1) lines (λ k. ap (λ x. x + 1) (number k)) h,
   )
 
-  -- after the two lists of items `units` units are read alike
+  -- after both lists of items, `units` units are read alike
   abbrev ReadAlike : ℕ → List (Item ReadEpoch) → List (Item ReadEpoch) → ℕ → ℕ → List ReadLine → Type 0
   ReadAlike units a b m n lines = (one_number → m ≡ n)
       → Alike a b (reading_within compact_place skip units a m

@@ -1,5 +1,5 @@
--- Lists of lines and of accepted units: a fact about each element of two lists is one about both together, and about
--- each part.
+-- Lists of lines and of accepted units: if `P` holds of each element of two lists, it holds of each element of both
+-- together, and of each part.
 use Rattle.crx_filter.proofs.Words.{ℕ, zero, suc, ◌≡◌, true, List, [], ◌∷◌, ◌++◌, drop, arith, common_steps}
 use Rattle.crx_filter.proofs.Words.{map, AllByRecursion, Item, header_has_ended, InputLine}
 

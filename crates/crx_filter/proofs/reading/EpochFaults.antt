@@ -50,7 +50,7 @@ skippable-before x v1 a = grind (arith)
 
 -- ---- an epoch's lines
 
--- the differences refuse the lines of an epoch only with faults that can be skipped
+-- earlier epochs refuse the lines of an epoch only with faults that can be skipped
 record IsSkippablePast (past : Past) : Type 0 where
   clock : (code : Code) → IsSkippableResult (past.clock code)
   value : (name : List ℕ) (place : ℕ) (code : Code) → IsSkippableResult (past.value name place code)
@@ -69,7 +69,7 @@ counted-skippable : (types : List Count) (text : List ℕ) (count : Option ℕ)
 counted-skippable types text count =
     grind (arith, common_steps, chosen, list_all, is_blank, satellites_named, names_in, named-skippable)
 
--- an epoch line that was read, by the differences for its lines
+-- an epoch line that was read, by the earlier epochs
 abbrev IsBegunWell : Result BegunEpoch Fault → Type 0
 IsBegunWell (Ok begun) = IsSkippablePast begun.past
 IsBegunWell (Err fault) = is_skippable fault ≡ true

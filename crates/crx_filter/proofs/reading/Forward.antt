@@ -8,7 +8,6 @@ use Rattle.crx_rinex.proofs.{OpenEpochs.steady-epoch_place, Steady.steady-first_
 abbrev pub rinex_beginning : List (Item Epoch) → List ReadLine → Place (FileUnit Epoch)
 rinex_beginning items = epoch_place (types_in_force items)
 
--- one place or another
 chosen_steady : {X : Type 0} (b : Bool) (one two : List ReadLine → Place X)
     → IsSteady one → IsSteady two → IsSteady (λ lines. cond b (one lines) (two lines))
 chosen_steady b one two h k = grind (arith, common_steps)

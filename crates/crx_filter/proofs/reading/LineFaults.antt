@@ -15,7 +15,7 @@ use Rattle.crx_rinex.specs.meaning.SatelliteLines.{values_in}
 use Rattle.crx_base.specs.declared.fault.Fault.TheVariants.{BadTypesLine}
 use Rattle.crx_header.specs.meaning.ObservationTypes.{is_bad_types_line}
 
--- ---- results, options and places whose faults are those of lines
+-- ---- results, options and places whose faults are faults of lines
 
 abbrev IsFine : {X : Type 0} → Result X Fault → Type 0
 IsFine r = FaultsPass is_of_lines r

@@ -172,7 +172,6 @@ module _ {E : Type 0} (place : List (Item E) → List ReadLine → Place (FileUn
       (omega (arith, few, length-drop (max offset 1) lines)))) (λ off. rw (off, after_fault) refl)))
       (λ e. rw (from-wanted place h skip items number lines e) refl)
 
--- the reading of some lines and more continues the reading of the first
 pub resumed : {E : Type 0} (place : List (Item E) → List ReadLine → Place (FileUnit E))
     → IsReadForward place → IsResumed place
 resumed place h skip items number lines more =

@@ -1,4 +1,4 @@
--- A fact about each possible unit at some lines holds of the unit that is read there.
+-- A property of each possible unit at some lines holds of the unit that is read there.
 use Rattle.crx_filter.proofs.Words
 use Words.{common_steps, [], take, ℕ, zero, suc, ◌≡◌, nat_lt, rules, ◌<◌, Bool, true, false, cond, List, ◌∷◌}
 use Words.{Option, Some, None, Result, Ok, Err, refl, ap, arith, ⊤, is_some, character_at, ReadLine, Content}
@@ -9,7 +9,7 @@ use Words.{FileUnit, HeaderLine, EventLine, EventRecord, Observation, ReadEpoch,
 use Words.{is_at_start, header_has_ended, records_left, records_count_types, unless_wrong, types_fault}
 use Words.{header_line_fault, unit_place, event_line, as_observation, compact_epoch_place, by_bool}
 
--- one of two values is chosen, and a fact about both holds of it
+-- a property of two values holds of the one that is chosen
 pub chosen : {A : Type 0} (P : A → Type 0) (b : Bool) (x y : A) → P x → P y → P (cond b x y)
 chosen P other x y h k = grind (arith, common_steps)
 

@@ -10,7 +10,7 @@ pub allowed : {E : Type 0} (skip : Bool) (items : List (Item E)) (fault : Fault)
     ≡ true → (header_has_ended items ≡ true) × (records_left items ≡ 0) × (is_skippable fault ≡ true)
 allowed skip items fault e = grind (arith, common_steps)
 
--- a fact about the units read, and after a warning too, holds after the input's end
+-- a property of the items read, which a skipped warning keeps, holds after the input's end
 pub of-ended : {E : Type 0} (P : List (Item E) → Type 0) (skip : Bool) (items : List (Item E)) (stop : Stop)
     → P items → ((at : At) → is_skipped skip items at.fault ≡ true → P (Warned at ∷ items))
     → P (WholeReading.items (ended_reading skip (record { items = items; stop = stop })))
@@ -27,7 +27,6 @@ pub compact-items-read : (skip : Bool) (lines : List ReadLine)
     → ItemsAreRead compact_place (compact_reading skip lines).items
 compact-items-read skip lines = grind (arith, common_steps, items-read)
 
--- and so it does for whole readings
 pub whole-read : {E : Type 0} (place : List (Item E) → List ReadLine → Place (FileUnit E)) (skip : Bool)
     (number : ℕ) (lines : List ReadLine) → ItemsAreRead place (whole_reading place skip number lines).items
 whole-read place skip number lines = grind (arith, common_steps, items-read, of-ended)

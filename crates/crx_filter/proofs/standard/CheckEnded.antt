@@ -12,7 +12,7 @@ use Rattle.crx_filter.proofs.reading.{InPlace.items-in_place, WhatWasRead.items-
 use Rattle.crx_filter.{proofs.wayback.Carried.started, specs.CheckByLine.version_accepted}
 use Rattle.crx_filter.specs.{CheckingLaws.IsCheckEnded, meaning.Standard.{first_header_line, version_in}}
 
--- ---- at the end nothing is accepted and nothing dropped
+-- ---- the end accepts and drops nothing
 
 at-end : (items : List (Item Epoch)) (number : ℕ) (fault : Option Fault)
     → WholeReading.items (ended_with false items number fault) ≡ items

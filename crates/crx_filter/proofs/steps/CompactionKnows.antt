@@ -19,7 +19,6 @@ use Rattle.std.specs.Prelude.{⊤}
 
 -- ---- after a line that was taken
 
--- a compaction of these parts
 abbrev pub compaction_of : ℕ → RinexReader → EncoderState → CompactionState
 compaction_of index reader encoder = record { index = index; reader = reader; encoder = encoder }
 

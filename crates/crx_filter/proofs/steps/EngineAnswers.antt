@@ -114,7 +114,6 @@ module _ {U O K : Type 0} {direction : Direction U O K} {closing_after : List In
       fed-answers notices warned result e noted once quiet =
           grind (arith, common_steps, append-nil)
 
-      -- the first time
       first-time : (result : Result Step At) → step_made result ready now ≡ state_next direction first
           (as_read line) → EngineAnswers filter shows has_ended ready lines [] (Some line) result
       first-time (Ok (Warned next true)) s =
@@ -131,7 +130,6 @@ module _ {U O K : Type 0} {direction : Direction U O K} {closing_after : List In
           (fed-once first (as_read line) (step_made result ready now) s refl) refl refl
           (quiet-next direction first (as_read line) (step_made result ready now) s)
 
-      -- the second time, after a warning
       second-time : (notice : At) (before : RunState O K) (result : Result Step At) → record
           { answer = Notice notice true; handed_out = []; next = before } ≡ state_next direction first
           (as_read line) → step_made result ready now ≡ state_next direction before (as_read line) →
@@ -228,7 +226,6 @@ as-read-long line e = rw e refl
 pub as-read-short : (line : InputLine) → is_long line ≡ false → as_read line ≡ Content line.content
 as-read-short line e = rw e refl
 
--- a line within the limit isn't too long
 pub short-line : (line : InputLine) → length line.content ≤ LINE_LIMIT → is_long line ≡ false
 short-line line h = search (rules, h)
 
@@ -236,7 +233,7 @@ pub as-read-within : (line : InputLine) (bytes : List ℕ)
     → length line.content ≤ LINE_LIMIT → bytes ≡ line.content → as_read line ≡ Content bytes
 as-read-within line bytes h e = grind (arith, common_steps, as-read-short, short-line)
 
--- ---- an engine with its choices
+-- ---- an engine with its options
 
 module _ {U O K : Type 0} {direction : Direction U O K} {closing_after : List InputLine → List (List ℕ)}
     {state_after_lines : List ReadLine → RunState O K} {filter : Filter}

@@ -19,7 +19,7 @@ use Rattle.std.proofs.Common.{IfErr, OnErr}
 use Rattle.crx_runs.specs.Engines.{answer_given, lines_handed_out}
 use Rattle.crx_runs.specs.declared.engine.HandedOut.{HandedOut}
 
--- a fact about every answer is one about an error
+-- a statement holds after an error if it holds anyway
 pub after-error : {A B P : Type 0} (result : Result A B) → P → OnErr result P
 after-error result is = grind (arith, common_steps)
 
@@ -117,7 +117,7 @@ module _ {U O K : Type 0} (direction : Direction U O K) where
           (state_by choices number after) ≡ state_end_with direction closing (state_by choices number before)
       ends-failed staged off = grind (arith, common_steps, ends, skips)
 
--- ---- a line that was refused
+-- ---- a refused line
 
 module _ {D : Type 0} (d : Ghosts D) (before after : EngineParts D) (line : InputLine) (goes : EngineGoes d
     before) (past : KnowsStill d.by_line d.chosen d.state_after_lines (d.parts before.direction)

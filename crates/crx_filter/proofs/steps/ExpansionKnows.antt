@@ -8,7 +8,6 @@ use Rattle.crx_filter.specs.ExpansionParts.{ExpansionState as Expansion}
 use Rattle.crx_filter.specs.declared.compact_reader.CompactReader.{CompactReader}
 use Rattle.std.specs.Prelude.{⊤}
 
--- an expansion of these parts
 abbrev pub expansion_of : CompactReader → PendingLines → Expansion
 expansion_of reader lines = record { reader = reader; lines = lines }
 

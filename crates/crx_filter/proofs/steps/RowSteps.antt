@@ -1,4 +1,4 @@
--- A row that was read and then taken: facts about the reader in between are facts about the one before.
+-- A row that was read and then taken: statements about the reader in between hold of the reader before.
 use Rattle.crx_filter.proofs.Words.{common_steps, arith, ◌≡◌, Bool, List, ℕ, Written, compaction, made_in}
 use Rattle.crx_filter.proofs.Words.{made_at, reader_phase, IsSameReader, TakesRow, RinexReader}
 

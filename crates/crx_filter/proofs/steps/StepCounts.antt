@@ -32,13 +32,11 @@ module _ {U O K : Type 0} (direction : Direction U O K) (before now : RunState O
   steps-counted (inl step) = made-counted (made_in direction before.phase before.types before.kept line) step
   steps-counted (inr out) = grind (arith, common_steps, taken_after)
 
-  -- the options stay
   pub steps-choices : Steps direction before line result ready now
       → now.choices ≡ before.choices
   steps-choices (inl step) = made-choices (made_in direction before.phase before.types before.kept line) step
   steps-choices (inr out) = grind (arith, common_steps)
 
-  -- lines are ready only if the answer says so
   steps-drained : Steps direction before line result ready now
       → IfOk result (λ s. IsDrainedAfter s ready) × OnErr result (ready ≡ [])
   steps-drained (inl step) =

@@ -32,17 +32,14 @@ due-there s in_full due e f = grind (arith, common_steps, false≢true)
 
 -- ---- together
 
--- no epoch is open
 pub closed-together : (reader : RinexReader) (encoder : EncoderState) → is_open_stage reader.stage ≡ false
     → encoder.is_open ≡ false → encoder.rows ≡ [] → BelongTogether reader encoder
 closed-together reader encoder closed ended none = grind (arith, common_steps, true≢false)
 
--- an epoch is open
 open-together : (reader : RinexReader) (encoder : EncoderState) → is_open_stage reader.stage ≡ true
     → encoder.is_open ≡ true → encoder.rows ≡ reader.rows.rows → BelongTogether reader encoder
 open-together reader encoder opened begun rows = grind (arith, common_steps, rows-opened)
 
--- the encoder has the rows that the reader has
 pub rows-there : (reader : RinexReader) (encoder : EncoderState) → BelongTogether reader encoder
     → is_open_stage reader.stage ≡ true → encoder.rows ≡ reader.rows.rows
 rows-there reader encoder t opened = t.rows ∙ rows-opened reader.stage reader.rows.rows opened

@@ -33,7 +33,6 @@ pub file-good : (file : List ℕ) (choices : Choices) → IsReadWhole file choic
     → AreGood (read_of_file file choices).items
 file-good file choices h = grind (arith, file-settled)
 
--- its units are a whole file's
 pub file-whole : (file : List ℕ) (choices : Choices) → IsReadWhole file choices
     → AreWholeFile (units_in (read_of_file file choices).items)
 file-whole file choices h = whole-items (read_of_file file choices).items (file-settled file choices h)
@@ -101,7 +100,6 @@ next-closed : (choices : Choices) (next : List (Item Epoch)) (later : List OwnSt
 next-closed choices next [] h closed = closed
 next-closed choices next (s ∷ later) h closed = (h.0).between
 
--- the units up to the next stretch, as those of a text
 units-next : (before : List (Item Epoch)) (s : OwnStretch)
     → units_in (up_to_own_next before s) ≡ units_in s.kept ++ (units_in s.lost ++ units_in before)
 units-next before s = units-append s.kept (up_to_own_end before s)

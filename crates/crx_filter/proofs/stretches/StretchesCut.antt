@@ -34,7 +34,7 @@ pub good-up_to : (before : List (Item Epoch)) (stretches : List OwnStretch)
 good-up_to before [] h = h
 good-up_to before (s ∷ later) h = grind (arith, good-before, good-up_to (up_to_own_next before s) later h)
 
--- ---- the units that are kept
+-- ---- the kept units
 
 -- their lines are the lines of the longer text after those of the shorter
 pub kept-lines : (choices : Choices) (kept block : List (Item Epoch)) → AreInPlace (kept ++ block)

@@ -114,7 +114,6 @@ news-printed (Accepted (Observation read) ∷ news) h =
 news-printed (Warned at ∷ news) h = news-printed news h
 news-printed (Accepted unit ∷ news) h = absurd h
 
--- they are whole
 good-rest : (later items : List (Item ReadEpoch)) → AreGoodEpochs (later ++ items) → AreGoodEpochs items
 good-rest [] items h = h
 good-rest (item ∷ later) items h = grind (arith, good-rest later items)

@@ -35,7 +35,6 @@ units-like [] h = search rules
 units-like (Accepted unit ∷ before) h = grind (arith, common_steps, types_of-push, units-like before h.1)
 units-like (Warned at ∷ before) h = grind (arith, common_steps, started, units-like before h.1)
 
--- the units are in place
 pub units-placed : (items : List (Item Epoch)) → AreInPlace items → AreInPlace (as_items (units_in items))
 units-placed [] h = tt
 units-placed (Accepted unit ∷ before) h = grind (arith, common_steps, units-like, units-placed before h.1)

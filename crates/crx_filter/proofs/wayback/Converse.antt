@@ -66,7 +66,7 @@ row-printable : (row : Row) → IsSoundRow row → list_all is_printable (printe
 row-printable row sound =
     search (cells-printable, kept-text, sound-name_kept, trimmed-printable, list_all-append)
 
--- a fact about each printed row is one about all
+-- if `P` holds of each printed row, it holds of all
 pub rows-all : (P : List ℕ → Type 0) → ((row : Row) → IsSoundRow row → P (printed_row row)) →
     (rows : List Row)
     → All IsSoundRow rows → AllByRecursion P (map printed_row rows)

@@ -38,7 +38,7 @@ front-cut (line ∷ lines) text h = search (front-cut lines text h.1, append_ass
 abbrev pub CanStand : List ℕ → Type 0
 CanStand line = HasNoFeed line × (length line ≤ LINE_LIMIT)
 
--- a fact about a line's content
+-- `P` holds of a line's content
 abbrev pub OfContent : (List ℕ → Type 0) → ReadLine → Type 0
 OfContent P (Content line) = P line
 OfContent P Overlong = ⊤

@@ -21,7 +21,7 @@ compact-stands items lines unit count e =
     (λ line rest is on some good. rw is (refl, on, some, good))
     (λ on none. grind (arith, common_steps, P, of-compact P tt)))
 
--- ---- all that were accepted
+-- ---- all accepted units
 
 -- each epoch is good by the types in force at its lines
 abbrev pub AreGoodEpochs : List (Item ReadEpoch) → Type 0

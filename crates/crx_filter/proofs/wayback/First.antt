@@ -73,7 +73,7 @@ pub version-clean : IsClean version_line
 version-clean = record
     { one_line = printable-no_feed version_line refl; no_return = refl; short = omega arith }
 
--- ---- compact text that is read to a good end
+-- ---- compact text that is read to its end without a fault
 
 pub record FirstBack (lines : List ReadLine) : Type 0 where
   pub version : List ℕ

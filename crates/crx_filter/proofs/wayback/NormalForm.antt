@@ -76,7 +76,7 @@ pub units-printed : (items : List (Item Epoch)) → printed_items (as_items (uni
 units-printed [] = refl
 units-printed (item ∷ before) = grind (arith, units-printed before)
 
--- ---- printed lines are read as they are written
+-- ---- printed lines are read as they were written
 
 pub epoch-within : (n : ℕ) → 16 * TYPES_LIMIT + 3 ≤ n → (types : List Count) (epoch : Epoch)
     → IsWholeEpoch types epoch → AllByRecursion (λ (line : List ℕ). length line ≤ n) (printed_epoch epoch)
@@ -99,7 +99,7 @@ epoch-within n most types epoch h =
       )) epoch.rows h.sound.rows_sound,
     )
 
--- a fact about clean lines, and about each copied line, is one about all
+-- if `P` holds of clean lines, and of each copied line, it holds of all
 printed-lines : (P : List ℕ → Type 0) → ((line : List ℕ) → IsClean line → P line)
     → (items : List (Item Epoch))
     → AreInPlace items → OfCopiedLines P items → AllByRecursion P (printed_items items)

@@ -1,5 +1,5 @@
--- The lines that a compaction wrote, read one unit after another; and facts about an input's lines as facts about the
--- copied lines.
+-- The lines that a compaction wrote, read one unit after another; and properties of the copied lines among an input's
+-- lines.
 use Rattle.crx_filter.proofs.Words
 use Words.{[], ◌∷◌, ℕ, ◌≡◌, ◌≤◌, Bool, List, Option, AllByRecursion, ReadLine}
 use Words.{Epoch, Item, HeaderLine}
@@ -18,7 +18,7 @@ use Rattle.crx_filter.specs.meaning.Fate.{OwnInOrder}
 abbrev pub lines_back : Option ℕ → List (Item Epoch) → List (List ℕ)
 lines_back every items = written_lines (body_unit every) items
 
--- ---- lines that are copied are lines of the input
+-- ---- copied lines are lines of the input
 
 abbrev pub copied : {E : Type 0} → List (Item E) → List (List ℕ)
 copied [] = []
@@ -28,7 +28,7 @@ copied (Accepted (EventRecord line) ∷ before) = line ∷ copied before
 copied (Accepted (Observation epoch) ∷ before) = copied before
 copied (Warned at ∷ before) = copied before
 
--- a fact about each line's content is one about each copied line
+-- if `P` holds of each line's content, it holds of each copied line
 pub of-own : {E : Type 0} (place : List (Item E) → List ReadLine → Place (FileUnit E)) → CopiesLines place
     → (P : List ℕ → Type 0) (number : ℕ) (items : List (Item E)) (lines kept : List ReadLine)
     → OwnInOrder place number items lines kept → AllByRecursion (OfContent P) lines

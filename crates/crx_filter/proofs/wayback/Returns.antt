@@ -39,7 +39,7 @@ pub printable-none : (text : List ℕ) → list_all is_printable text ≡ true �
 printable-none [] h = refl
 printable-none (c ∷ cs) h = grind (arith, common_steps, and_parts, printable-other, printable-none cs)
 
--- ---- of lines that are written
+-- ---- of written lines
 
 abbrev pub returns_in : List (List ℕ) → ℕ
 returns_in = total returns
@@ -53,7 +53,7 @@ pub in-printable : (lines : List (List ℕ))
 in-printable [] h = refl
 in-printable (line ∷ lines) h = omega (arith, printable-none line h.0, in-printable lines h.1)
 
--- ---- of lines that are read
+-- ---- of read lines
 
 abbrev returns_line : ReadLine → ℕ
 returns_line Overlong = 0
@@ -70,7 +70,7 @@ pub read-cut : (n : ℕ) (lines : List ReadLine)
     → returns_read lines ≡ returns_read (take n lines) + returns_read (drop n lines)
 read-cut n lines = cc (take-append-drop n lines, read-append (take n lines) (drop n lines))
 
--- the bytes of pieces
+-- the bytes 13 of pieces
 abbrev returns_of : List Piece → ℕ
 returns_of = total (λ (p : Piece). returns p.bytes)
 

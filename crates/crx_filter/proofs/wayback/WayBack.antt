@@ -48,7 +48,6 @@ closes place skip items (AtLines number rest) next s f = at_end (fault_at_end it
     at_end (Some fault) e f = by_bool (is_skipped skip items fault)
         (λ on. rw on ((allowed skip items fault on).0, refl)) (λ off. absurd (cc (rw off at f)))
 
--- so it is for whole readings
 pub whole-closes : {E : Type 0} (place : List (Item E) → List ReadLine → Place (FileUnit E))
     → IsReadForward place
     → (skip : Bool) (number : ℕ) (lines : List ReadLine)
@@ -72,7 +71,7 @@ whole-settled skip input f =
       none = closed.1;
     }
 
--- ---- the lines that are written
+-- ---- the lines written
 
 pub lines-same : (choices : Choices) (items : List (Item Epoch)) → AreInPlace items
     → is_at_start items ≡ false
@@ -86,7 +85,7 @@ lines-same choices (Warned at ∷ before) h e = lines-same choices before h.1 (s
 
 -- ---- each of them is read as it was written
 
--- a fact about each unit's lines, and about each copied line, is one about all
+-- if `P` holds of each unit's lines, given `Q` of its copied line, it holds of all lines
 pub written-all : (P Q : List ℕ → Type 0) (lines_of_unit : List (Item Epoch) → FileUnit Epoch → List (List ℕ))
     → ((before : List (Item Epoch)) (unit : FileUnit Epoch) → AreInPlace (Accepted unit ∷ before)
     → OfCopiedLine Q unit → AllByRecursion P (lines_of_unit before unit)) → (items : List (Item Epoch))
@@ -110,7 +109,7 @@ epoch-clean [] h k = tt
 epoch-clean (line ∷ lines) h k =
     grind (arith, epoch-clean lines h.1 k.1, printable-no_feed, printable-no_return)
 
--- a fact about clean lines, and about each copied line, is one about all
+-- if `P` holds of clean lines, and of each copied line, it holds of all
 pub lines-hold : (P : List ℕ → Type 0) → ((line : List ℕ) → IsClean line → P line) → (every : Option ℕ)
     (items : List (Item Epoch)) → AreInPlace items → OfCopiedLines P items
     → AllByRecursion P (lines_back every items)

@@ -43,7 +43,7 @@ AccountsForText skip text result = result.fault ≡ None
     × AccountsForLines compact_place expanded_unit 3 (whole_compact skip (map as_read (lines_of text))).items rest
     result
 
--- ---- how long a block is
+-- ---- the length of a block
 
 -- the items with some later epochs, the oldest first
 abbrev pub with_epochs : List (Item Epoch) → List Epoch → List (Item Epoch)

@@ -53,7 +53,7 @@ pub record ExpansionKeeps (holds : FilterResult → Type 0) (skip : Bool) (text 
   -- for the compact text of units that make a file its output is their RINEX text
   pub units : (units : List (FileUnit Epoch)) (compacting : Choices) → is_date compacting.date ≡ true
       → MakeAFile units → text ≡ compact_text compacting units → holds (written_well (rinex_text units))
-  -- compact text of a file is read as it means, whoever wrote it, and no other text has status 0
+  -- compact text of a file is expanded to that file, whoever wrote it, and no other text has status 0
   pub any_writer : ReadsAnyText holds text
   pub no_other : HasResult (λ result. result.status ≡ 0 → IsCompactText text) holds
   -- if no fault ended it, its output is a standard file, unless a line of it ends in CR

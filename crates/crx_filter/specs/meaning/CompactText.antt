@@ -17,7 +17,7 @@ use Rattle.crx_runs.specs.meaning.Results.{FilterResult}
 
 --- the lines of a unit after some items. `before`: the epoch that these lines may continue from; `now`: the epoch
 --- that later lines may continue from. A unit of one line is copied. An event leaves the previous epoch, unless types
---- change in the event. An epoch's lines are any that mean it
+--- change in the event. An epoch's lines are any that encode it
 abbrev pub AreLinesOfUnit : List (Item Epoch) → Option WrittenEpoch → FileUnit Epoch → List (List ℕ) → Option WrittenEpoch → Type 0
 AreLinesOfUnit items before (HeaderLine line) lines now = (lines ≡ line ∷ []) × (now ≡ None)
 AreLinesOfUnit items before (EventLine line) lines now = (lines ≡ line ∷ []) × (now ≡ before)
@@ -61,8 +61,8 @@ pub record AreWholeFile (units : List (FileUnit Epoch)) : Type 0 where
 abbrev pub IsCompactText : List ℕ → Type 0
 IsCompactText text = (units : List (FileUnit Epoch)) × AreWholeFile units × IsCompactTextOf units text
 
---- compact text of a whole file is read as it means, whoever wrote it: the result is the RINEX text of the units,
---- with no message and status 0
+--- compact text of a whole file is expanded to that file, whoever wrote it: the result is the RINEX text of the
+--- units, with no message and status 0
 abbrev pub ReadsAnyText : (FilterResult → Type 0) → List ℕ → Type 0
 ReadsAnyText is_result text = (units : List (FileUnit Epoch)) → AreWholeFile units → IsCompactTextOf units text
     → is_result (written_well (rinex_text units))

@@ -21,7 +21,7 @@ use Rattle.crx_filter.specs.meaning.Written.{written_lines, result_of}
 abbrev pub rinex_place : List (Item Epoch) → List ReadLine → Place (Unit Epoch)
 rinex_place before lines = unit_place (λ (items : List (Item Epoch)). epoch_place (types_in_force items)) before lines
 
--- ---- which epochs are in full
+-- ---- full epochs
 
 -- how many observation epochs were accepted
 abbrev pub epochs_accepted : {E : Type 0} → List (Item E) → ℕ

@@ -103,7 +103,7 @@ whole_compact skip lines =
       }
     ]
 
--- a unit of compact text as the unit of RINEX that it means
+-- a unit of compact text as the unit of RINEX that it encodes
 abbrev pub rinex_unit : Unit ReadEpoch → Unit Epoch
 rinex_unit (HeaderLine line) = HeaderLine line
 rinex_unit (EventLine line) = EventLine line

@@ -1,5 +1,5 @@
 -- The items read from a file so far, and their consequences for the next line: RINEX 3.05, sections 5 and 6. Lists of
--- items have the newest first. E holds the data of an observation epoch.
+-- items have the newest first. E is the data of an observation epoch.
 use Rattle.std.specs.Prelude.{ℕ, Bool, true, false, ◌||◌, ◌&&◌, ◌-◌, List, [], ◌∷◌, ◌++◌, if◌then◌else◌, nat_le}
 use Rattle.std.specs.Prelude.{unwrap_or}
 use Rattle.crx_base.specs.declared.fault.At.{At}

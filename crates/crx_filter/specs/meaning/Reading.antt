@@ -12,8 +12,8 @@ use Rattle.crx_rinex.specs.meaning.Places.{Place, Done, Fails, NeedsMore}
 use Rattle.crx_rinex.specs.meaning.Units.{Unit}
 use Rattle.crx_filter.specs.meaning.Items.{Item, Accepted, Warned, header_has_ended, records_left}
 
--- a reading stops at a fault; at lines that could become a unit with more lines, with the number of the first of
--- them; or while it looks for a line that begins with >, with the number of the next line
+-- a reading stops at a fault; while more lines could make a unit, with the number of the next unit's first line and
+-- the lines from there on; or while it looks for a line that begins with >, with the number of the next line
 pub data Stop : Type 0 where
   AtFault : At → Stop
   AtLines : ℕ → List ReadLine → Stop
@@ -75,8 +75,8 @@ fault_of_stop (Looking number) = None
 
 -- ---- the end of the input
 
--- the fault if the input ends at lines that could become a unit: before the first line, in the header, among an
--- event's records and inside an epoch; otherwise none
+-- the fault if the input ends while more lines could make a unit: before the first line, in the header, among an
+-- event's records or inside an epoch; otherwise none
 abbrev pub fault_at_end : {E : Type 0} → List (Item E) → List ReadLine → Option Fault
 fault_at_end [] lines = Some MissingVersion
 fault_at_end (item ∷ before) [] = if not (header_has_ended (item ∷ before)) then Some NoEndOfHeader

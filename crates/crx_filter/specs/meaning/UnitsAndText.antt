@@ -74,7 +74,7 @@ pub record StandForEachOther (units : List (FileUnit Epoch)) (compacting expandi
   pub expansion : is_date compacting.date ≡ true
       → expanded (compact_text compacting units) expanding ≡ written_well (rinex_text units)
 
--- if units make a file, their two texts stand for each other
+-- if units make a file, each of their two texts becomes the other
 abbrev pub TextsOfUnits : List (FileUnit Epoch) → Choices → Choices → Type 0
 TextsOfUnits units compacting expanding = MakeAFile units → StandForEachOther units compacting expanding
 

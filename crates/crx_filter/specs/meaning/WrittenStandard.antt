@@ -23,7 +23,7 @@ WroteStandard writer =
 
 -- ---- the law
 
--- the units that were read from compact text, with the warnings between them, as the units of RINEX that they mean
+-- the units that were read from compact text, with the warnings between them, as the units of RINEX that they encode
 abbrev pub rinex_items : List (Item ReadEpoch) → List (Item Epoch)
 rinex_items [] = []
 rinex_items (Accepted unit ∷ before) = Accepted (rinex_unit unit) ∷ rinex_items before
