@@ -27,7 +27,6 @@ first-line totals made before after line step is_first is on takes =
 
 -- ---- the printed line
 
--- nothing is printed for a line that was passed over
 pub none-passed : {X : Type 0} (made : Made ObservationEpoch OpenEpoch) (before after : RinexReader)
     (line : List ℕ) → TakesRinexLine made before line Steps.Nothing after → HasPrinted made → X
 none-passed made before after line takes some = grind (arith, common_steps, false-true)
@@ -63,7 +62,6 @@ last-of [] line = refl
 last-of (first ∷ []) line = refl
 last-of (first ∷ next ∷ lines) line = last-of (next ∷ lines) line
 
--- the last line of an epoch is the line of its last row
 row-printed : (head : ObservationHead) (rows before : List Row) (row : Row)
     → rows ≡ before ++ row ∷ [] → last_line (printed_epoch (epoch_by_rows head rows)) ≡ printed_row row
 row-printed head rows before row is =
@@ -76,7 +74,6 @@ pub row-made : (made : Made ObservationEpoch OpenEpoch) (before after : RinexRea
 row-made made before after true rows takes is = grind (arith, common_steps, same_Some, row-printed)
 row-made made before after false rows takes is = grind (arith, common_steps, in-epoch, last_line, row-printed)
 
--- a copied line is printed unchanged
 pub copied-printed : (made : Made ObservationEpoch OpenEpoch) (line : List ℕ) → printed_made made ≡ line ∷ []
     → true ≡ bytes_eq line (last_line (printed_made made))
 copied-printed made line is = grind (arith, common_steps, bytes_eq-same, bytes_eq, last_line)

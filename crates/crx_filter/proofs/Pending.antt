@@ -6,7 +6,6 @@ use Rattle.crx_filter.proofs.Words.{true, ◌∷◌, ◌⊎◌, inl, inr, refl, 
 use Rattle.crx_filter.specs.{EngineLines.HasTaken, LineByLine.{answer_of_lines, Phase}}
 use Rattle.crx_runs.specs.Engines.{Awaited, IsAwaited}
 
--- the state in a phase, with some types in force and this kept
 abbrev pub state_in : {O K : Type 0} → Choices → ℕ → Phase O → List Count → K → RunState O K
 state_in choices number phase types kept =
     record { choices = choices; number = number; phase = phase; types = types; kept = kept }

@@ -16,7 +16,6 @@ counts-more counts index c e =
     counts index c) ∙ ap (λ o. unwrap_or o c) e) in
     cc (one, flat_map-append count_text (take index counts) (c ∷ []), append-nil (count_text c))
 
--- the version in the columns of the version is the version
 pub version-same : (line : List ℕ) → version_in (columns line 1 9) ≡ version_in line
 version-same line =
     grind (arith, common_steps, length-append, length-replicate, length-take, take-append-le, take-length)

@@ -12,7 +12,6 @@ use Rattle.crx_rinex.specs.EpochPlaces.{whole_or_going}
 
 -- ---- the state of a reader then
 
--- an epoch with this line, of which these rows have been read
 abbrev pub open_by_rows : List Count → ObservationHead → List Row → OpenEpoch
 open_by_rows types head rows = record { types = types; head = head; rows = rows }
 
@@ -32,7 +31,6 @@ part-taken made before after head rows is part parts stage = grind arith
 
 -- ---- a satellite line
 
--- an epoch with this line is open, and expects rows
 pub record IsInEpoch (r : RinexReader) (head : ObservationHead) : Type 0 where
   pub stage : r.stage ≡ Open
   pub held : r.head ≡ Some head
@@ -104,7 +102,6 @@ pub event-made : (types : List Count) (line : List ℕ) (flag count : ℕ) → h
     ≡ Ok (EventHead flag count) → made_of_beginning types (beginning_of line) ≡ Completes (EventLine line)
 event-made types line flag count read = cc (read)
 
--- an epoch that begins with a line
 begun-made : (types : List Count) (line : List ℕ) (head : ObservationHead)
     → head_of line ≡ Ok (EpochHead head.head head.count head.clock)
     → made_of_beginning types (beginning_of line) ≡ made_of_epoch_step (whole_or_going (opened types head))

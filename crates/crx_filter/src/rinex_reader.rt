@@ -29,8 +29,8 @@ pub enum RinexStep {
     Begun,
 }
 
-/// A reader of RINEX, one line at a time. Of an epoch it keeps the epoch line and the last row. It doesn't
-/// look for repeated satellites: its caller does.
+/// A reader of RINEX, one line at a time. It keeps an epoch's line and its last row. It doesn't look for
+/// repeated satellites: its caller does.
 #[derive(Drop)]
 pub struct RinexReader {
     pub stage: Stage,

@@ -16,7 +16,6 @@ use Rattle.crx_filter.specs.meaning.Fate.{OwnInOrder}
 split : (n : ℕ) (front lines : List ReadLine) → front ++ lines ≡ (front ++ take n lines) ++ drop n lines
 split n front lines = cc (take-append-drop n lines, append_assoc front (take n lines) (drop n lines))
 
--- a line at which reading can't resume
 abbrev stays_off : ReadLine → Bool
 stays_off line = not (can_go_on line)
 

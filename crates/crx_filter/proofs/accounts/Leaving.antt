@@ -25,7 +25,6 @@ like-place items units lines k = by_bool (header_has_ended items)
     (λ none. rw (← k.header, ← k.left, on, none, ← k.types) refl))
     (λ off. rw (← k.header, off, ← k.start) refl)
 
--- the kept lines are read one unit after another
 reads-on : (skip : Bool) (number : ℕ) (items : List (Item Epoch)) (lines kept rest : List ReadLine)
     → OwnInOrder rinex_place number items lines kept → AreInPlace items
     → reading_from rinex_place skip [] 1 (kept ++ rest)

@@ -45,7 +45,6 @@ pub standard-where_kept : (input : List ℕ) (compacting expanding : Choices)
 standard-where_kept input compacting expanding dated good none same =
     grind (arith, common_steps, normal-comes_back, standard-as_normal)
 
--- two files have the same compact text if and only if they have the same normal form
 pub canonical : (one other : List ℕ) (choices : Choices) → IsCanonical one other choices
 canonical one other choices dated h k = (
   λ same. ap (λ (r : FilterResult). r.output)

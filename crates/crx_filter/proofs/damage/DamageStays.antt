@@ -31,7 +31,6 @@ module _ (before : List (FileUnit Epoch)) (s : Stretch) (damaged : List ℕ)
   abbrev number : ℕ
   number = 3 + length ((d.stretch).text).lines
 
-  -- the reading of some lines after the lines before the block
   abbrev reading : List ReadLine → Reading ReadEpoch
   reading lines = reading_from compact_place true [] 3 (lines_before ++ lines)
 

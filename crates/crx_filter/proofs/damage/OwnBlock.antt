@@ -112,7 +112,6 @@ module _ (input : List ℕ) (choices : Choices) (damaged : List ℕ)
   abbrev block : List (Item Epoch)
   block = items_of epochs ++ d.before
 
-  -- the first line of the block
   abbrev full : List ℕ
   full = epoch_line (marked_now choices.every d.before d.first) (marked_epochs choices.every d.before)
 

@@ -4,7 +4,6 @@ use Words.{common_steps, arith, ℕ, ◌≡◌, List, [], ◌∷◌, ◌++◌, O
 use Words.{Epoch, Choices, Item, Accepted, Warned, written_lines, BeginsAnew}
 use Rattle.crx_filter.proofs.wayback.{Items.body_unit}
 
--- the lines of some items after others
 abbrev pub lines_on : Option ℕ → List (Item Epoch) → List (Item Epoch) → List (List ℕ)
 lines_on every [] before = []
 lines_on every (Accepted unit ∷ later) before = lines_on every later before ++ body_unit every

@@ -29,7 +29,6 @@ abbrev pub phase_by : List ReadLine → Place (List (List ℕ)) → Phase OpenRa
 phase_by lines p phase =
     elim p [ Done two count ↦ phase | Fails offset fault ↦ phase | NeedsMore ↦ InFirstLines (length lines) ]
 
--- the state of an expansion after some lines
 abbrev pub state_by : Choices → List ReadLine → Place (List (List ℕ)) → RunState OpenRawEpoch (Option Tail)
 state_by choices lines p =
     let state : RunState OpenRawEpoch (Option Tail) =

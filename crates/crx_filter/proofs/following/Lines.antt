@@ -49,7 +49,6 @@ record-place beginning items left lines ended some = grind (arith, common_steps,
 
 -- ---- a reading that has stopped
 
--- one line decides a unit of one line
 pub one_line-decided : {X : Type 0} (r : Result X Fault) → one_line r ≡ NeedsMore → ⊥
 one_line-decided r e = grind (arith, common_steps)
 
@@ -58,7 +57,7 @@ only_none : {X : Type 0} (read : List ℕ → Result X Fault) (ls : List ReadLin
     → first_line ls read ≡ NeedsMore → ls ≡ []
 only_none read ls e = grind (arith, common_steps, one_line-decided)
 
--- the stops of the reading of lines up to number `next`
+-- the stops that a reading can have before line `next`
 abbrev pub IsStopped : {E : Type 0}
     → (List (Item E) → List ReadLine → Place (FileUnit E)) → List (Item E) → Stop → ℕ → Type 0
 IsStopped place items (AtFault at) next = ⊤
@@ -173,7 +172,6 @@ module _ {E U O K : Type 0} {m : Meaning E U O K} (h : IsCarriedOut m) where
       (offset, body-place m.beginning items lines ended none ∙ here)
   body-agrees items phase kept lines made ended none keeps first agree = absurd agree
 
-  -- an epoch that is open has some lines
   some_lines : (items : List (Item E)) (so_far : O) (ls : List ReadLine)
       → m.open_with items ls ≡ Some so_far → 0 < length ls
   some_lines items so_far ls e = grind (arith, common_steps, none-some, h.none_open)
@@ -281,7 +279,6 @@ module _ {E U O K : Type 0} {m : Meaning E U O K} (h : IsCarriedOut m) where
         (fed_once (step (Completes held))) (Completes held)
     followed-unit n unit held same = grind (arith, kept-with_records, noticed-lines, failed-lines)
 
-    -- if it is fed once
     made-once : (made : Made U O) → Agrees m items phase kept (rest ++ line ∷ []) made
         → is_again (step made).answer ≡ false → FollowsAs (count + 1) items after (fed_once (step made)) made
     made-once (Completes held) (lines, unit, there, same) quiet = rw (last-here unit lines there)

@@ -6,7 +6,6 @@ use Rattle.crx_filter.proofs.{reading.Stopping.reading-stopped, Words.{ℕ, ◌�
 use Rattle.crx_filter.proofs.Words.{length, ReadLine, Reading, reading_from, RunState, fed}
 
 module _ {E U O K : Type 0} {m : Meaning E U O K} (h : IsCarriedOut m) where
-  -- lines that are read with no items before them, from line `number` on
   abbrev pub read_from : ℕ → List ReadLine → Reading E
   read_from number lines = reading_from (place m) m.choices.skip [] number lines
 

@@ -7,7 +7,6 @@ use Rattle.crx_filter.proofs.reading.{Forward.rinex_beginning, Types.counts-in_f
 use Rattle.crx_filter.proofs.reading.WhatStands.{StandsAt, Stands, of-unit, of-rinex}
 use Rattle.crx_rinex.proofs.SoundEpochs.{sound-epoch_place}
 
--- an epoch is read from some lines
 abbrev pub IsEpochAt : List (Item Epoch) → List ReadLine → Epoch → ℕ → Type 0
 IsEpochAt items lines epoch count = epoch_place (types_in_force items) lines ≡ Done (Observation epoch) count
 

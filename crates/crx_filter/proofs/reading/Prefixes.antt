@@ -39,7 +39,6 @@ module _ {U O K : Type 0} {direction : Direction U O K} {closing_after : List In
       let g = grown (λ ls. (filter.so_far ls).warnings) (λ ls l. (_, (goes.follows ls l).warnings)) lines more
       in (_, rw (g.1, append_assoc) at (goes.ends (lines ++ more)).warnings)
 
--- the text of lines, with others after them
 text-grows : (some_lines all : List (List ℕ)) → (rest : List (List ℕ)) × (all ≡ some_lines ++ rest)
     → Begins (lines_text all) (lines_text some_lines)
 text-grows some_lines all more = grind (arith, flat_map-append)

@@ -59,7 +59,6 @@ module _ {E : Type 0} (skip : Bool) (read : List (Item E) → ℕ → List ReadL
 
 module _ {E : Type 0} (read : ℕ → List ReadLine → Reading E) (items : List (Item E))
     (number : ℕ) (line : ReadLine) (lines : List ReadLine) where
-  -- looking for a line that begins with >
   pub looked-here : can_go_on line ≡ true
       → looked_for read items number (line ∷ lines) ≡ read number (line ∷ lines)
   looked-here e = rw (e, looked_for) refl

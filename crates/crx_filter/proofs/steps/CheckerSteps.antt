@@ -27,7 +27,6 @@ use Rattle.crx_filter.specs.meaning.Standard.{Findings, report_lines}
 use Rattle.crx_header.specs.{Identifiers.has_identifier, meaning.Satellites.is_identifier}
 use Rattle.std.proofs.{Math.Bool.not-not, lemmas.{List.drop_all, Slice.Eq.bytes_eq-Decides}}
 
--- nothing is kept of the epochs
 abbrev pub nothing_kept : Written
 nothing_kept = record { index = 0; tail = None }
 
@@ -202,7 +201,6 @@ none-named : (names : List Bool) (rows : List ObservationRow) → rows ≡ []
     → ((name : List ℕ) → has_identifier names name ≡ false) → AreNamed names rows
 none-named names rows none empty = λ name named. empty name ∙ rw (none) refl
 
--- whether a satellite is among some rows and one more
 among-more : (name : List ℕ) (rows : List ObservationRow) (row : ObservationRow)
     → has_satellite name (rows ++ row ∷ []) ≡ (bytes_eq row.name name || has_satellite name rows)
 among-more name rows row = grind (arith, common_steps)

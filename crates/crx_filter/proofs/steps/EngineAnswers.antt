@@ -69,7 +69,6 @@ once-again answer e = grind (arith, common_steps)
 
 -- ---- one answer
 
--- the warnings of a line that is fed twice, oldest first
 noticed-last : (answer : Answer) (next : At)
     → reverse (noticed_by answer ++ next ∷ []) ≡ (next ∷ []) ++ noticed_by answer
 noticed-last (Notice at again) next = refl

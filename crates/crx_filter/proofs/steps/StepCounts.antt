@@ -26,7 +26,6 @@ module _ {U O K : Type 0} (direction : Direction U O K) (before now : RunState O
       → now.choices ≡ before.choices
   made-choices made step = grind (arith, common_steps)
 
-  -- the number of lines taken after a line
   pub steps-counted : Steps direction before line result ready now
       → IfOk result (λ s. now.number ≡ taken_after s before.number)
   steps-counted (inl step) = made-counted (made_in direction before.phase before.types before.kept line) step

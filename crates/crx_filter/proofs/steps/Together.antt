@@ -49,7 +49,6 @@ pub rows-few : (reader : RinexReader) (encoder : EncoderState) → BelongTogethe
     → is_open_stage reader.stage ≡ true → length encoder.rows < SATELLITES_LIMIT + 1
 rows-few reader encoder t opened = omega (arith, reader.few, ap length (rows-there reader encoder t opened))
 
--- if no epoch is open, the encoder has no rows
 pub none-there : (reader : RinexReader) (encoder : EncoderState) → BelongTogether reader encoder
     → is_open_stage reader.stage ≡ false → encoder.rows ≡ []
 none-there reader encoder t closed = grind (arith, common_steps, true≢false)

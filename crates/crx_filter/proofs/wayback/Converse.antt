@@ -35,7 +35,6 @@ kept-text = all-weaker is_kept is_printable (λ c h. grind (arith, h))
 digits-text : (text : List ℕ) → all_ascii_digits text ≡ true → list_all is_printable text ≡ true
 digits-text = all-weaker is_ascii_digit is_printable (λ c h. grind (arith, h))
 
--- a number's digits
 small-size : (width size : ℕ) → width ≤ 19 → size < 10 ^ (width - 1) → size < 2 ^ 64
 small-size width size h k = search (rules, pow-le-pow_right)
 
@@ -74,7 +73,6 @@ rows-all P f [] h = tt
 rows-all P f (row ∷ rows) h =
     (f row (All-head IsSoundRow row rows h), rows-all P f rows (All-tail IsSoundRow row rows h))
 
--- the lines of a whole epoch are printable
 pub epoch-printable : (types : List Count) (epoch : Epoch) → IsWholeEpoch types epoch
     → AllByRecursion (λ (line : List ℕ). list_all is_printable line ≡ true) (printed_epoch epoch)
 epoch-printable types epoch h =

@@ -7,7 +7,6 @@ use Rattle.crx_filter.proofs.reading.{ForwardCompact.compact_beginning, Types.co
 use Rattle.crx_filter.proofs.reading.WhatStands.{StandsAt, Stands, chosen, of-unit, of-compact}
 use Rattle.crx_compact.{proofs.soundness.Goodness.reads-whole, specs.ReadingLaws.HasPrintableMarks}
 
--- an epoch is read from some lines
 abbrev pub IsReadAt : List (Item ReadEpoch) → List ReadLine → ReadEpoch → ℕ → Type 0
 IsReadAt items lines read count = epoch_at (types_in_force items) (raws_kept items) lines ≡ Done read count
 

@@ -122,7 +122,6 @@ pub printed-stand : (items : List (Item Epoch)) → AreInPlace items
     → OfCopiedLines CanStand items → AllByRecursion CanStand (printed_items items)
 printed-stand = printed-lines CanStand (λ line c. (c.one_line, c.short))
 
--- the accepted units, printed and read again
 pub printed-again : (items : List (Item Epoch)) → IsSettled items → HaveNoReturns items → whole_of (lines_text
     (printed_items items)) ≡ record { items = as_items (units_in items); fault = None }
 printed-again items h none =

@@ -52,7 +52,7 @@ pub record BringsBack (writer messages : Device)
   -- any other file that is read to its end without a fault is restored in its normal form, unless a copied line ends
   -- in CR
   pub normal : HasNormalForm file → IsResult (written_well (normal_form file)) writer messages status fault
-  -- if faults were skipped, all accepted units are restored, as RINEX prints them
+  -- with skipped faults, too, all accepted units are restored as RINEX prints them, unless a copied line ends in CR
   pub accepted :
       let whole : WholeReading Epoch = whole_rinex compacting.skip (map as_read (lines_of file)) in
       whole.fault ≡ None → HaveNoReturns whole.items
@@ -88,6 +88,6 @@ pub record IsJudged (writer : Device) (status : ℕ) (file : List ℕ) : Type 0 
   pub comes_back : (compacting expanding : Choices) → is_date compacting.date ≡ true
       → (status ≡ 0) ↔ ((expanded (compacted file compacting).output expanding).output ≡ file)
 
--- this holds for every file that is read to its end without a fault
+-- a check judges every file that is read to its end without a fault
 abbrev pub JudgesStandard : Device → ℕ → List ℕ → Type 0
 JudgesStandard writer status file = (whole_of file).fault ≡ None → IsJudged writer status file
