@@ -26,7 +26,7 @@ module _ {input : Input} {now : ReaderState} {lines : List InputLine}
       lines
   all-lines = grind (arith, common_steps, append-nil)
 
-  -- the lines of what was read come first in every input that begins with what was given
+  -- the lines that were read are the first lines of every input that begins with the bytes given
   first-lines : (now.phase ≡ Open) ⊎ (now.phase ≡ Ended) → (rest : List ℕ) → (input.at_end → rest ≡ [])
       → (more : List InputLine) × (lines_of (h.given ++ rest) ≡ lines ++ more)
   first-lines (inl e) rest none = (lines_of (now.rest ++ rest), (is-open h e).first rest)
@@ -34,7 +34,7 @@ module _ {input : Input} {now : ReaderState} {lines : List InputLine}
 
 -- ---- a whole run
 
--- what a run comes to
+-- the result of a run
 abbrev Comes : Filter → Input → Device → Device → (List InputLine → Type 0) → ℕ → Option At → Type 0
 Comes filter input writer messages has_ended status fault = (given : List ℕ) × input.gave given
     × RunsAs (result_by filter) filter input given writer messages status fault
@@ -53,14 +53,14 @@ module _ (filter : Filter) (lawful : IsLawful filter) (input : Input)
   flushed-either : IsFlushed writer2 ⊎ FlushFailed writer2 → writer2.took []
   flushed-either = grind arith
 
-  -- a fault that was found on the way to all lines
+  -- a fault found before the end is the fault of the whole input
   found-whole : (before course all : Course) (at : At) (status : ℕ) (fault : Option At)
       → all ≡ course → EndedByFault writer1 messages1 before course at
       → NoneFailed messages.before.failures messages.after.failures → Finishes writer2 messages2 0 true
       (Some (halt.Fault at)) status fault → IsResult (result_of_course all) writer messages status fault
   found-whole = grind (arith, common_steps, whole-result, flushed-either)
 
-  -- what a line, or the end, ended the run with, where no device failed and memory didn't run out
+  -- a line, or the end, ended the run, no device failed and memory wasn't refused
   ends-whole : (can : Option (List At)) (number : ℕ) (before course all : Course) (halt : Halt) (last : ℕ)
       (warned : Bool) (status : ℕ) (fault : Option At) → ((at : At) → course.fault ≡ Some at → all ≡ course)
       → EndsAt can number writer1 messages1 before course halt → Finishes writer2 messages2 last warned
@@ -103,8 +103,7 @@ module _ (filter : Filter) (lawful : IsLawful filter) (input : Input)
         input writer messages has_ended status fault
     interrupted = grind arith
 
-    -- what came next ended the run: in every longer input that begins with what was given, a fault of it is
-    -- the same
+    -- the next item ended the run: its fault is the same in every longer input that begins with the bytes given
     same-whole : {lines : List InputLine} (next : Option InputLine) (e : EndsBy filter input writer1 messages1
         now lines next halt) (rest : List ℕ) → (input.at_end → rest ≡ []) → (at : At)
         → (course_with filter lines next).fault ≡ Some at
@@ -181,7 +180,7 @@ module _ (filter : Filter) (lawful : IsLawful filter) (input : Input)
       (start-stands filter lawful input w m now last warned halt status fault finished s) (grind arith)
       (inl (ap (λ t. t.ends) s.counts)) (λ other. ap (λ t. t.failures) s.counts)
 
-  -- memory ran out before the first line was asked for
+  -- memory was refused before the first line was read
   pub runs-nothing : (has_ended : List InputLine → Type 0) (status : ℕ) (fault : Option At) → input.gave []
       → input.counted ≡ input.start → TookAll writer1 [] → TookAll messages1 [] → Finishes writer2 messages2 0
       false (Some (halt.Fault (record { line = 0; fault = OutOfMemory }))) status fault

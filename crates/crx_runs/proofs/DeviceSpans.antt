@@ -1,4 +1,4 @@
--- A device over two stretches of a run, and over both.
+-- A device over two spans of a run, and over both.
 use Rattle.std.proofs.lemmas.Grind.{common_steps}
 use Rattle.std.proofs.Common.{◌≡◌, ℕ, ◌≤◌, List, [], ◌∷◌, ◌++◌, length, take, refl, sym, ap, subst, ◌∙◌}
 use Rattle.std.proofs.{Common.{arith, append_assoc, append-nil, length-append}, Math.Seq.take-append-add}
@@ -14,7 +14,7 @@ notices-append [] ys = refl
 notices-append (x ∷ xs) ys = ap (λ t. warning_text x ++ t) (notices-append xs ys)
     ∙ sym (append_assoc (warning_text x) (notices_text xs) (notices_text ys))
 
--- the first stretch, the second, and both
+-- the first span, the second, and both
 pub record Joins (first second both : Device) : Type 0 where
   pub same : second.before ≡ first.after
   pub start : both.before ≡ first.before
@@ -26,7 +26,7 @@ pub span-joins : {S : Type 0} (sink : Ghosts S) → ((a b c : S) (xs ys : List �
     b ys c → sink.took a (xs ++ ys) c) → {a b c : S} → Joins (span sink a b) (span sink b c) (span sink a c)
 span-joins = search
 
--- a stretch in which nothing happens, before a device
+-- an idle span before a device
 abbrev idle : Device → Device
 idle device =
     record {
@@ -56,7 +56,7 @@ pub part-still : {first second both : Device} → Joins first second both → (x
     → IsPart first xs all → TookAll second [] → IsPart both xs all
 part-still = grind (arith, common_steps, took-still)
 
--- a part of a text is one of a longer text
+-- a part of a text is a part of a longer text
 pub part-more : {device : Device} (xs all more whole : List ℕ) → whole ≡ all ++ more → IsPart device xs all
     → IsPart device xs whole
 part-more = grind (arith, common_steps, length-append, take-append-le)
@@ -71,7 +71,7 @@ pub none-resumed : (device : Device) (xs all : List ℕ) → all ≡ xs → Took
     → TookAll (resumed device xs) all
 none-resumed device xs all is a = all-resumed device xs all [] (is ∙ sym (append-nil xs)) a
 
--- a part of a text, after what was taken before; there may be more of it than was tried
+-- a part of a text, after a text that was taken before; the whole may go on after the part that was tried
 pub part-resumed : {device : Device} (start xs ys more all : List ℕ) → length start ≤ length xs
     → all ≡ (xs ++ ys) ++ more → IsPart device [] ys → IsPart (resumed device xs) start all
 part-resumed start xs ys more all within is p =
@@ -80,7 +80,7 @@ part-resumed start xs ys more all within is p =
     ∙ take-append-add xs ys n in
     grind (arith, common_steps, n, front, length-append (xs ++ ys) more, length-append xs ys)
 
--- what a device took, another took as well, and counted the same
+-- every text that one device took, the other took as well, with the same counts
 pub record Carries (one other : Device) : Type 0 where
   pub took : (text : List ℕ) → one.took text → other.took text
   pub before : other.before ≡ one.before
@@ -90,7 +90,7 @@ pub carried-part : {one other : Device} → Carries one other → (xs all : List
     → IsPart other xs all
 carried-part = grind arith
 
--- what came after a text, over both stretches
+-- the text after a first one, over both spans
 pub carry : {first second both : Device} → Joins first second both → (xs : List ℕ) → TookAll first xs
     → Carries (resumed second xs) both
 carry = grind arith
@@ -101,7 +101,7 @@ pub part-then : {first second both : Device} → Joins first second both → (xs
 part-then j xs ys a b = carried-part (carry j xs a) xs _ (part-resumed xs xs ys [] _ (omega arith) (sym
     (append-nil _)) (grind arith))
 
--- and what came after two texts, over both stretches after the first text
+-- the text after two others, over both spans after the first text
 pub carry-on : {first second both : Device} → Joins first second both → (xs ys all : List ℕ)
     → all ≡ xs ++ ys → TookAll first ys → Carries (resumed second all) (resumed both xs)
 carry-on j xs ys all is a = grind (arith, common_steps, append_assoc)

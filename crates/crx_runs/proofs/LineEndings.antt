@@ -1,4 +1,4 @@
--- How a run goes on or ends at a line, from one stretch of it to the next.
+-- How a line continues or ends a run, from one span of it to the next.
 use Rattle.std.proofs.lemmas.Grind.{common_steps}
 use Rattle.std.proofs.Common.{◌≡◌, ◌⊎◌, ℕ, ◌<◌, List, [], ◌++◌, length, Option, Some, None, Bool}
 use Rattle.std.proofs.Common.{refl, sym, ap, ◌∙◌, arith, append_assoc, append-nil, length-append}
@@ -21,7 +21,7 @@ carried-ends = grind arith
 module _ {writer1 writer2 writer messages1 messages2 messages : Device}
     (w : Joins writer1 writer2 writer) (m : Joins messages1 messages2 messages)
     (before after : Course) (out : IsAllOut writer1 messages1 before) where
-  -- all that came before is out, and what is added
+  -- all earlier output and the added one were written and reported
   pub out-more : (text : List ℕ) (notices : List At) → Adds before after text notices
       → TookAll writer2 text → TookAll messages2 (notices_text notices) → IsAllOut writer messages after
   out-more = grind (arith, common_steps, notices-append)
@@ -33,7 +33,7 @@ module _ {writer1 writer2 writer messages1 messages2 messages : Device} (w : Joi
   abbrev told : List At
   told = before.warnings ++ earlier
 
-  -- what a step made was written and reported
+  -- a step was written and reported
   pub step-done : (text : List ℕ) (notices : List At) {shown : Type 0} → shown
       → Adds before after text (earlier ++ notices)
       → IsAllOut writer2 messages2 (record { output = text; warnings = notices; fault = None }) →
@@ -56,7 +56,7 @@ module _ {writer1 writer2 writer messages1 messages2 messages : Device} (w : Joi
     over-both halt e = carried-ends (carry-on w _ [] _ (sym (append-nil _)) wrote)
         (carry-on m _ _ _ (notices-append _ _) reported) memory number before after halt e
 
-    -- a fault was answered
+    -- the engine answered with a fault
     pub answer-ends : (at : At) → (earlier ≡ []) ⊎ AreNext before after earlier
         → ((at.fault ≡ OutOfMemory) × (at.line ≡ number) × (memory ≡ Some earlier)) ⊎ EndsWith before after
         earlier at → TookAll writer2 [] → TookAll messages2 []
@@ -64,7 +64,7 @@ module _ {writer1 writer2 writer messages1 messages2 messages : Device} (w : Joi
     answer-ends at next by still quiet = over-both (Fault at)
         (grind (arith, common_steps, none-resumed))
 
-    -- what a step made couldn't be written or reported
+    -- a step couldn't be written or reported
     pub step-ends : (text : List ℕ) (notices : List At) → (0 < length text → Adds before after text (earlier
         ++ notices)) → AreNext before after (earlier ++ notices) → (halt : Halt) → EndsAt None 0 writer2
         messages2 (record { output = []; warnings = []; fault = None })

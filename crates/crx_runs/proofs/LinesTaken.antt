@@ -1,4 +1,4 @@
--- A line that an engine takes, at once or a second time.
+-- A line that an engine takes, the first or the second time.
 use Rattle.std.proofs.lemmas.Grind.{common_steps}
 use Rattle.std.proofs.Common.{◌≡◌, ◌⊎◌, ℕ, ◌+◌, Bool, true, false, List, [], ◌∷◌, ◌++◌, length}
 use Rattle.std.proofs.Common.{Option, Some, None, Result, Ok, Err, IfOk, IfErr, refl, ap, ◌∙◌, ◌||◌}
@@ -22,7 +22,7 @@ use Rattle.crx_runs.specs.meaning.Spans.{Device, TookAll, TookPart, AreNext, IsP
 
 module _ (filter : Filter) {E : Type 0} (engine : EngineGhosts E) (then : E) (ready : List (List ℕ))
     (lines : List InputLine) where
-  -- what a line, or the end, adds that doesn't come a second time
+  -- what a line, or the end, adds if it isn't fed again
   answers-add : (notices : List Awaited) (next : Option InputLine) (step : Step) → Stays step
       → IsDrainedAfter step ready → EngineAnswers filter (engine.shows then) (engine.has_ended then) ready
       lines notices next (Ok step)
@@ -30,19 +30,19 @@ module _ (filter : Filter) {E : Type 0} (engine : EngineGhosts E) (then : E) (re
       (course_with filter lines next) (lines_text ready) (awaited_notices notices ++ step_notices step)
   answers-add notices next step stays drained a = grind (arith, common_steps, append-nil)
 
-  -- a line comes a second time once at most
+  -- a line is fed again at most once
   pub stays-then : (first : Awaited) (next : Option InputLine) (step : Step)
       → EngineAnswers filter (engine.shows then) (engine.has_ended then) ready lines (first ∷ []) next (Ok
       step) → Stays step
   stays-then = grind arith
 
-  -- and the end never does
+  -- and the end never is
   pub end-stays : (step : Step) (made : Result Bool Halt)
       → EngineAnswers filter (engine.shows then) (engine.has_ended then) ready lines [] None (Ok step) → IfOk
       made (λ warned. Stays step)
   end-stays = grind (arith, common_steps)
 
--- lines that were ready were written, or in part
+-- pending lines were written, whole or in part
 pub ready-all : (writer messages : Device) (ready : List (List ℕ)) → TookAll writer (lines_text ready)
     → TookAll messages [] → IsSettled writer messages (made_by ready Ready) (Ok false)
 ready-all = grind arith
@@ -51,7 +51,7 @@ pub ready-cut : (writer messages : Device) (ready : List (List ℕ)) → TookPar
     → TookAll messages [] → IsSettled writer messages (made_by ready Ready) (Err Unwritten)
 ready-cut = grind arith
 
--- what a line comes to, by what its last answer does: after a warning of the first time there was one
+-- the result of a line by its last answer, with the warning of the first time
 abbrev pub after_first : List Awaited → Result Bool Halt → Result Bool Halt
 after_first earlier (Ok warned) = Ok (are_some (awaited_notices earlier) || warned)
 after_first earlier (Err halt) = Err halt
@@ -60,7 +60,7 @@ are-some-append : (xs ys : List At) → (are_some xs || are_some ys) ≡ are_som
 are-some-append [] ys = refl
 are-some-append (x ∷ xs) ys = refl
 
--- a line that comes once
+-- a line that is fed once
 pub once : (made : Result Bool Halt) → made ≡ after_first [] made
 once (Ok warned) = refl
 once (Err halt) = refl
@@ -95,7 +95,7 @@ module _ {writer1 writer2 writer messages1 messages2 messages : Device} (w : Joi
       step-ends w m _ _ (awaited_notices earlier) wrote reported _ _ _ _ (λ some. adds.1) (all-next adds.1)
       halt e
 
-  -- a line whose text couldn't be written, or a warning of which couldn't be reported
+  -- a line whose output couldn't be written, or whose warning couldn't be reported
   line-cut : (step : Step) → IsDrainedAfter step ready
       → EngineAnswers filter (engine.shows then) (engine.has_ended then) ready lines earlier next (Ok step) →
       (halt : Halt)
@@ -108,8 +108,7 @@ module _ {writer1 writer2 writer messages1 messages2 messages : Device} (w : Joi
       (rw (a.1) a.2) halt e
   line-cut (Warned notice false) drained a halt e = cut-by (Warned notice false) tt drained a halt e
 
-  -- what was answered was written and reported, after which the line doesn't come a second time;
-  -- or that failed
+  -- an answer was written and reported, and the line isn't fed again; or that failed
   pub line-becomes : (step : Step) → IsDrainedAfter step ready
       → EngineAnswers filter (engine.shows then) (engine.has_ended then) ready lines earlier next (Ok step) →
       (shown : Type 0)
@@ -122,7 +121,7 @@ module _ {writer1 writer2 writer messages1 messages2 messages : Device} (w : Joi
   line-becomes step drained a shown kept (Err halt) result is stays s =
       rw (is) (line-cut step drained a halt s)
 
-  -- a line that hands lines out
+  -- a line with output
   pub handed-becomes : (out : HandedOut) (stored : Result Step At)
       → EngineAnswers filter (engine.shows then) (engine.has_ended then) ready lines earlier next
       (answer_given (Some out) stored)
@@ -138,7 +137,7 @@ module _ {writer1 writer2 writer messages1 messages2 messages : Device} (w : Joi
   handed-becomes AsItIs _ a drained shown kept made result is s =
       line-becomes Ready drained a shown kept made result is (always-ok made tt) s
 
--- what is done with an answer to a line is what becomes of the line
+-- carrying out the answer to a line takes the line
 pub answered-next : {E : Type 0} (engine : EngineGhosts E) (before now then : E) (line : InputLine)
     {writer messages : Device} {result : Result Bool Halt} → engine.filter now ≡ engine.filter before
     → ((lines : List InputLine) → engine.shows before lines [] → WasAnswered engine now line lines (Some line))
@@ -150,7 +149,7 @@ answered-next engine before now then line kept answered taken = record {
   becomes = λ lines next comes. rw (kept) at (taken.becomes lines next (rw (comes.1) (answered lines comes.0)));
 }
 
--- a warning after which a line comes a second time was reported
+-- the warning after which a line is fed again was reported
 pub again-out : {writer messages : Device} (ready : List (List ℕ)) (step : Step) (notice : At) (warned : Bool)
     → step ≡ Warned notice true → IsDrainedAfter step ready → IsSettled writer messages (made_by ready step)
     (Ok warned)
@@ -158,7 +157,7 @@ pub again-out : {writer messages : Device} (ready : List (List ℕ)) (step : Ste
 again-out {writer = writer} {messages = messages} ready step notice warned is drained settled =
     grind (arith, common_steps, made_by, lines_text)
 
--- a part of a text that isn't there
+-- an empty text has no part
 no-part : {device : Device} (xs all : List ℕ) → all ≡ [] → IsPart device xs all → ⊥
 no-part xs all none part = omega (arith, part.less, ap length none)
 
@@ -166,7 +165,7 @@ none-first : (xs ys : List At) → [] ≡ xs ++ ys → xs ≡ []
 none-first [] ys is = refl
 none-first (x ∷ xs) ys is = absurd (cc)
 
--- the end of the input has no warning where it ended the run, or the one that failed
+-- if the end of the input ended the run, it has no warning, or the one that couldn't be reported
 pub end-warns : (filter : Filter) {E : Type 0} (engine : EngineGhosts E) (then : E) (ready : List (List ℕ))
     (lines : List InputLine) (step : Step) (writer messages : Device) (result : Result Bool Halt) →
     IsDrainedAfter step ready

@@ -1,4 +1,4 @@
--- What is after a run, by how its work ended and how it was finished.
+-- The state after a run, by how its work ended and how it was finished.
 use Rattle.std.proofs.lemmas.Grind.{common_steps}
 use Rattle.std.proofs.Common.{◌≡◌, ◌⊎◌, inl, inr, ℕ, ◌+◌, Bool, true, List, [], ◌++◌, length, Option}
 use Rattle.std.proofs.Common.{Some, None, refl, sym, ap, subst, ◌∙◌, arith}
@@ -22,7 +22,7 @@ use Rattle.crx_runs.specs.meaning.{Interruptions.{Stands, IsFrontPart}, Messages
 use Rattle.crx_runs.specs.meaning.{Results.{Begins, Course}, Spans.{Device, TookAll, Input}}
 use Rattle.crx_runs.specs.declared.one_line.Halt.TheVariants as halt
 
--- what is after a run that a fault ended
+-- the state after a run that a fault ended
 abbrev pub StandsAfter : Filter → Input → Device → Device → List ℕ → ℕ → Option At → Type 0
 StandsAfter filter input writer messages given status fault = (at : At)
     → fault ≡ Some at → (status ≡ 1) × Stands filter input given writer messages at at.fault
@@ -49,7 +49,7 @@ module _ (filter : Filter) (lawful : IsLawful filter) (input : Input)
       → TookAll messages1 (notices_text warnings) → IsReported messages2 at → AreReported messages at warnings
   reported = grind (arith, common_steps, part-then)
 
-  -- what is after a run that ended before the good end of its input
+  -- the state after a run that ended before the good end of its input
   abbrev pub Stood : List ℕ → ℕ → Option At → Type 0
   Stood given status fault = StandsAfter filter input writer messages given status fault
       × IsFrontPart filter input given writer
@@ -65,7 +65,7 @@ module _ (filter : Filter) (lawful : IsLawful filter) (input : Input)
 
   -- ---- a line, or the end
 
-  -- a fault of what was taken last is one of lines
+  -- a fault of the last item is a fault of lines
   found-with : (lines : List InputLine) (next : Option InputLine) (at : At)
       → (course_with filter lines next).fault ≡ Some at → is_of_lines at.fault ≡ true
   found-with lines (Some line) at bad = lawful.found _ at bad
@@ -156,7 +156,7 @@ module _ (filter : Filter) (lawful : IsLawful filter) (input : Input)
           record { written = _; wrote = wrote.0; first = first-complete lawful input h.given lines same },
         )
 
-    -- what was written couldn't be handed on before a read
+    -- the output couldn't be passed on before a read
     pub handing-stands : (lines : List InputLine) → stop ≡ halt.Unwritten
         → (s : HandingFailed input writer1 messages1 now lines (filter.so_far lines)) → last ≡ now.number
         → Stood s.read.given status fault
@@ -184,7 +184,7 @@ module _ (filter : Filter) (lawful : IsLawful filter) (input : Input)
         let told = reported [] at s.reported done.1 in
         (stands-after [] _ done.3 done.2 (inl (grind arith)), grind arith)
 
-  -- the flush alone failed
+  -- only the flush failed
   pub flush-stands : (has_ended : List InputLine → Type 0) (now : ReaderState) (last : ℕ) (warned : Bool)
       (status : ℕ) (at : At) (done : WellDone filter has_ended input writer1 messages1 now last warned)
       → Finishes writer2 messages2 last warned None status (Some at)

@@ -1,4 +1,4 @@
--- A run goes on by a line, or ends at it; and its end.
+-- A line continues a run or ends it; and the end of a run.
 use Rattle.std.proofs.lemmas.Grind.{common_steps}
 use Rattle.std.proofs.Common.{arith, ◌≡◌, ℕ, ◌+◌, Bool, ◌||◌, List, [], length, Option, None, Some, is_some, true, refl, Result}
 use Rattle.std.proofs.Common.{Ok, Err, OnOk}
@@ -14,12 +14,12 @@ use Rattle.crx_runs.specs.declared.stepwise.StepOutcome.TheVariants.{Stopped}
 use Rattle.crx_runs.specs.{declared.one_line.Halt.Halt, meaning.Filters.{Filter, with_next}}
 use Rattle.crx_runs.specs.meaning.{Results.{Course, are_some}, Spans.{Device, Input, TookAll}}
 
--- what is so of a line is so of its step
+-- a property of a line holds for its step
 pub stepped-ok : (P : Type 0) (taken : Result Bool Halt) → OnOk taken P → OnOk (stepped taken) P
 stepped-ok P (Ok warned) is = is
 stepped-ok P (Err halt) is = is
 
--- a run that stopped keeps what ended it
+-- a run that stopped stores why it ended
 pub stopped-by : {filter : Filter} (shows : List InputLine → List Awaited → Type 0) {input : Input}
     {writer messages : Device} {now : ReaderState} {lines : List InputLine} (ended : Option Halt)
     → is_some ended ≡ true → StepGoes filter shows input writer messages now lines (step_answer Stopped ended)
@@ -27,7 +27,7 @@ pub stopped-by : {filter : Filter} (shows : List InputLine → List Awaited → 
 stopped-by shows (Some halt) some goes = (halt, refl, goes)
 stopped-by shows None some goes = absurd (cc)
 
--- the run goes on
+-- the run continues
 pub go-on : {filter : Filter} {shows : List InputLine → List Awaited → Type 0} {input : Input}
     {writer messages : Device} {now : ReaderState} {lines : List InputLine} {warned warning both : Bool}
     → warned ≡ are_some (filter.so_far lines).warnings → GoesOnBy filter shows input writer messages now lines
@@ -68,11 +68,11 @@ module _ {filter : Filter} {input : Input} {now : ReaderState} {lines : List Inp
 module _ {input : Input} {now : ReaderState} {lines : List InputLine} {course : Course}
     {writer1 writer2 writer messages : Device} (w : Joins writer1 writer2 writer)
     (running : IsRunning input writer1 messages now lines course) where
-  -- what was written was handed on
+  -- all output was passed on
   pub still-running : TookAll writer2 [] → IsRunning input writer messages now lines course
   still-running still = grind (arith, common_steps, all-still)
 
-  -- or it couldn't be
+  -- or it couldn't be passed on
   pub handing-fails : (now.phase ≡ Open → HasNoFeed now.rest) → FlushFailed writer2
       → HandingFailed input writer messages now lines course
   handing-fails unheld failed = grind (arith, common_steps, took-still)

@@ -1,4 +1,4 @@
--- What is after a run, by how it ended.
+-- The state after a run, by how it ended.
 use Rattle.std.proofs.lemmas.Grind.{common_steps}
 use Rattle.std.proofs.Common.{arith, ◌≡◌, ◌⊎◌, inl, inr, ℕ, ◌≤◌, List, [], ◌++◌}
 use Rattle.std.proofs.Common.{length, take, drop, Option, Some, None, refl}
@@ -14,7 +14,7 @@ use Rattle.crx_runs.specs.Lawful.{IsLawful}
 use Rattle.crx_runs.specs.meaning.Interruptions.{complete_lines, AreAll, AreAllSoFar, AreTaken, IsTurn}
 use Rattle.crx_runs.specs.meaning.{Results.Begins, Filters.{Filter, course_with, lines_with}, Spans.Input}
 
--- ---- what was read
+-- ---- which lines were read
 
 -- up to the limit of an input all its bytes count
 complete-within : (given : List ℕ) → length given ≤ INPUT_LIMIT → complete_lines given ≡ ended_lines_of given
@@ -59,7 +59,7 @@ module _ {input : Input} {now : ReaderState} {lines : List InputLine}
   pub asked-once : (now.phase ≡ Open) ⊎ (now.phase ≡ Ended) → AskedOnce input
   asked-once = grind arith
 
--- what was taken last, of an input that came to it
+-- the last item taken of an input that was read up to it
 pub turn-read : {input : Input} {now : ReaderState} (lines : List InputLine) (next : Option InputLine)
     (h : HasRead input.gave input.at_end input.start input.counted now (lines_with lines next))
     → (now.phase ≡ Open) ⊎ (now.phase ≡ Ended) → (next ≡ None → now.phase ≡ Ended)
@@ -67,7 +67,7 @@ pub turn-read : {input : Input} {now : ReaderState} (lines : List InputLine) (ne
 turn-read lines (Some line) h going ended = taken-read h going
 turn-read lines None h going ended = all-read h (ended refl)
 
--- the lines before the reading stopped are those that were complete
+-- the lines before the reader stopped are the complete ones
 pub complete-stopped : (given : List ℕ) (lines : List InputLine) (f : Fault) (start counted : Tally)
     → IsStopped f start counted given lines → lines ≡ complete_lines given
 complete-stopped given lines InputTooLong start counted s = s.1
@@ -85,7 +85,7 @@ begins-itself text = record { rest = []; same = sym (append-nil text) }
 pub begins-taken : (n : ℕ) (text : List ℕ) → Begins text (take n text)
 begins-taken n text = record { rest = drop n text; same = sym (take-append-drop n text) }
 
--- the output of lines that were taken is first
+-- the output of lines that were taken is a prefix
 module _ {filter : Filter} (lawful : IsLawful filter) (input : Input) (given : List ℕ) where
   abbrev pub IsFirst : List ℕ → Type 0
   IsFirst written = Begins (filter.so_far (complete_lines given)).output written
@@ -100,7 +100,7 @@ module _ {filter : Filter} (lawful : IsLawful filter) (input : Input) (given : L
         ∙ sym t.same) (lawful.goes_on lines [])) begins,
   )
 
-  -- the output after a turn is first, and so is that before it
+  -- the output after an item is a prefix, and so is the output before it
   pub first-after-turn : (lines : List InputLine) (next : Option InputLine) (written : List ℕ)
       → IsTurn input given lines next → Begins (course_with filter lines next).output written → IsFirst
       written

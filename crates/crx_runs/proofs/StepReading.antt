@@ -1,4 +1,4 @@
--- What a reader of lines answers, by the lines that were read before.
+-- The results of a reader of lines, by the lines that were read before.
 use Rattle.std.proofs.lemmas.Grind.{common_steps}
 use Rattle.std.proofs.Common.{◌≡◌, ◌⊎◌, ℕ, ◌+◌, true, List, [], ◌++◌, length, Option, Some, None}
 use Rattle.std.proofs.Common.{Result, Ok, Err, arith, ◌∙◌, ◌≢◌}
@@ -29,7 +29,7 @@ err-not-none at e = cc
 pub ended-not-open : ◌≡◌ {A = Phase} Ended Open → ⊥
 ended-not-open e = cc
 
--- what a reader that isn't stopped answers
+-- the results of a reader that isn't stopped
 pub record HasAsked (step : List ℕ → Type 0) (at_end : Type 0) (counted counted' : Tally)
     (old new : ReaderState) (r : Result (Option Line) At) : Type 0 where
   pub going : (old.phase ≡ Open) ⊎ (old.phase ≡ Ended)
@@ -39,7 +39,7 @@ pub record HasAsked (step : List ℕ → Type 0) (at_end : Type 0) (counted coun
 
 module _ {step : List ℕ → Type 0} {at_end' : Type 0} {counted counted' : Tally} {old new : ReaderState}
     {r : Result (Option Line) At} (asked : HasAsked step at_end' counted counted' old new r) where
-  -- what isn't the end was read out of some bytes
+  -- a result other than the end was read from some bytes
   answers : (x : Result (Option Line) At) → r ≡ x → (x ≡ Ok None → ⊥) → (old.phase ≡ Open) × ((more : List ℕ)
       × step more × ReaderAnswers old more at_end' counted counted' x new)
   answers = grind arith
@@ -77,7 +77,7 @@ module _ {step : List ℕ → Type 0} {at_end' : Type 0} {counted counted' : Tal
         × (new.phase ≡ Ended)) → HasRead gives at_end' start counted' new lines × (new.phase ≡ Ended)
     end-read is kept = grind (arith, common_steps, next-lines (Ok None))
 
--- bytes among which there is no LF
+-- bytes without LF
 pub has-no-feed : (bytes : List ℕ) → (Contains bytes 10 → ⊥) → HasNoFeed bytes
 has-no-feed bytes none = All-from_get_or (λ b. b ≢ 10) bytes 10 (λ k within is. none (k, within, is))
 
@@ -101,7 +101,7 @@ held-answers : (old new : ReaderState) (at_end : Type 0) (tally : Tally) (r : Re
     → ReaderAnswers old [] at_end tally tally r new
 held-answers old new at_end tally r held some = grind (arith, common_steps, takes-any, held-line, held-long)
 
--- what is answered out of what is held, as an answer for which the reader gave nothing
+-- a result from held bytes, as one for which the reader gave nothing
 pub held-asked : {step : List ℕ → Type 0} {at_end : Type 0} {tally : Tally} {old new : ReaderState}
     (r : Result (Option Line) At) → step [] → old.phase ≡ Open → AnswersHeld line_shown line_number old r new
     → (r ≡ Ok None → ⊥) → HasAsked step at_end tally tally old new r

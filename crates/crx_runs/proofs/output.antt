@@ -1,2 +1,2 @@
--- The lines that are ready to be written, and how much is held of them.
+-- The pending lines.
 pub mod ReadyLines

@@ -1,4 +1,5 @@
--- How a run can end: by a line or the end of the input, by its reader, or at its start; and how it is finished then.
+-- The ways in which a run can end, at a line, at the end of the input, in its reader or at its start, and how it is
+-- finished then.
 use Rattle.std.specs.Prelude.{◌≡◌, ◌⊎◌, ℕ, ◌+◌, Bool, List, [], ◌∷◌, ◌++◌, length, Option, Some, None}
 use Rattle.crx_base.specs.meaning.Lines.{InputLine}
 use Rattle.crx_base.specs.declared.fault.At.{At}
@@ -16,16 +17,16 @@ use Rattle.crx_runs.specs.meaning.Messages.{error_text, notices_text}
 use Rattle.crx_runs.specs.meaning.Results.{Course, are_some, good_status}
 use Rattle.crx_runs.specs.meaning.Spans.{Device, TookAll, TookPart, AreNext, Input, IsPart}
 
--- all that a course so far makes was written and reported, and no fault ended it
+-- all output and warnings of a course so far were written and reported, and no fault ended it
 pub record IsAllOut (writer messages : Device) (course : Course) : Type 0 where
   pub good : course.fault ≡ None
   pub wrote : TookAll writer course.output
   pub reported : TookAll messages (notices_text course.warnings)
 
--- ---- by what the lines of the input make
+-- ---- by the lines of the input
 
--- memory ran out at a line that may take some: all before it was written and reported, and those of its own warnings
--- after which it may
+-- memory was refused at a line that may need some, after all earlier output, and the line's own warnings that may
+-- precede this, were written and reported
 pub record MemoryRanOut (memory : Option (List At))
     (number : ℕ) (writer messages : Device) (before after : Course) (at : At) : Type 0 where
   pub notices : List At
@@ -36,14 +37,14 @@ pub record MemoryRanOut (memory : Option (List At))
   pub wrote : TookAll writer before.output
   pub reported : TookAll messages (notices_text (before.warnings ++ notices))
 
--- a fault ended it after some warnings: nothing more is written, and all was written and reported
+-- a fault ended the run after some warnings: all were written and reported, and nothing more is written
 pub record EndedByFault (writer messages : Device) (before after : Course) (at : At) : Type 0 where
   pub notices : List At
   pub ends : EndsWith before after notices at
   pub wrote : TookAll writer after.output
   pub reported : TookAll messages (notices_text after.warnings)
 
--- what came last couldn't be written whole
+-- the newest output couldn't be written whole
 pub record WritingFailed (writer messages : Device) (before after : Course) : Type 0 where
   pub text : List ℕ
   pub notices : List At
@@ -51,14 +52,14 @@ pub record WritingFailed (writer messages : Device) (before after : Course) : Ty
   pub wrote : IsPart writer before.output after.output
   pub reported : TookAll messages (notices_text after.warnings)
 
--- its first warnings couldn't be written whole
+-- the first warnings couldn't be reported whole
 pub record ReportingFailed (writer messages : Device) (before after : Course) : Type 0 where
   pub notices : List At
   pub next : AreNext before after notices
   pub wrote : TookAll writer before.output
   pub reported : IsPart messages (notices_text before.warnings) (notices_text (before.warnings ++ notices))
 
--- any of these, where one course went over into another; memory may have run out at the line of this number, or not
+-- any of these endings, between two courses; at line `number` memory may have been refused
 abbrev pub EndsAt : Option (List At) → ℕ → Device → Device → Course → Course → Halt → Type 0
 EndsAt memory number writer messages before after (halts.Fault at) =
     MemoryRanOut memory number writer messages before after at ⊎ EndedByFault writer messages before after at
@@ -74,26 +75,26 @@ resumed device text = record {
   after = device.after;
 }
 
--- the same, by devices that took before what the earlier course makes
+-- the same, for devices that have taken the earlier course before
 abbrev pub EndsFrom : Option (List At) → ℕ → Device → Device → Course → Course → Halt → Type 0
 EndsFrom memory number writer messages before after halt = EndsAt memory number
     (resumed writer before.output) (resumed messages (notices_text before.warnings)) before after halt
 
--- the end of the input has no warning where a fault, or its lines, ended the run, and else one
+-- the end of the input has no warning if a fault or its lines ended the run, and one if reporting it failed
 abbrev pub WarnsAtEnd : Course → Course → Halt → Type 0
 WarnsAtEnd before after Unreported = (notice : At) × (after.warnings ≡ before.warnings ++ notice ∷ [])
 WarnsAtEnd before after halt = after.warnings ≡ before.warnings
 
 -- ---- in a run over an input
 
--- the reader stopped: its fault, after the lines whose LF was given, none of which had a fault that ended the run
+-- the reader stopped with its fault, after the lines whose LF was read; none of them had a fault that ended the run
 pub record ReaderStopped (input : Input)
     (writer messages : Device) (now : ReaderState) (lines : List InputLine) (course : Course) (at : At) : Type 0 where
   pub read : HasRead input.gave input.at_end input.start input.counted now lines
   pub stopped : now.phase ≡ Stopped at
   pub out : IsAllOut writer messages course
 
--- what came after these lines ended the run: a line, or the end of the input
+-- the item after these lines ended the run: a line, or the end of the input
 pub record EndsBy (filter : Filter) (input : Input) (writer messages : Device) (now : ReaderState)
     (lines : List InputLine) (next : Option InputLine) (halt : Halt) : Type 0 where
   pub read : HasRead input.gave input.at_end input.start input.counted now (lines_with lines next)
@@ -102,8 +103,8 @@ pub record EndsBy (filter : Filter) (input : Input) (writer messages : Device) (
   pub ends : EndsAt (memory_with filter lines next)
       (length lines + 1) writer messages (filter.so_far lines) (course_with filter lines next) halt
 
--- what these lines make was written, and couldn't be handed on before more was to be read, as no line with its LF is
--- held: a flush failed
+-- the output of these lines was written but couldn't be passed on before the next read, when no whole line was held: a
+-- flush failed
 pub record HandingFailed (input : Input)
     (writer messages : Device) (now : ReaderState) (lines : List InputLine) (course : Course) : Type 0 where
   pub read : HasRead input.gave input.at_end input.start input.counted now lines
@@ -114,14 +115,15 @@ pub record HandingFailed (input : Input)
   pub failed : writer.after ≡ with_failed_flush writer.before
   pub reported : TookAll messages (notices_text course.warnings)
 
--- the reader's fault ended it after these lines, or the next line did, or what they make couldn't be handed on
+-- the run ended after these lines: by the reader's fault, by the next line, or because their output couldn't be passed
+-- on
 abbrev pub StopsAt : Filter → Input → Device → Device → ReaderState → List InputLine → Halt → Type 0
 StopsAt filter input writer messages now lines halt =
     ((at : At) × (halt ≡ halts.Fault at) × ReaderStopped input writer messages now lines (filter.so_far lines) at)
     ⊎ (((line : InputLine) × EndsBy filter input writer messages now lines (Some line) halt)
     ⊎ ((halt ≡ Unwritten) × HandingFailed input writer messages now lines (filter.so_far lines)))
 
--- memory ran out before the first line was asked for
+-- memory was refused before the first line was read
 pub record StoppedAtStart (input : Input) (writer messages : Device) (last : ℕ) (halt : Halt) : Type 0 where
   pub halt_is : halt ≡ halts.Fault (record { line = 0; fault = OutOfMemory })
   pub gave : input.gave []
@@ -130,7 +132,7 @@ pub record StoppedAtStart (input : Input) (writer messages : Device) (last : ℕ
   pub reported : TookAll messages []
   pub last_is : last ≡ 0
 
--- the input came to its good end: the last line's number, and whether a warning was reported
+-- the input ended without a fault: `last` is the last line's number, `warned` whether a warning was reported
 pub record WellDone (filter : Filter) (has_ended : List InputLine
     → Type 0) (input : Input) (writer messages : Device) (now : ReaderState) (last : ℕ) (warned : Bool) : Type 0 where
   pub lines : List InputLine
@@ -141,7 +143,7 @@ pub record WellDone (filter : Filter) (has_ended : List InputLine
   pub engine_ended : has_ended lines
   pub last_is : last ≡ length lines
 
--- where the work of a run ended: at the good end of its input, or before. The last line is the last one that was read
+-- the work of a run has ended, at the good end of its input or before; `last` is the last line that was read
 abbrev pub WorkEnds : Filter → (List InputLine → Type 0)
     → Input → Device → Device → ReaderState → ℕ → Bool → Option Halt → Type 0
 WorkEnds filter has_ended input writer messages now last warned None =
@@ -151,26 +153,26 @@ WorkEnds filter has_ended input writer messages now last warned (Some halt) =
     ⊎ EndsBy filter input writer messages now lines None halt) × (last ≡ now.number))
     ⊎ StoppedAtStart input writer messages last halt
 
--- ---- how a run is finished once its work has ended: the writer is flushed, and the fault is reported
+-- ---- how a run is finished after its work has ended: the writer is flushed, and the fault is reported
 
--- a write that failed, at the last line that was read
+-- a write that failed, reported at the last line that was read
 abbrev pub write_failed_at : ℕ → At
 write_failed_at last = record { line = last; fault = WriteFailed }
 
--- the message of a fault was written, whole or as far as it went
+-- the message of a fault was written, whole or up to the failure
 abbrev pub IsReported : Device → At → Type 0
 IsReported messages at = TookAll messages (error_text (Some at)) ⊎ TookPart messages (error_text (Some at))
 
--- all that was written was handed on by one flush, and nothing more was written
+-- one flush passed all output on, and nothing more was written
 abbrev pub IsFlushed : Device → Type 0
 IsFlushed writer = writer.took [] × (writer.after ≡ with_flush writer.before) × writer.flushed
 
--- one flush was asked for and failed: it writes nothing, and its failure is counted
+-- one flush failed: it wrote nothing, and its failure is counted
 abbrev pub FlushFailed : Device → Type 0
 FlushFailed writer = writer.took [] × (writer.after ≡ with_failed_flush writer.before)
 
--- a run that came to the good end of its input is flushed; where that fails, the failure is its fault. With a fault of
--- its input, its reader or its memory it is flushed too, and the fault is reported; a writer that failed isn't flushed,
+-- after the good end of the input the writer is flushed, and a failure of the flush is the run's fault. After a fault
+-- of the input, the reader or memory it is flushed too, and the fault is reported. A writer that failed isn't flushed,
 -- and after a warning that couldn't be written nothing more is
 abbrev pub Finishes : Device → Device → ℕ → Bool → Option Halt → ℕ → Option At → Type 0
 Finishes writer messages last warned None status None = IsFlushed writer

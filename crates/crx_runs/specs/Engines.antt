@@ -1,4 +1,4 @@
--- What an engine answers, line by line.
+-- The answers of an engine, line by line.
 use Rattle.std.specs.Prelude.{◌≡◌, ◌⊎◌, ◌≤◌, ℕ, ◌+◌, ⊤, true, false, List, [], ◌∷◌, ◌++◌, length, Some, None}
 use Rattle.std.specs.Prelude.{Option, Result, Ok, Err, IfOk, OnErr}
 use Rattle.crx_base.specs.meaning.Lines.{InputLine}
@@ -14,45 +14,45 @@ use Rattle.crx_runs.specs.declared.engine.HandedOut.TheVariants.{Nothing, Lines,
 use Rattle.crx_runs.specs.declared.engine.Step.{Step}
 use Rattle.crx_runs.specs.declared.engine.Step.TheVariants.{Quiet, Ready, Warned}
 
--- how many lines were taken after an answer: a line that is to come a second time doesn't count yet
+-- the number of lines taken after an answer: a line that is fed again doesn't count yet
 abbrev pub taken_after : Step → ℕ → ℕ
 taken_after Quiet count = count + 1
 taken_after Ready count = count + 1
 taken_after (Warned notice true) count = count
 taken_after (Warned notice false) count = count + 1
 
--- a line that was answered so doesn't come a second time
+-- after this answer the line isn't fed again
 abbrev pub Stays : Step → Type 0
 Stays Quiet = ⊤
 Stays Ready = ⊤
 Stays (Warned notice true) = ⊥
 Stays (Warned notice false) = ⊤
 
--- only an engine that is ready has pending lines
+-- lines are pending only after `Ready`
 abbrev pub IsDrainedAfter : Step → List (List ℕ) → Type 0
 IsDrainedAfter Ready ready = ⊤
 IsDrainedAfter Quiet ready = ready ≡ []
 IsDrainedAfter (Warned notice again) ready = ready ≡ []
 
--- the answer to a line: whether anything is handed out, or the answer that is stored
+-- the answer to a line: by its output, or the stored answer
 abbrev pub answer_given : Option HandedOut → Result Step At → Result Step At
 answer_given None kept = kept
 answer_given (Some Nothing) kept = Ok Quiet
 answer_given (Some Lines) kept = Ok Ready
 answer_given (Some AsItIs) kept = Ok Ready
 
--- what a line hands out: the lines that are ready, and where it is handed out as it is, after them that line itself
+-- the output of a line: the pending lines and, if the line is copied, the line itself after them
 abbrev pub lines_handed_out : Option HandedOut → List ℕ → List (List ℕ) → List (List ℕ)
 lines_handed_out (Some AsItIs) line ready = ready ++ line ∷ []
 lines_handed_out handed_out line ready = ready
 
--- a line of this number may be given to an engine that has taken so many: no line is pending, and it is the next one
+-- line `number` may be fed to an engine that has taken `taken` lines: it is the next one, and no line is pending
 pub record IsNextLine (ready : List (List ℕ)) (taken number : ℕ) : Type 0 where
   pub drained : ready ≡ []
   pub next : number ≡ taken + 1
   pub within : number ≤ INPUT_LIMIT
 
--- an engine answers so to a line, or to the end: its filter is the same, and lines are pending only where it is ready
+-- an engine answers so to a line or to the end: its filter stays, and lines are pending only after `Ready`
 pub record HasStepped (before after : Filter) (ready : List (List ℕ)) (answer : Result Step At) : Type 0 where
   pub filter : after ≡ before
   pub drained : IfOk answer (λ step. IsDrainedAfter step ready)
@@ -64,13 +64,13 @@ pub record Adds (before after : Course) (text : List ℕ) (notices : List At) : 
   pub warnings : after.warnings ≡ before.warnings ++ notices
   pub good : after.fault ≡ None
 
--- a course ends with a fault: nothing more is written
+-- a course ends with a fault, and no further output
 pub record EndsWith (before after : Course) (notices : List At) (at : At) : Type 0 where
   pub output : after.output ≡ before.output
   pub warnings : after.warnings ≡ before.warnings ++ notices
   pub fault : after.fault ≡ Some at
 
--- a warning that was answered to a line which is to come a second time
+-- a warning at a line that is fed again
 pub record Awaited : Type 0 where
   pub notice : At
   pub line : InputLine
@@ -80,34 +80,33 @@ abbrev pub awaited_notices : List Awaited → List At
 awaited_notices [] = []
 awaited_notices (a ∷ others) = a.notice ∷ awaited_notices others
 
--- where a line is to come a second time, it is this one
+-- if a line is fed again, it is this one
 abbrev pub IsAwaited : List Awaited → InputLine → Type 0
 IsAwaited [] line = ⊤
 IsAwaited (a ∷ others) line = a.line ≡ line
 
--- lines that were pending were borrowed, and nothing else of an engine changed: its filter, the lines that it took, and
--- whether their end was taken
+-- pending lines were borrowed, and nothing else of an engine changed: neither its filter nor the lines and the end that
+-- it took
 pub record KeepsAllElse (before after : Filter) (took takes : List InputLine → List Awaited → Type 0)
     (had_ended has_ended : List InputLine → Type 0) : Type 0 where
   pub filter : after ≡ before
   pub shows : (lines : List InputLine) (notices : List Awaited) → took lines notices → takes lines notices
   pub ended : (lines : List InputLine) → had_ended lines → has_ended lines
 
--- what an engine shows once it took what came after some lines: one line more, or the end
+-- the state of an engine after the next item: one line more, or the end
 abbrev pub shown_with : (List InputLine → List Awaited → Type 0) → (List InputLine → Type 0) → List InputLine
     → Option InputLine → Type 0
 shown_with shows has_ended lines (Some line) = shows (with_next lines line) []
 shown_with shows has_ended lines None = has_ended lines
 
--- or it is to come a second time, after this warning, as only a line does
+-- or the line is fed again, after this warning; the end never is
 abbrev pub awaits : (List InputLine → List Awaited → Type 0) → List InputLine → Option InputLine → At → Type 0
 awaits shows lines (Some line) notice = shows lines (record { notice = notice; line = line } ∷ [])
 awaits shows lines None notice = ⊥
 
--- what an engine answers to what comes after some lines: a line, or the end of the input. It showed these
--- lines, and where a line comes a second time, the warning of the first time. The answer is nothing, pending
--- lines, a warning with the line, a warning before it comes a second time, memory that ran out at a line that
--- may take some, or a fault
+-- an engine's answer to the item after some lines: a line, or the end of the input. `notices` has the warning of the
+-- first time if a line is fed again. The answer is no output, pending lines, a warning with the line, a warning before
+-- the line is fed again, refused memory at a line that may need some, or a fault
 abbrev pub EngineAnswers : Filter → (List InputLine → List Awaited → Type 0) → (List InputLine → Type 0)
     → List (List ℕ) → List InputLine → List Awaited → Option InputLine → Result Step At → Type 0
 EngineAnswers filter shows has_ended ready lines notices next (Ok Quiet) =

@@ -1,4 +1,4 @@
--- A run between two lines, and how it goes on.
+-- A run between two lines, and its next step.
 use Rattle.std.specs.Prelude.{◌≡◌, ◌⊎◌, ◌<◌, ◌≤◌, Bool, true, false, Contains, List, [], ◌++◌, Option, Some, None, is_some, Result, Ok, Err}
 use Rattle.std.specs.Prelude.{IfOk, IfSome, OnOk}
 use Rattle.crx_base.specs.meaning.Lines.{InputLine}
@@ -21,18 +21,18 @@ use Rattle.crx_runs.specs.meaning.Spans.{Device, Input, reader_span, span}
 use Rattle.crx_runs.specs.Endings.{IsAllOut, StopsAt}
 use Rattle.crx_runs.specs.Engines.{Awaited}
 
--- these lines were read of an input, and what they make was written and reported
+-- these lines of an input were read, and their output and warnings were written and reported
 pub record IsRunning (input : Input)
     (writer messages : Device) (now : ReaderState) (lines : List InputLine) (course : Course) : Type 0 where
   pub read : HasRead input.gave input.at_end input.start input.counted now lines
   pub going : (now.phase ≡ Open) ⊎ (now.phase ≡ Ended)
   pub out : IsAllOut writer messages course
 
--- each line so far had a byte at least, and all were within the limit of an input
+-- each line so far had at least one byte, and all are within the limit of an input
 abbrev pub IsWithinLimit : ReaderState → Type 0
 IsWithinLimit now = (now.number ≤ now.passed) × (now.passed ≤ INPUT_LIMIT)
 
--- a line was taken, and the run goes on
+-- a line was taken, and the run continues
 pub record GoesOnBy (filter : Filter) (shows : List InputLine → List Awaited → Type 0) (input : Input)
     (writer messages : Device) (now : ReaderState) (lines : List InputLine) (warned : Bool) : Type 0 where
   pub line : InputLine
@@ -49,12 +49,12 @@ pub record ComesToEnd (filter : Filter) (shows : List InputLine → List Awaited
   pub running : IsRunning input writer messages now lines (filter.so_far lines)
   pub ended : now.phase ≡ Ended
 
--- what a step came to that had a line
+-- the result of a step with a line
 abbrev pub stepped : Result Bool Halt → Result (Option Bool) Halt
 stepped (Ok warned) = Ok (Some warned)
 stepped (Err halt) = Err halt
 
--- what a step came to, and what is kept of a run that stopped: by `IsEndKept` that is never nothing
+-- the result of a step; a run that stopped stores why, so the last case is never used, by `IsEndKept`
 abbrev pub step_answer : StepOutcome → Option Halt → Result (Option Bool) Halt
 step_answer Taken ended = Ok (Some false)
 step_answer Warned ended = Ok (Some true)
@@ -62,7 +62,7 @@ step_answer AtEnd ended = Ok None
 step_answer Stopped (Some halt) = Err halt
 step_answer Stopped None = Err Unwritten
 
--- a run that stopped keeps what ended it, and no other step changes that
+-- a run that stopped stores why it ended, and no other step changes that
 abbrev pub IsEndKept : StepOutcome → Option Halt → Option Halt → Type 0
 IsEndKept Stopped before now = is_some now ≡ true
 IsEndKept outcome before now = now ≡ before
@@ -77,17 +77,17 @@ StepGoes filter shows input writer messages now lines (Ok (Some warned)) =
 StepGoes filter shows input writer messages now lines (Err halt) =
     StopsAt filter input writer messages now lines halt
 
--- a run can take its next step: no line is pending, its input can be read on and is within its limit, and its
--- engine has taken as many lines as were read
+-- a run can take its next step: no line is pending, its input can be read on and is within its limit, and its engine
+-- has taken all lines that were read
 pub record CanStep {E : Type 0} (engine : EngineGhosts E) (before : E) (old : ReaderState) : Type 0 where
   pub drained : engine.ready before ≡ []
   pub going : (old.phase ≡ Open) ⊎ (old.phase ≡ Ended)
   pub next : old.number ≡ engine.taken before
   pub counted : IsWithinLimit old
 
--- a run took a step by the same filter. Unless that ended it no line is pending, and with a line it came farther,
--- within the limit of an input. The reader was asked only where no line was held with its LF. Nothing is reported
--- before what was written is handed on, where that is awaited
+-- a run took a step by the same filter. Unless that ended the run, no line is pending; if a line was taken, more bytes
+-- are read, within the limit of an input. The reader is called only if no whole line was held. If output is awaited, it
+-- is passed on before anything is reported
 pub record RunHasStepped {E R W M : Type 0} (engine : EngineGhosts E) (sink : SinkGhosts W) (before after : E)
     (old new : ReaderState) (reader reader' : R) (writer : W) (messages messages' : M)
     (result : Result (Option Bool) Halt) : Type 0 where
@@ -98,7 +98,7 @@ pub record RunHasStepped {E R W M : Type 0} (engine : EngineGhosts E) (sink : Si
   pub unasked : Contains old.rest 10 → reader' ≡ reader
   pub told : (messages' ≡ messages) ⊎ HandsOnFirst sink writer
 
--- whatever was read, written and reported before a step, the run goes on after it, or has ended
+-- after any reading, writing and reporting before it, the step continues the run or ends it
 abbrev pub RunGoesOn : {E R W M : Type 0} → EngineGhosts E → SourceGhosts R → SinkGhosts W → SinkGhosts M → E → E
     → ReaderState → ReaderState → R → R → W → W → M → M → Result (Option Bool) Halt → Type 0
 RunGoesOn {R = R} {W = W} {M = M} engine source sink message_sink before after old new reader reader' writer writer'

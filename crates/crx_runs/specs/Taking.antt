@@ -1,4 +1,4 @@
--- What becomes of one line of the input.
+-- One line of the input through a run.
 use Rattle.std.specs.Prelude.{◌≡◌, ◌⊎◌, ◌≤◌, ℕ, ◌+◌, ⊤, Bool, true, false, List, [], ◌∷◌, length, Option, Some, None}
 use Rattle.std.specs.Prelude.{Result, Ok, Err, IfErr, IfOk, OnOk}
 use Rattle.crx_base.specs.meaning.Lines.{InputLine, lines_text}
@@ -19,7 +19,7 @@ use Rattle.crx_runs.specs.meaning.Messages.{notices_text}
 pub use Rattle.crx_runs.specs.meaning.Results.{are_some}
 use Rattle.crx_runs.specs.meaning.Spans.{Device, TookAll}
 
--- the warning of a step, if it is one
+-- the warning of a step, if it has one
 abbrev pub step_notices : Step → List At
 step_notices Quiet = []
 step_notices Ready = []
@@ -27,8 +27,8 @@ step_notices (Warned notice again) = notice ∷ []
 
 -- ---- an engine
 
--- an engine holds its answer to the line of this content and number, which is within its limit, and may come a second
--- time where the answer says so
+-- an engine holds its answer to the line of this content and number. The line is within its limit, and may be fed again
+-- if the answer says so
 pub record HoldsAnswer {E : Type 0} (engine : EngineGhosts E) (now : E) (content : List ℕ) (number : ℕ) : Type 0 where
   pub short : length content ≤ LINE_LIMIT
   pub drained : IfOk (engine.answer now) (λ step. IsDrainedAfter step (engine.ready now))
@@ -36,49 +36,49 @@ pub record HoldsAnswer {E : Type 0} (engine : EngineGhosts E) (now : E) (content
       × (engine.taken now ≡ taken_after step count) × (number ≡ count + 1))
   pub within : number ≤ INPUT_LIMIT
 
--- an engine holds its answer to what came next after some lines: this line
+-- an engine holds its answer to the item after some lines, which is this line
 abbrev pub WasAnswered : {E : Type 0} → EngineGhosts E → E → InputLine → List InputLine → Option InputLine → Type 0
 WasAnswered engine now line lines next = EngineAnswers (engine.filter now) (engine.shows now)
     (engine.has_ended now) (engine.ready now) lines [] next (engine.answer now) × (next ≡ Some line)
 
--- this line comes after some lines that an engine has taken
+-- this line follows some lines that an engine has taken
 abbrev pub IsLineAfter : {E : Type 0} → EngineGhosts E → E → InputLine → List InputLine → Option InputLine → Type 0
 IsLineAfter engine now line lines next = engine.shows now lines [] × (next ≡ Some line)
 
--- lines were taken over from an engine, and nothing else of it changed
+-- pending lines were borrowed from an engine, and nothing else of it changed
 abbrev pub KeepsLines : {E : Type 0} → EngineGhosts E → E → E → Type 0
 KeepsLines engine before now = KeepsAllElse (engine.filter before) (engine.filter now) (engine.shows before)
     (engine.shows now) (engine.has_ended before) (engine.has_ended now)
 
 -- ---- one step
 
--- only a step that has lines ready changes an engine that does what it says
+-- carrying out a step changes an engine only by borrowing its pending lines
 abbrev pub IsTouchedBy : {E : Type 0} → Step → E → E → Type 0
 IsTouchedBy Ready before now = ⊤
 IsTouchedBy Quiet before now = now ≡ before
 IsTouchedBy (Warned notice again) before now = now ≡ before
 
--- all that a writer had taken was handed on before it took more, where that is awaited; or it couldn't be
+-- all output was passed on before the writer took more, if it is awaited, or that failed
 abbrev pub HandsOnFirst : {W : Type 0} → SinkGhosts W → W → Type 0
 HandsOnFirst {W = W} writer before = (then : W) × writer.took before [] then
     × ((writer.is_awaited then ≡ true → writer.is_current then) ⊎ (writer.is_broken then ≡ true))
 
--- nothing is reported before what was written is handed on, where that is awaited; and it is awaited as before
+-- if output is awaited, it is passed on before anything is reported; and it stays awaited or not
 pub record KeepsOrder {W M : Type 0} (sink : SinkGhosts W) (writer writer' : W) (messages messages' : M) : Type 0 where
   pub told : (messages' ≡ messages) ⊎ HandsOnFirst sink writer
   pub awaited : sink.is_awaited writer' ≡ sink.is_awaited writer
 
--- only a step that warns reports, once all that was written before was handed on
+-- only a warning is reported, after all earlier output was passed on
 abbrev pub ReportsLast : {W M : Type 0} → SinkGhosts W → Step → W → M → M → Type 0
 ReportsLast writer Quiet at before after = after ≡ before
 ReportsLast writer Ready at before after = after ≡ before
 ReportsLast writer (Warned notice again) at before after = HandsOnFirst writer at
 
--- what a step makes: its lines, or its warning
+-- the output and the warnings of a step
 abbrev pub made_by : List (List ℕ) → Step → Course
 made_by handed_out step = record { output = lines_text handed_out; warnings = step_notices step; fault = None }
 
--- what a step makes was written and reported, whether it was a warning; or that failed
+-- a step was written and reported, `warned` says whether it has a warning; or that failed
 abbrev pub IsSettled : Device → Device → Course → Result Bool Halt → Type 0
 IsSettled writer messages made (Ok warned) = IsAllOut writer messages made × (warned ≡ are_some made.warnings)
 IsSettled writer messages made (Err halt) =
@@ -86,7 +86,7 @@ IsSettled writer messages made (Err halt) =
 
 -- ---- one line
 
--- a line was taken, or the end: what it adds was written and reported
+-- a line or the end was taken: what it adds was written and reported
 pub record IsDone (before after : Course) (shown : Type 0) (writer messages : Device) (warned : Bool) : Type 0 where
   pub is_shown : shown
   pub text : List ℕ
@@ -96,7 +96,7 @@ pub record IsDone (before after : Course) (shown : Type 0) (writer messages : De
   pub reported : TookAll messages (notices_text notices)
   pub flag : warned ≡ are_some notices
 
--- what comes next of the input was taken; or it ended the run: memory may have run out at the line of this number
+-- the next item of the input was taken; or it ended the run, perhaps because memory was refused at line `number`
 abbrev pub Becomes : Option (List At) → ℕ → Course → Course → Type 0 → Device → Device → Result Bool Halt →
     Type 0
 Becomes memory number before after shown writer messages (Ok warned) =
@@ -104,7 +104,7 @@ Becomes memory number before after shown writer messages (Ok warned) =
 Becomes memory number before after shown writer messages (Err halt) =
     EndsFrom memory number writer messages before after halt
 
--- an engine took what came next, whichever it is of what can come after some lines: a line, or the end
+-- an engine took the next item, whichever it is of those that `comes` allows: a line, or the end
 pub record TakesNext {E : Type 0} (engine : EngineGhosts E) (before now : E)
     (comes : List InputLine → Option InputLine → Type 0)
     (writer messages : Device) (result : Result Bool Halt) : Type 0 where
@@ -115,7 +115,7 @@ pub record TakesNext {E : Type 0} (engine : EngineGhosts E) (before now : E)
       ((engine.filter before).so_far lines) (course_with (engine.filter before) lines next)
       (shown_with (engine.shows now) (engine.has_ended now) lines next) writer messages result
 
--- an engine took a line, and what it handed out was written, or that failed; or it holds an answer to the line
+-- an engine took a line and its output was written, or that failed; or it holds an answer to the line
 abbrev pub HasHandedOut : {E : Type 0} → EngineGhosts E → E → E → InputLine → ℕ → Device → Device
     → Result Bool WriteFailed → Type 0
 HasHandedOut engine before now line number writer messages (Ok true) =
@@ -126,7 +126,7 @@ HasHandedOut engine before now line number writer messages (Ok false) =
 HasHandedOut engine before now line number writer messages (Err failed) =
     TakesNext engine before now (IsLineAfter engine before line) writer messages (Err Unwritten)
 
--- the end of the input ended the run, after whichever lines: it has no warning then, or the one that failed
+-- if the end of the input ended the run, after whichever lines, it has no warning, or the one that couldn't be reported
 abbrev pub EndWarns : {E : Type 0} → EngineGhosts E → E → Result Bool Halt → Type 0
 EndWarns engine before result = (lines : List InputLine) → engine.shows before lines []
     → IfErr result (WarnsAtEnd ((engine.filter before).so_far lines) ((engine.filter before).whole lines))

@@ -1,4 +1,4 @@
-//! Engines: they take the lines of an input one at a time, and what is to be written is borrowed from them.
+//! Engines: filters that take one line at a time and lend their output.
 
 ghost use Rattle.std.specs.Prelude.{◌≡◌, ◌≤◌, ℕ, List, [], drop, length, slice_get, Result, if◌then◌else◌, is_some, IfOk, IfSome, Some, None, true};
 ghost use Rattle.std.specs.Borrow.{sem};
@@ -15,76 +15,76 @@ ghost use Rattle.crx_runs.specs.Engines.{EngineAnswers, answer_given, Awaited, I
 use crx_base::At;
 use crx_lines::Line;
 
-/// What an engine answers to a line.
+/// An engine's answer to a line.
 #[derive(Clone, Copy, Debug, PartialEq, Eq)]
 pub enum Step {
-    /// Nothing is to be written yet.
+    /// No output yet, and no warning.
     Quiet,
-    /// Lines are ready to be borrowed and written.
+    /// Lines are pending; the caller borrows and writes them.
     Ready,
-    /// A fault is skipped.
+    /// A fault was skipped.
     Warned {
         /// The fault and its line.
         notice: At,
-        /// Whether the line that was fed is to be fed once more: reading goes on at it.
+        /// Whether reading resumes at this line, so that it has to be fed again.
         again: bool,
     },
 }
 
-/// What is to be written after a line that was taken.
+/// The output of a line without a fault.
 #[derive(Clone, Copy, Debug, PartialEq, Eq)]
 pub enum HandedOut {
-    /// Nothing yet.
+    /// No output yet.
     Nothing,
-    /// The lines that are ready.
+    /// The pending lines.
     Lines,
-    /// The lines that are ready, and after them the line itself, as it is.
+    /// The pending lines, and after them the line itself.
     AsItIs,
 }
 
-/// A filter that takes the lines of an input one at a time. The lines that it makes are borrowed from it; a
-/// line that is copied it answers as it is.
+/// A filter that takes the lines of an input one at a time. Its output is borrowed from it; a copied line is written
+/// from the caller's buffer.
 pub trait Engine {
     ghost use Rattle.crx_runs.specs.declared.engine.Step.{Step};
 
-    // What it is to write and to report.
+    // The output and the messages that this engine has to make.
     ghost filter: { Self → Filter };
 
-    // These lines were taken, and where a line is to come a second time, the warning that was answered to it.
+    // The lines that the engine has taken, and the warning of a line that has to be fed again.
     ghost shows: { Self → List InputLine → List Awaited → Type 0 };
 
     // The lines that are pending.
     ghost ready: { Self → List (List ℕ) };
 
-    // The number of the last line that was taken, 0 before the first.
+    // The number of the last line taken, 0 before the first.
     ghost taken: { Self → ℕ };
 
-    // The answer to the line that `take` took last, where it answered `None`.
+    // The answer to the last line, if `take` returned `None`.
     ghost answer: { Self → Result Step At };
 
-    // The end of the input was taken after these lines.
+    // The input ended after these lines.
     ghost has_ended: { Self → List InputLine → Type 0 };
 
-    /// Takes a line. `Some` says what is to be written, and that nothing is to be reported; after `None`
-    /// [`Engine::answer`] says what is.
+    /// Takes a line. `Some` is its output, with nothing to report; after `None`, [`Engine::answer`] has the warning or
+    /// fault.
     fn take(&mut self, line: Line<'_>) -> Option<HandedOut>
         requires next { IsNextLine (ready self.old) (taken self.old) (line_number line) }
         ensures stepped { HasStepped (filter self.old) (filter self.new)
             (lines_handed_out result (line_shown line.entry).content (ready self.new)) (answer_given result (answer self.new)) }
         ensures count { IfOk (answer_given result (answer self.new))
             (λ step. taken self.new ≡ taken_after step (taken self.old)) }
-        // What a line hands out is what is ready, and after it that line itself where it is copied.
+        // The output of a line: the pending lines, and after them the line itself if it is copied.
         ensures answers { (lines : List InputLine) (notices : List Awaited) → shows self.old lines notices
             → IsAwaited notices (line_shown line.entry) → EngineAnswers (filter self.old) (shows self.new)
             (has_ended self.new) (lines_handed_out result (line_shown line.entry).content (ready self.new)) lines
             notices (Some (line_shown line.entry)) (answer_given result (answer self.new)) };
 
-    /// The answer to the line that [`Engine::take`] took last, where it answered `None`: what is to be
-    /// reported, or ended the run.
+    /// Returns the answer to the last line if [`Engine::take`] returned `None`: a warning, or the fault that ends the
+    /// run.
     fn answer(&self) -> Result<Step, At>
         ensures value { result ≡ answer self.now };
 
-    /// Takes a line that is too long, by its number. It never comes a second time.
+    /// Takes a line above the length limit, line `number`. It is never fed again.
     fn overlong(&mut self, number: u64) -> Result<Step, At>
         requires next { IsNextLine (ready self.old) (taken self.old) number }
         ensures stepped { HasStepped (filter self.old) (filter self.new) (ready self.new) result }
@@ -97,7 +97,7 @@ pub trait Engine {
             → EngineAnswers (filter self.old) (shows self.new) (has_ended self.new) (ready self.new) lines
             notices (Some line) result };
 
-    /// Takes the end of the input.
+    /// Takes the end of the input. An error is the fault that ends the run.
     fn end(&mut self) -> Result<Step, At>
         requires drained { ready self.old ≡ [] }
         requires within { taken self.old ≤ INPUT_LIMIT }
@@ -105,15 +105,15 @@ pub trait Engine {
         ensures answers { (lines : List InputLine) → shows self.old lines [] → EngineAnswers (filter self.old)
             (shows self.new) (has_ended self.new) (ready self.new) lines [] None result };
 
-    /// Borrows the next of the lines that are ready, without its line end; `None` once none is pending.
+    /// Borrows the next pending line, without its line end; returns `None` when none is left.
     fn next_line(&mut self) -> Option<&[u8]>
         ensures value { option_copied result ≡ slice_get (ready self.old) 0 }
         ensures* after_borrow { sem 𝓛 (Rests Self.row self.entry (λ new.
             (ready new ≡ drop 1 (ready self.old)) × KeepsAllElse (filter self.old) (filter new) (shows self.old) (shows new)
             (has_ended self.old) (has_ended new))) };
 
-    /// Borrows all lines that are ready as one text, each followed by LF, after which none is pending. After
-    /// `None` they stay as they are, and [`Engine::next_line`] gives them.
+    /// Borrows all pending lines as one text, each followed by LF; afterwards none is pending. Returns `None` if
+    /// [`Engine::next_line`] has to be called instead.
     fn take_text(&mut self) -> Option<&[u8]>
         ensures value { IfSome result (λ text. text.now ≡ lines_text (ready self.old)) }
         ensures* after_borrow { sem 𝓛 (Rests Self.row self.entry (λ new.

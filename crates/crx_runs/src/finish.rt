@@ -11,8 +11,8 @@ use crate::outcome::Outcome;
 use crx_base::{At, Fault, Refused};
 use crx_lines::{Sink, write_all_counted};
 
-/// Reports a fault; a failure ends the message where it comes. Only a writer that failed isn't flushed
-/// before: it is there for the contract alone, so that no message comes before the flush.
+/// Writes the message of the fault `at`. If `messages` fails, the message ends there. `_writer` is only in the
+/// contract: a writer that hasn't failed was flushed before.
 #[inline(never)]
 fn report<W: Sink, M: Sink>(_writer: &W, messages: &mut M, at: At) -> Outcome
     requires flushed { (at.fault ≡ Fault.WriteFailed) ⊎ ((before : W)
@@ -31,10 +31,10 @@ fn report<W: Sink, M: Sink>(_writer: &W, messages: &mut M, at: At) -> Outcome
     }
 }
 
-/// Finishes a run: `last` is the number of the last line that was read, `warned` whether a warning was reported,
-/// `ended` what ended the run before the good end of its input. It flushes the writer, unless the writer failed
-/// or a warning couldn't be written, and reports the fault, unless a warning couldn't be written. A flush that
-/// fails is `WriteFailed` at the last line, unless there is a fault.
+/// Finishes a run. `last`: the number of the last line that was read; `warned`: a warning was reported; `ended`: why
+/// the run ended early, if it did. Flushes `writer` and reports the fault; skips the flush if the writer has failed,
+/// and both after a warning that couldn't be written. If only the flush fails, the fault is `WriteFailed` at line
+/// `last`.
 pub(crate) fn finish<W: Sink, M: Sink>(
     writer: &mut W,
     messages: &mut M,
@@ -59,7 +59,7 @@ pub(crate) fn finish<W: Sink, M: Sink>(
             },
             Err(_) => report(writer, messages, unwritten),
         },
-        // The fault stays, whatever the flush answers.
+        // The fault stays, whether or not the flush fails.
         Some(Halt::Fault(at)) => match writer.flush() {
             Ok(()) | Err(_) => report(writer, messages, at),
         },
@@ -71,7 +71,7 @@ pub(crate) fn finish<W: Sink, M: Sink>(
     }
 }
 
-/// Finishes a run for which memory was refused before its first line was read.
+/// Finishes a run that was refused memory before its first line.
 pub(crate) fn finish_without_memory<W: Sink, M: Sink>(
     writer: &mut W,
     messages: &mut M,

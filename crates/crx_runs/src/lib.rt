@@ -1,5 +1,4 @@
-//! A run of any engine: from a reader of lines to a writer and messages. An engine takes the lines of an
-//! input, one after another, and has lines ready to be written.
+//! The run of any engine, from a reader of lines to a writer and its messages.
 #![tactic(auto)]
 
 pub mod engine;

@@ -1,4 +1,4 @@
-//! Messages about faults.
+//! Messages of faults and warnings.
 
 ghost use Rattle.std.specs.Prelude.{◌≡◌, ◌≤◌, ◌+◌, ◌++◌, drop, length};
 ghost use Rattle.crx_runs.specs.meaning.Messages.{message_text};
@@ -9,19 +9,19 @@ use crx_base::At;
 use itoa::write_digits;
 use std::marker::Model;
 
-/// How many bytes a message has at most.
+/// The largest length of a message, in bytes.
 pub(crate) const MESSAGE_LIMIT: usize = 80;
 
-/// How grave a fault is.
+/// The kind of a message.
 #[derive(Clone, Copy, Debug, PartialEq, Eq)]
 pub enum Severity {
-    /// It ended the run.
+    /// The fault ended the run.
     Error,
-    /// What it was found in was skipped.
+    /// The faulty part was skipped.
     Warning,
 }
 
-/// A message, held in place: it ends where the place ends.
+/// A message at the end of an array of fixed size.
 #[derive(Drop)]
 pub struct MessageLine {
     bytes: [u8; MESSAGE_LIMIT],
@@ -40,7 +40,7 @@ impl Model for MessageLine {
 }
 
 impl MessageLine {
-    /// The bytes of the message.
+    /// Returns the bytes of the message.
     pub fn bytes(&self) -> &[u8]
         ensures value { result.now ≡ self.now }
     {
@@ -48,7 +48,7 @@ impl MessageLine {
     }
 }
 
-/// Writes a text so that it ends at `end`, and returns where it starts.
+/// Copies `text` so that it ends before index `end`, and returns the index of its first byte.
 #[inline(always)]
 fn put_before(text: &[u8], bytes: &mut [u8; MESSAGE_LIMIT], end: usize) -> usize
     requires { (length text.now ≤ end) × (end ≤ MESSAGE_LIMIT) }
@@ -60,8 +60,8 @@ fn put_before(text: &[u8], bytes: &mut [u8; MESSAGE_LIMIT], end: usize) -> usize
     start
 }
 
-/// The line of a fault, as `ERROR line 7 code 18: bad indicator`, with its LF. It takes no memory, and is
-/// written from its end to its front: so a number's digits are written where they stay.
+/// Returns the message of a fault with its LF, such as `ERROR line 7 code 18: bad indicator`. It needs no memory, and
+/// is filled from its end, so that digits are written at their final place.
 pub fn message(severity: Severity, at: At) -> MessageLine
     ensures value { result ≡ message_text (word_of severity) at }
 {
@@ -72,7 +72,7 @@ pub fn message(severity: Severity, at: At) -> MessageLine
     start = write_digits(u64::from(at.fault.code()), &mut bytes, start);
     start = put_before(b" code ", &mut bytes, start);
     start = write_digits(at.line, &mut bytes, start);
-    // A text of constant length is copied without a call.
+    // Texts of constant length are copied without a call.
     start = match severity {
         Severity::Error => put_before(b"ERROR line ", &mut bytes, start),
         Severity::Warning => put_before(b"WARNING line ", &mut bytes, start),

@@ -16,10 +16,10 @@ use crate::ready_lines::{write_handed_out, write_ready};
 use crx_base::At;
 use crx_lines::{Line, Sink, WriteFailed, write_all_counted};
 
-/// What ended a run.
+/// Why a run ended early.
 #[derive(Clone, Copy, Debug, PartialEq, Eq)]
 pub enum Halt {
-    /// A fault of the input or of its reader, or memory that ran out.
+    /// A fault of the input, a failed read, or refused memory.
     Fault(At),
     /// The writer failed.
     Unwritten,
@@ -35,8 +35,8 @@ impl From<At> for Halt {
     }
 }
 
-/// Reports a warning, and returns that there was one. `_writer` is there for the contract alone: nothing is
-/// written to it. The output before the warning was handed on, if it is awaited, or that failed.
+/// Reports the warning `notice` and returns `true`, or `Halt::Unreported` if `messages` fails. `_writer` is only in the
+/// contract: if its output is awaited, all earlier output was passed on, or that failed.
 #[inline(always)]
 fn report_warning<W: Sink, M: Sink>(_writer: &W, messages: &mut M, notice: At) -> Result<bool, Halt>
     requires handed_on { (W.is_awaited _writer.now ≡ true → W.is_current _writer.now)
@@ -50,8 +50,9 @@ fn report_warning<W: Sink, M: Sink>(_writer: &W, messages: &mut M, notice: At) -
     }
 }
 
-/// Writes what a step made ready, or reports its warning; whether it was a warning. Before a warning what was
-/// written is handed on, where that is awaited. A failure of that is told before the next read.
+/// Writes the lines that `step` made ready, or reports its warning; returns whether it warned. If output is awaited,
+/// the writer passes all earlier output on before a warning; if that fails, the next read reports it. Returns
+/// `Halt::Unwritten` or `Halt::Unreported` if a write fails.
 #[inline(never)]
 fn write_step<E: Engine, W: Sink, M: Sink>(
     engine: &mut E,
@@ -81,8 +82,9 @@ fn write_step<E: Engine, W: Sink, M: Sink>(
     }
 }
 
-/// Gives a line to the engine and writes the lines that it hands out; `false` if the engine has an answer to
-/// it instead ([`Engine::answer`]). `_messages` is there for the contract alone: nothing is reported.
+/// Feeds `line` to the engine and writes the lines that follow from it. Returns `false`, without a write, if the answer
+/// is in [`Engine::answer`]. `_messages` is only in the contract: nothing is reported. Returns `WriteFailed` if the
+/// writer fails.
 #[inline(always)]
 pub(crate) fn hand_out<E: Engine, W: Sink, M: Sink>(
     engine: &mut E,
@@ -106,8 +108,8 @@ pub(crate) fn hand_out<E: Engine, W: Sink, M: Sink>(
     }
 }
 
-/// Does what the engine answered to a line, and gives it the line a second time if reading goes on at it;
-/// returns whether there was a warning.
+/// Carries out the engine's stored answer to `line`, and feeds the line again if reading resumes at it. Returns whether
+/// there was a warning, or why the run ends.
 #[cold]
 #[inline(never)]
 pub(crate) fn take_again<E: Engine, W: Sink, M: Sink>(
@@ -139,8 +141,8 @@ pub(crate) fn take_again<E: Engine, W: Sink, M: Sink>(
     }
 }
 
-/// Takes a line of the input: gives it to the engine, a second time if reading goes on at it, writes the lines
-/// that it hands out, and reports its warnings; returns whether there was one.
+/// Feeds `line` to the engine, again if reading resumes at it after a warning; writes its output and reports its
+/// warnings. Returns whether there was a warning, or why the run ends.
 #[inline(always)]
 pub fn take_line<E: Engine, W: Sink, M: Sink>(
     engine: &mut E,
@@ -160,8 +162,8 @@ pub fn take_line<E: Engine, W: Sink, M: Sink>(
     }
 }
 
-/// Takes a line of the input that is too long, by its number: does what the engine answers to it; returns
-/// whether there was a warning.
+/// Passes a line above the length limit, line `number`, to the engine and carries out the answer. Returns whether there
+/// was a warning, or why the run ends.
 #[cold]
 pub fn take_overlong<E: Engine, W: Sink, M: Sink>(
     engine: &mut E,
@@ -179,7 +181,8 @@ pub fn take_overlong<E: Engine, W: Sink, M: Sink>(
     write_step(engine, writer, messages, step)
 }
 
-/// Takes the end of the input: writes what it makes ready, and reports its warning; whether there was one.
+/// Passes the end of the input to the engine, writes the output and reports the warning. Returns whether there was a
+/// warning, or why the run ends.
 pub fn take_end<E: Engine, W: Sink, M: Sink>(
     engine: &mut E,
     writer: &mut W,

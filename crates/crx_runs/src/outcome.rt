@@ -1,13 +1,13 @@
-//! How a run ended.
+//! The outcome of a run.
 
 use crx_base::At;
 
-/// The exit status, and the fault that ended the run.
+/// The exit status of a run and the fault that ended it.
 #[derive(Clone, Copy, Debug, PartialEq, Eq)]
 pub struct Outcome {
-    /// 0: no message; 1: a fault ended the run; 2: there were warnings alone; for a check: the file is
-    /// accepted, but isn't standard.
+    /// 0: no message; 1: a fault ended the run; 2: there were only warnings, or a check accepted a file that isn't
+    /// standard.
     pub status: u8,
-    /// The fault that ended the run; `None` where none did.
+    /// The fault that ended the run, if one did.
     pub fault: Option<At>,
 }

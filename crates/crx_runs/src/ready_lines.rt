@@ -1,4 +1,4 @@
-//! Writing what a line hands out.
+//! Writing the output of one line.
 
 ghost use Rattle.std.specs.Prelude.{◌≡◌, [], Some, OnOk, OnErr};
 ghost use Rattle.crx_base.specs.meaning.Lines.{lines_text};
@@ -9,8 +9,8 @@ ghost use Rattle.crx_runs.specs.meaning.Spans.{TookAll, TookPart, span};
 use crate::engine::{Engine, HandedOut};
 use crx_lines::{Sink, WriteFailed, write_all_counted};
 
-/// Writes the lines that an engine has ready, each with LF: as one text where the engine has them as one, as
-/// it mostly has, else one by one.
+/// Writes the engine's pending lines, each with LF: usually as one text, one by one if the engine doesn't have them as
+/// one. Returns `WriteFailed` if the writer fails.
 #[inline(always)]
 pub(crate) fn write_ready<E: Engine, W: Sink>(
     engine: &mut E,
@@ -39,8 +39,8 @@ pub(crate) fn write_ready<E: Engine, W: Sink>(
     Ok(())
 }
 
-/// Writes what a line of this content hands out: the lines that are ready, and after them that line itself
-/// where it is copied.
+/// Writes the pending lines and, if the line is copied (`HandedOut::AsItIs`), `content` with LF after them. Returns
+/// `WriteFailed` if the writer fails.
 #[inline(never)]
 pub(crate) fn write_handed_out<E: Engine, W: Sink>(
     engine: &mut E,

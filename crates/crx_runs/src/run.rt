@@ -1,4 +1,4 @@
-//! A whole run: an input through an engine to a writer and its messages.
+//! A whole run of an engine over an input.
 
 ghost use Rattle.std.specs.Prelude.{◌≡◌, ℕ, List, [], None};
 ghost use Rattle.crx_base.specs.meaning.Lines.{lines_of};
@@ -16,8 +16,8 @@ use crate::stepwise::Run;
 use crx_lines::phase::Phase;
 use crx_lines::{Sink, Source};
 
-/// Takes a run from before its first line to its end: reads the lines of the input, writes the lines that the
-/// engine makes, reports its warnings, and finishes. The run stays with the caller, who may ask its engine.
+/// Takes `begun` from before its first line to its end: reads the input, writes the engine's output, reports its
+/// warnings, flushes, and reports the fault. The caller keeps the run, so that it can look at the engine.
 pub fn run<E: Engine + Drop, R: Source, W: Sink, M: Sink>(
     begun: &mut Run<E>,
     reader: &mut R,

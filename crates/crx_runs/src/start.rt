@@ -1,4 +1,4 @@
-//! The start of a run: an engine that was made, or couldn't be since memory ran out.
+//! The start of a run.
 
 ghost use Rattle.std.specs.Prelude.{◌≡◌, [], IfOk, OnErr, is_some, true};
 ghost use Rattle.crx_runs.specs.meaning.Filters.{Filter};
@@ -17,8 +17,8 @@ use crx_base::Refused;
 use crx_lines::{LineReader, Sink, Source};
 use std::alloc::Global;
 
-/// Runs an engine over an input where it could be made; where it couldn't, memory ran out before the first
-/// line.
+/// Runs `engine` over an input. If there is no engine, or no memory for the reader of lines, the run ends with
+/// `OutOfMemory` at line 0.
 pub fn start<E: Engine + Drop, R: Source, W: Sink, M: Sink>(
     alloc: Global,
     engine: Result<E, Refused>,

@@ -1,4 +1,4 @@
-//! A run that is taken from step to step.
+//! A run, step by step.
 
 ghost use Rattle.std.specs.Prelude.{◌≡◌, ◌⊎◌, ◌≤◌, [], IfOk, None, Some, Result, Bool, true, false};
 ghost use Rattle.crx_base.specs.declared.limits.TheConstants.{INPUT_LIMIT};
@@ -19,23 +19,22 @@ use crx_lines::phase::Phase;
 use crx_lines::{Line, LineReader, Sink, Source};
 use std::alloc::{AllocError, Global};
 
-/// The result of a step. What ended a run is kept in the run: for an answer that could hold it a place would
-/// be cleared at each line.
+/// The result of a step. The reason why a run ended is kept in the run, which keeps this type small.
 #[derive(Clone, Copy, Debug, PartialEq, Eq)]
 pub enum StepOutcome {
-    /// A line was taken, and had no warning.
+    /// A line was taken, without a warning.
     Taken,
     /// A line was taken, and its warning was reported.
     Warned,
     /// The end of the input was reached.
     AtEnd,
-    /// The run ended; [`Run::ended`] says why.
+    /// The run ended; [`Run::ended`] returns why.
     Stopped,
 }
 
-/// A run between two lines of its input: its engine, the reader of its lines, and what ended it.
-/// [`run`](crate::run::run) takes its steps one after another and then the end; it also flushes, and reports
-/// the fault, which a caller of `Run` does itself.
+/// A run between two lines of its input: its engine, the reader of lines, and why the run ended.
+/// [`run`](crate::run::run) calls the steps, then takes the end of the input, flushes, and reports the fault; other
+/// callers of `Run` do that themselves.
 #[derive(Drop)]
 pub struct Run<E> {
     engine: E,
@@ -43,7 +42,7 @@ pub struct Run<E> {
     ended: Option<Halt>,
 }
 
-/// Stores what ended a run, if it has ended.
+/// Stores in `ended` why the run ended, if it has, and returns the outcome of the step.
 #[cold]
 #[inline(never)]
 fn stop(ended: &mut Option<Halt>, answer: Result<bool, Halt>) -> StepOutcome
@@ -60,7 +59,7 @@ fn stop(ended: &mut Option<Halt>, answer: Result<bool, Halt>) -> StepOutcome
     }
 }
 
-/// Does what the engine answered to a line, and stores what ended the run, if it has ended.
+/// Carries out the engine's stored answer to `line`; stores in `ended` why the run ended, if it has.
 #[cold]
 #[inline(never)]
 fn take_answer<E: Engine, W: Sink, M: Sink>(
@@ -81,8 +80,8 @@ fn take_answer<E: Engine, W: Sink, M: Sink>(
     stop(ended, take_again(engine, writer, messages, line))
 }
 
-/// Has the writer hand on what it took, if a read may have to wait, and returns whether that went well. If it
-/// didn't, a flush fails too, by which the failure is counted.
+/// Passes all output on if a read may have to wait; returns whether that succeeded. After a failure the writer is
+/// flushed too, so that the failure is counted.
 #[cold]
 #[inline(never)]
 fn hand_on<R: Source, W: Sink>(reader: &R, writer: &mut W) -> bool
@@ -105,7 +104,7 @@ fn hand_on<R: Source, W: Sink>(reader: &R, writer: &mut W) -> bool
 }
 
 impl<E: Engine + Drop> Run<E> {
-    /// A run before the first line.
+    /// Returns a run before its first line, or `AllocError` if memory for its reader of lines is refused.
     pub fn new(alloc: Global, engine: E) -> Result<Run<E>, AllocError>
         ensures engine { IfOk result (λ run. run.engine ≡ engine) }
         ensures first { IfOk result (λ run.
@@ -115,7 +114,7 @@ impl<E: Engine + Drop> Run<E> {
         Ok(Run::over(engine, LineReader::new(alloc)?))
     }
 
-    /// A run before the first line of this reader.
+    /// Returns a run before the first line of `input`.
     pub fn over(engine: E, input: LineReader) -> Run<E>
         ensures { result ≡ record { engine = engine; input = input; ended = None } }
     {
@@ -133,17 +132,16 @@ impl<E: Engine + Drop> Run<E> {
         &self.engine
     }
 
-    /// What ended the run; `None` if nothing has.
+    /// Returns why the run ended, `None` while it hasn't.
     pub fn ended(&self) -> Option<Halt>
         ensures value { result ≡ self.now.ended }
     {
         self.ended
     }
 
-    /// Takes the next line: writes the output that it makes, and reports its warnings. Before it reads on, the
-    /// output and the warnings of all lines that were read so far are written, in the order of the lines. If the
-    /// reader may have to wait, the writer first hands on what it took, and so it does before a warning if output
-    /// is awaited.
+    /// Takes the next line: writes its output and reports its warnings. Before it reads on, the output and warnings of
+    /// all earlier lines are written, in the order of the lines. The writer passes all output on before a read that may
+    /// have to wait and, if output is awaited, before a warning.
     #[inline(always)]
     pub fn step<R: Source, W: Sink, M: Sink>(
         &mut self,
@@ -192,7 +190,7 @@ impl<E: Engine + Drop> Run<E> {
         StepOutcome::Stopped
     }
 
-    /// Takes a line that is too long, by its number, as [`Run::step`] does.
+    /// Takes line `number`, which is above the length limit, as [`Run::step`] does.
     #[cold]
     #[inline(never)]
     fn take_overlong<W: Sink, M: Sink>(
@@ -215,7 +213,7 @@ impl<E: Engine + Drop> Run<E> {
         stop(&mut self.ended, answer)
     }
 
-    /// Reads on and takes the next line, as [`Run::step`] does, once what was written was handed on.
+    /// Reads on and takes the next line, as [`Run::step`] does. All output has been passed on before.
     #[cold]
     #[inline(never)]
     fn read_step<R: Source, W: Sink, M: Sink>(
@@ -249,8 +247,8 @@ impl<E: Engine + Drop> Run<E> {
         }
     }
 
-    /// Takes the end of the input: writes the output that it makes, and reports its warning; returns whether
-    /// there was one.
+    /// Takes the end of the input, writes its output and reports its warning. Returns whether there was a warning, or
+    /// why the run ends.
     pub fn end<W: Sink, M: Sink>(&mut self, writer: &mut W, messages: &mut M) -> Result<bool, Halt>
         requires drained { E.ready self.old.engine ≡ [] }
         requires within { E.taken self.old.engine ≤ INPUT_LIMIT }
@@ -262,7 +260,7 @@ impl<E: Engine + Drop> Run<E> {
         take_end(&mut self.engine, writer, messages)
     }
 
-    /// Takes all lines of the input one after another, and its end; returns whether a warning was reported.
+    /// Takes all lines of the input and its end; returns whether a warning was reported.
     #[inline(never)]
     pub(crate) fn take_all<R: Source, W: Sink, M: Sink>(
         &mut self,
@@ -300,7 +298,7 @@ impl<E: Engine + Drop> Run<E> {
         }
     }
 
-    /// The number of the last line that was read, 0 before the first.
+    /// Returns the number of the last line that was read, 0 before the first.
     pub(crate) fn number(&self) -> u64
         ensures value { result ≡ (reading self.now.input).number }
     {

@@ -1,4 +1,4 @@
-//! The writer below the buffer of the output.
+//! The writer below the output's buffer.
 
 ghost use Rattle.std.specs.Prelude.{◌≡◌, ◌≢◌, ◌<◌, true, false, is_ok, length, OnErr, OnOk, IfErr, IfOk};
 ghost use Rattle.std.specs.Io.{WritesAtMost};
@@ -8,12 +8,11 @@ ghost use Rattle.std.specs.IoError.{error_kind};
 use std::io;
 use std::io::{ErrorKind, Write};
 
-/// A writer that isn't called any more once a write or a flush of it has failed: each later one fails too,
-/// and doesn't reach it.
+/// A writer that isn't called again after a failed write or flush: each later call fails without reaching it.
 ///
-/// std's buffer keeps the bytes that it couldn't write, and tries them again at its next flush. Above this
-/// writer that flush fails, and nothing is written after a failure. A write that was interrupted took no byte
-/// and doesn't count as failed here, since the buffer repeats it at once.
+/// std's buffer keeps the bytes that it couldn't write and tries them again at its next flush. Above this writer that
+/// flush fails, so nothing is written after a failure. An interrupted write took no byte and isn't a failure here,
+/// because the buffer repeats it at once.
 #[derive(Drop)]
 pub struct UntilFailure<W> {
     inner: W,
@@ -21,7 +20,7 @@ pub struct UntilFailure<W> {
 }
 
 impl<W> UntilFailure<W> {
-    /// The writer, of which no write or flush failed yet.
+    /// Makes a writer that hasn't failed.
     pub fn new(inner: W) -> UntilFailure<W>
         ensures inner { result.inner ≡ inner }
         ensures failed { result.failed ≡ false }

@@ -11,13 +11,13 @@ pub first-and-rest : (lines : List (List ℕ)) (line : List ℕ)
     → Some line ≡ slice_get lines 0 → lines ≡ line ∷ drop 1 lines
 first-and-rest = grind arith
 
--- what is still to be written after a line and its LF
+-- the text that is left after a line and its LF
 pub one-written : (all written line : List ℕ) (lines : List (List ℕ)) → all ≡ written ++ lines_text lines
     → lines ≡ line ∷ drop 1 lines → all ≡ (written ++ line ++ 10 ∷ []) ++ lines_text (drop 1 lines)
 one-written all written line lines whole is = whole ∙ ap (λ ls. written ++ lines_text ls) is ∙ sym
     (append_assoc written _ _) ∙ ap (λ t. t ++ lines_text (drop 1 lines)) (sym (append_assoc written line _))
 
--- a part of a text, after what was written of it before
+-- a part of a text, after the text written before it
 pub part-after : {first second both : Device} → Joins first second both → (written text rest all : List ℕ)
     → all ≡ written ++ (text ++ rest) → TookAll first written → TookPart second text → TookPart both all
 part-after {both = both} j written text rest all whole a b =

@@ -1,24 +1,24 @@
--- What a filter is to write and to report, for the lines of an input that have come so far and for all of them.
+-- The output and the messages that a filter defines, for the first lines of an input and for all of them.
 use Rattle.std.specs.Prelude.{List, Option, Some, None, [], ◌∷◌, ◌++◌}
 pub use Rattle.crx_runs.specs.meaning.Results.{lines_text}
 pub use Rattle.crx_runs.specs.meaning.Results.{Course}
 use Rattle.crx_base.specs.meaning.Lines.{InputLine}
 use Rattle.crx_base.specs.declared.fault.At.{At}
 
--- what is to be written and reported for the lines so far, the end of the input not being judged, and for all lines;
--- and after which of its warnings memory may run out at a line that comes after some others, where the line may take
--- memory
+-- the output and warnings that are due after some lines, before the end of the input is known, and after all lines.
+-- `memory_after`: whether memory may be refused at a line that follows some lines, and if so after which of the line's
+-- warnings
 pub record Filter : Type 0 where
   pub so_far : List InputLine → Course
   pub whole : List InputLine → Course
   pub memory_after : List InputLine → InputLine → Option (List At)
 
--- the lines so far with one line more
+-- some lines and one more
 abbrev pub with_next : List InputLine → InputLine → List InputLine
 with_next lines line = lines ++ line ∷ []
 
--- what comes after the lines so far: a line, or where there is none the end of the input. The lines with it;
--- what is to be written and reported once it came; and after which of its warnings memory may run out at it
+-- the next item after some lines: a line, or the end of the input if there is none. The lines including it; the output
+-- and warnings due after it; and after which of its warnings memory may be refused at it
 abbrev pub lines_with : List InputLine → Option InputLine → List InputLine
 lines_with lines (Some line) = with_next lines line
 lines_with lines None = lines

@@ -1,10 +1,10 @@
--- The lines that a run writes to its messages.
+-- The messages of a run.
 use Rattle.std.specs.Prelude.{ℕ, List, [], ◌∷◌, ◌++◌, Option, Some, None, codes, decimal}
 use Rattle.std.specs.List.{flat_map}
 use Rattle.crx_base.specs.meaning.Faults.{code_of_fault, words_of_fault}
 use Rattle.crx_base.specs.declared.fault.At.{At}
 
--- a message of a fault: the word, the line, the fault's number and its words
+-- the message of a fault: the word, the line, the fault's number and its text
 abbrev pub message_text : List ℕ → At → List ℕ
 message_text word at = word ++ codes " line " ++ decimal at.line
     ++ codes " code " ++ decimal (code_of_fault at.fault) ++ codes ": " ++ words_of_fault at.fault ++ 10 ∷ []

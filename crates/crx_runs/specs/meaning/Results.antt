@@ -1,39 +1,38 @@
--- What a run writes, and how it ends.
+-- The output of a run, and how the run ends.
 use Rattle.std.specs.Prelude.{ℕ, Bool, true, false, List, [], ◌∷◌, ◌++◌, Option, Some, None, if◌then◌else◌}
 use Rattle.std.specs.Prelude.{◌≡◌}
 use Rattle.crx_base.specs.declared.fault.At.{At}
 use Rattle.crx_runs.specs.meaning.Messages.{notices_text, error_text}
 pub use Rattle.crx_base.specs.meaning.Lines.{lines_text}
 
--- what is written and reported for some lines, and the fault that ends the run, where there is one; warnings are
--- oldest first
+-- the output and warnings for some lines, and the fault that ends the run, if there is one; the oldest warning is first
 pub record Course : Type 0 where
   pub output : List ℕ
   pub warnings : List At
   pub fault : Option At
 
--- whether there are any
+-- whether there are any warnings
 abbrev pub are_some : List At → Bool
 are_some [] = false
 are_some (at ∷ more) = true
 
--- 2 where there were warnings, else 0
+-- 2 if there were warnings, otherwise 0
 abbrev pub good_status : Bool → ℕ
 good_status warned = if warned then 2 else 0
 
--- 1 where a fault ended the run, else by the warnings
+-- 1 if a fault ended the run, otherwise by the warnings
 abbrev pub status_after : List At → Option At → ℕ
 status_after warnings None = good_status (are_some warnings)
 status_after warnings (Some at) = 1
 
--- what a run writes to its output and to its messages, its status, and the fault that ended it
+-- the output and the messages of a run, its status, and the fault that ended it
 pub record FilterResult : Type 0 where
   pub output : List ℕ
   pub messages : List ℕ
   pub status : ℕ
   pub fault : Option At
 
--- the result of a course that is whole
+-- the result of a whole course
 abbrev pub result_of_course : Course → FilterResult
 result_of_course course = record {
   output = course.output;

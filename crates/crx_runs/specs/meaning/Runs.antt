@@ -1,4 +1,4 @@
--- What a whole run writes, reports and answers, by what its reader gave; and how it ended.
+-- The output, messages and result of a whole run, by the bytes that its reader gave.
 use Rattle.std.specs.Prelude.{◌≡◌, ◌⊎◌, ◌<◌, ◌≤◌, ◌-◌, ◌^◌, ℕ, List, [], ◌++◌, length, Option, Some, None}
 use Rattle.crx_lines.specs.meaning.Devices.{one_more, with_flush}
 use Rattle.crx_base.specs.declared.fault.At.{At}
@@ -15,7 +15,7 @@ use Rattle.crx_lines.specs.declared.device.Source.{Ghosts as SourceGhosts}
 
 -- ---- the whole run
 
--- a run wrote, reported and answered this
+-- a run wrote, reported and returned this result
 pub record IsResult (result : FilterResult) (writer messages : Device) (status : ℕ) (fault : Option At) : Type 0 where
   pub output : writer.took result.output
   pub messages_are : messages.took result.messages
@@ -31,39 +31,38 @@ abbrev pub FaultIs : Fault → Option At → Type 0
 FaultIs fault None = ⊥
 FaultIs fault (Some at) = at.fault ≡ fault
 
--- what a run is by the bytes that its reader gave: by the result of a whole input, and by the filter
+-- the meaning of a run for the bytes that its reader gave, by the result of a whole input and by the filter
 pub record RunsAs (result_of : List ℕ → FilterResult) (filter : Filter)
     (input : Input) (given : List ℕ) (writer messages : Device) (status : ℕ) (fault : Option At) : Type 0 where
-  -- where no device failed and memory didn't run out, the run is that of every input within the limit that begins with
-  -- these bytes, and is these bytes where its end was reported
+  -- if no device failed and memory wasn't refused, the result is that of every input within the limit that begins with
+  -- these bytes and, if its end was reported, is these bytes
   pub whole : NoneFailed input.start.failures input.counted.failures
       → NoneFailed writer.before.failures writer.after.failures
       → NoneFailed messages.before.failures messages.after.failures → (FaultIs OutOfMemory fault → ⊥)
       → (rest : List ℕ) → (input.at_end → rest ≡ [])
       → length (given ++ rest) ≤ INPUT_LIMIT → IsResult (result_of (given ++ rest)) writer messages status fault
-  -- where there is no fault, the end of the input was reported, no device failed, the writer was flushed once and the
-  -- messages never, and the run is that of these bytes
+  -- without a fault the end of the input was reported, no device failed, the writer was flushed once and the messages
+  -- never, and the result is that of these bytes
   pub good : fault ≡ None → input.at_end × (length given ≤ INPUT_LIMIT) × (input.counted.failures
       ≡ input.start.failures) × (writer.after ≡ with_flush writer.before) × (messages.after ≡ messages.before)
       × IsResult (result_of given) writer messages status fault
-  -- where there is no fault, all that was written was handed on: the writer was flushed last
+  -- without a fault all output was passed on: the flush was the last call
   pub flushed : fault ≡ None → writer.flushed
-  -- where there is a fault, the status is 1, and the fault says what ended the run and what was written and reported by
-  -- then
+  -- with a fault the status is 1, and the fault determines what was written and reported
   pub ended : (at : At) → fault ≡ Some at → (status ≡ 1) × Stands filter input given writer messages at at.fault
-  -- the end of the input was reported at most once: it was never asked for again
+  -- the end of the input was reported at most once: the reader wasn't called again after it
   pub asked : (input.counted.ends ≡ input.start.ends) ⊎ (input.counted.ends ≡ one_more input.start.ends)
   -- no read failed, unless that is the fault
   pub read : (FaultIs ReadFailed fault → ⊥) → input.counted.failures ≡ input.start.failures
-  -- what was written is a prefix of the defined output
+  -- the bytes written are a prefix of the defined output
   pub front : IsFrontPart filter input given writer
 
--- a run from a reader to a writer and to messages: its reader gave some bytes, and it is what they make of it
+-- a run from a reader to a writer and to messages: its reader gave some bytes, and the run is as they define
 abbrev pub Runs : (List ℕ → FilterResult) → Filter → Input → Device → Device → ℕ → Option At → Type 0
 Runs result_of filter input writer messages status fault = (given : List ℕ)
     × input.gave given × RunsAs result_of filter input given writer messages status fault
 
--- a run that is over: what went through its reader, its writer and its messages, and what it answered
+-- a finished run: the bytes through its reader, its writer and its messages, and its result
 pub record Ran : Type 1 where
   pub input : Input
   pub writer : Device
@@ -71,7 +70,7 @@ pub record Ran : Type 1 where
   pub status : ℕ
   pub fault : Option At
 
--- by the states of each before and after it, and its outcome
+-- a run by the states of each device before and after it, and its outcome
 abbrev pub ran_over : {R W M : Type 0} → SourceGhosts R → R → R → SinkGhosts W → W → W → SinkGhosts M → M → M
     → Outcome → Ran
 ran_over source reader reader_then sink writer writer_then message_sink messages messages_then outcome = record {
@@ -82,6 +81,6 @@ ran_over source reader reader_then sink writer writer_then message_sink messages
   fault = outcome.fault;
 }
 
--- it is what its reader's bytes make
+-- the run is as its reader's bytes define
 abbrev pub HasRun : (List ℕ → FilterResult) → Filter → Ran → Type 0
 HasRun result_of filter run = Runs result_of filter run.input run.writer run.messages run.status run.fault

@@ -1,4 +1,4 @@
--- A reader and a writer between two moments: what may have gone through them in between, and what was counted of them.
+-- A reader and a writer between two moments: the bytes that passed through them, and what was counted.
 use Rattle.std.specs.Prelude.{◌≡◌, ◌<◌, ◌≤◌, ℕ, List, ◌++◌, length, take}
 use Rattle.crx_lines.specs.meaning.Devices.{Tally, tally_of, with_failed_write, SinkTally}
 use Rattle.crx_lines.specs.declared.device.Source.{Ghosts}
@@ -6,8 +6,7 @@ use Rattle.crx_base.specs.declared.fault.At.{At}
 use Rattle.crx_runs.specs.meaning.Results.{Course}
 use Rattle.crx_lines.specs.declared.device.Sink.{Ghosts as SinkGhosts}
 
--- the reader between two moments: which bytes it may have given in between, whether it is at its end, and its
--- counts
+-- a reader between two moments: the bytes it may have given, whether it is at its end, and its counts
 pub record Input : Type 1 where
   pub gave : List ℕ → Type 0
   pub at_end : Type 0
@@ -23,15 +22,14 @@ reader_span source old new = record {
   counted = tally_of (source.failures new) (source.ends new);
 }
 
--- a writer between two moments: which texts it may have taken in between, whether all that it took was handed on by
--- then, and what was counted of it
+-- a writer between two moments: the texts it may have taken, whether all of them were passed on by then, and its counts
 pub record Device : Type 1 where
   pub took : List ℕ → Type 0
   pub flushed : Type 0
   pub before : SinkTally
   pub after : SinkTally
 
--- a text was written in part: all before it, and not all with it
+-- a text was written in part: all of `before`, but not all of `after`
 pub record IsPart (device : Device) (before after : List ℕ) : Type 0 where
   pub count : ℕ
   pub some : length before ≤ count
@@ -48,15 +46,15 @@ span sink old new = record {
   after = record { failures = sink.failures new; flushes = sink.flushes new };
 }
 
--- it took a text whole, and counted no failure
+-- a device took a text whole, and counted no failure
 abbrev pub TookAll : Device → List ℕ → Type 0
 TookAll device text = device.took text × (device.after ≡ device.before)
 
--- it took less than a text, from its front, and counted one failure more
+-- a device took less than a text, from its front, and counted one failure more
 abbrev pub TookPart : Device → List ℕ → Type 0
 TookPart device text = ((n : ℕ) × (n < length text) × device.took (take n text))
     × (device.after ≡ with_failed_write device.before)
 
--- these are the first warnings by which a course goes on
+-- these are the next warnings by which a course goes on
 abbrev pub AreNext : Course → Course → List At → Type 0
 AreNext before after notices = (more : List At) × (after.warnings ≡ before.warnings ++ notices ++ more)

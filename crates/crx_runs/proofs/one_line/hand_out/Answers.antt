@@ -9,7 +9,7 @@ use Rattle.crx_runs.specs.declared.one_line.Halt.TheVariants.{Unwritten}
 use Rattle.crx_runs.specs.Engines.{EngineAnswers, answer_given, lines_handed_out}
 use Rattle.crx_runs.proofs.one_line.hand_out.Goals as goal
 
--- What the engine answered to the line.
+-- The engine's answer to the line.
 answered : (g : Over) (c : After-take g) (lines : List InputLine) → g.E.Engine.shows c.args.engine.now lines
     []
     → EngineAnswers (g.E.Engine.filter c.args.engine.now) (g.E.Engine.shows c.take.new.self)

@@ -16,7 +16,7 @@ use Rattle.crx_runs.proofs.one_line.take_again.Goals as goal
 is-again : (g : Over) (c : After-take g) → c.in_ok-step.step ≡ Warned c.in-Warned-default-true.notice true
 is-again = grind (arith, common_steps)
 
--- The line, and the warning after which it comes a second time.
+-- The line, and the warning after which it is fed again.
 abbrev line : (g : Over) → After-take g → InputLine
 line g c = line_shown c.args.line
 
@@ -30,7 +30,7 @@ first-out : (g : Over) (c : After-take g) → TookAll (span g.W.Sink c.args.writ
 first-out g c = again-out (g.E.Engine.ready c.args.engine.now) _ _ _ (is-again g c)
     (rw (sym c.answer.ensures.value ∙ c.in_ok-step.was) at c.requires.drained) c.in_ok-warned.ensures.settled
 
--- What it answered then.
+-- The answer to the line fed again.
 second : (g : Over) (c : After-take g) (lines : List InputLine)
     → EngineAnswers (g.E.Engine.filter c.args.engine.now) (g.E.Engine.shows c.args.engine.now)
     (g.E.Engine.has_ended c.args.engine.now) (g.E.Engine.ready c.args.engine.now) lines [] (Some (line g c))

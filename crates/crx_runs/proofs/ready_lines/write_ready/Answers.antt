@@ -8,7 +8,7 @@ use Rattle.crx_runs.proofs.{output.ReadyLines.{one-written, part-after}, ready_l
 use Rattle.crx_runs.{proofs.ready_lines.write_ready.Goals.In-Some-next_line}
 use Rattle.crx_runs.proofs.ready_lines.write_ready.Goals as goal
 
--- What was ready at first is what was written, the next line, its LF and the others.
+-- The pending lines at first are the text written, the next line, its LF and the rest.
 next-line : (g : Over) (c : In-Some-next_line g) → lines_text (g.E.Engine.ready c.args.engine.now)
     ≡ c.loop-line.invariant.0.0 ++ (c.in-Some-next_line.line.now
     ++ (10 ∷ [] ++ lines_text (drop 1 (g.E.Engine.ready c.loop-line.engine))))

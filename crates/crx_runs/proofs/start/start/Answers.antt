@@ -9,12 +9,12 @@ use Rattle.crx_runs.specs.meaning.{Filters.Filter, Spans.{reader_span}}
 use Rattle.crx_runs.proofs.start.start.Goals as goal
 use Rattle.std.proofs.lemmas.Grind.{common_steps}
 
--- what is true after any answer is true after an error
+-- A statement about every result holds for an error.
 after-error : {A B P : Type 0} (result : Result A B) → P → OnErr result P
 after-error (Ok answer) is = tt
 after-error (Err error) is = is
 
--- a fault that a run stopped at is that of its outcome
+-- The fault at which a run stopped is the fault of its outcome.
 stays-fault : (writer messages : Device) (status : ℕ) (fault : Option At) (at : At)
     → Finishes writer messages 0 false (Some (Stopped at)) status fault → is_some fault ≡ true
 stays-fault writer messages status fault at h = grind arith

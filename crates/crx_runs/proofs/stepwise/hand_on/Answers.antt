@@ -4,7 +4,7 @@ use Rattle.crx_runs.proofs.stepwise.hand_on.{Given.Over, Goals.{Joined-may_wait,
 use Rattle.crx_runs.specs.meaning.Spans.{TookAll, span}
 use Rattle.crx_runs.proofs.stepwise.hand_on.Goals as goal
 
--- the writer was told that what it takes is awaited, or not
+-- the writer may have been told that its output is awaited
 still : (g : Over) (c : Joined-may_wait g)
     → TookAll (span g.W.Sink c.args.writer.now c.if-may_wait.writer) []
 still g c = elim c.if-may_wait.branch [

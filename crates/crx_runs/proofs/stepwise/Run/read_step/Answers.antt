@@ -10,11 +10,11 @@ use Rattle.crx_runs.proofs.stepwise.Run.read_step.Goals.{After-next_line}
 use Rattle.crx_runs.proofs.{stepwise.Run.read_step.Given.Over, DeviceSpans.span-joins}
 use Rattle.crx_runs.proofs.stepwise.Run.read_step.Goals as goal
 
--- How often a reader has failed and has told the end.
+-- How often a reader has failed and has reported the end.
 abbrev counts : (g : Over) → g.row.R.Denot → Tally
 counts g r = tally_of (g.R.Source.failures r) (g.R.Source.ends r)
 
--- These lines were read from a state of the reader to another, and the reader of lines is in such a state.
+-- These lines were read between two states of the reader, and the reader of lines is in `state`.
 abbrev Read : (g : Over) → g.row.R.Denot → g.row.R.Denot → ReaderState → List InputLine → Type 0
 Read g r0 r state lines = HasRead (λ given. g.R.Source.gave r0 given r) (g.R.Source.at_end r) (counts g r0)
     (counts g r) state lines

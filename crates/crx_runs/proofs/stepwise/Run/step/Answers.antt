@@ -15,7 +15,7 @@ use Rattle.crx_runs.specs.declared.one_line.Halt.TheVariants.{Unwritten}
 use Rattle.crx_runs.specs.{Running.IsRunning, meaning.Spans.{reader_span, span}}
 use Rattle.crx_runs.proofs.stepwise.Run.step.Goals as goal
 
--- How often a reader has failed and has told the end.
+-- How often a reader has failed and has reported the end.
 abbrev counts : (g : Over) → g.row.R.Denot → Tally
 counts g r = tally_of (g.R.Source.failures r) (g.R.Source.ends r)
 
@@ -27,7 +27,7 @@ asked g c some = held-asked c.next_held.result (g.met.R.Source.gave_none c.args.
     (⊎_elim (λ none. absurd (some none)) (λ is. is) c.next_held.ensures.going)
     c.next_held.follows.holds-at-none some
 
--- The line that was held, as it was read.
+-- The held line, as it was read.
 read : (g : Over) (c : In-Ok-Some g) (r0 : g.row.R.Denot) (lines : List InputLine)
     → HasRead (λ given. g.R.Source.gave r0 given c.args.reader.now) (g.R.Source.at_end c.args.reader.now)
     (counts g r0) (counts g c.args.reader.now) (reading c.args.self.now.input) lines

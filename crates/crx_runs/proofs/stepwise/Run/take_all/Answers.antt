@@ -7,7 +7,7 @@ use Rattle.crx_runs.specs.{Taking.IsDone, meaning.Spans.{reader_span, span}}
 use Rattle.crx_runs.proofs.stepwise.Run.take_all.Goals as goal
 use Rattle.std.proofs.lemmas.Grind.{common_steps}
 
--- What a step does, by the filter that the engine had at first.
+-- A step, by the filter that the engine had at first.
 goes : (g : Over) (c : After-step g) → StepGoes (g.E.Engine.filter c.args.self.now.engine)
     (g.E.Engine.shows c.step.new.self.engine) (reader_span g.R.Source c.args.reader.now c.step.new.reader) (span
     g.W.Sink c.args.writer.now c.step.new.writer) (span g.M.Sink c.args.messages.now c.step.new.messages)
