@@ -20,13 +20,13 @@ pub called-to_read : (before after : List Call) (name : List ℕ) (source : Opti
     → after ≡ before ++ call_to_read source
 called-to_read before after name source named made = rw named made
 
--- what was made until a hindrance after a call to read
+-- the calls made before a hindrance, after a call to read
 pub made-after_read : (why : Hindrance) (read written before between after : List Call)
     → between ≡ before ++ read → MadeUntil why [] written between after
     → MadeUntil why read written before after
 made-after_read = grind (arith, common_steps, append_assoc, append-nil)
 
--- what was made until a hindrance is the first of a job's calls
+-- the calls made before a hindrance are the first of a job's calls
 pub opens-until : (why : Hindrance) (job : Job) (before after : List Call)
     → MadeUntil why (call_to_read job.source) (call_to_write job.target job.force) before after
     → OpensInOrder job before after

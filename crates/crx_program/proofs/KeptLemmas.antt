@@ -1,4 +1,4 @@
--- What a run promises of its input follows from what its logs are.
+-- A run's promises for its input follow from its logs.
 use Rattle.std.proofs.lemmas.Grind.{common_steps}
 use Rattle.std.proofs.Common.{arith, ◌≡◌, ℕ, List, Option, None, ◌∙◌}
 use Rattle.crx_base.specs.meaning.{Choices.Choices}

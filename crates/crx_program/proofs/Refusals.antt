@@ -1,4 +1,4 @@
--- What the user reads of a refusal.
+-- The message of a refusal.
 use Rattle.std.proofs.Common.{◌≡◌, ◌∙◌, List, [], ℕ, Err, Some, inr, ap, refl}
 use Rattle.std.{specs.Option.IfSome}
 use Rattle.crx_runs.specs.meaning.Spans.{Device}
@@ -18,7 +18,7 @@ some_line BadDate = (_, refl)
 some_line (NoName name) = (_, refl)
 
 module _ (p : Plan) (refusal : Refusal) (messages : Device) (status : ℕ) where
-  -- words are refused by the line of their fault, or by that of the memory that ran out
+  -- arguments are refused with the line of their fault, or of the refused memory
   pub refused_by : (fault : UsageFault) → p ≡ Refused refusal → status ≡ 1
       → (fault ≡ usage_fault.Memory → IsShown messages (at_start OutOfMemory))
       → (plan_in (Err fault) ≡ Some (Refused refusal) → IsRefused messages refusal status)

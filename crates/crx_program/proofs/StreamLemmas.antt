@@ -1,4 +1,4 @@
--- What the logs of a run's devices are, by what ran between them.
+-- The logs of a run's devices, by the filter that ran between them.
 use Rattle.std.proofs.lemmas.Grind.{common_steps}
 use Rattle.std.proofs.Common.{arith, ◌≡◌, ◌⊎◌, ◌∙◌, ◌<◌, ℕ, Bool, true}
 use Rattle.std.proofs.Common.{false, List, [], ◌++◌, Option, Some, None}
@@ -19,7 +19,7 @@ use Rattle.crx_program.proofs.CallLemmas.{opens-until}
 
 -- ---- the devices of the program
 
--- what `Std` says of a reader and of a writer of std, by what std says of its bytes
+-- how `Std` describes a reader and a writer of std, by the description of their bytes in std
 abbrev pub std_source : {D : Type 0} → (D → Option (List ℕ)) → SourceGhosts (Std D)
 std_source remaining = record {
   gave = λ a bytes b. Consumes (remaining a.inner) (remaining b.inner) bytes;
@@ -40,7 +40,7 @@ std_sink contents = record {
   is_broken = λ s. s.is_broken;
 }
 
--- and what it says with a log
+-- and with a log
 abbrev pub logged_source : {D : Type 0} → SourceGhosts D → SourceGhosts (Logged D)
 logged_source inner = record {
   gave = λ a bytes b. (b.log.bytes ≡ a.log.bytes ++ bytes) × (b.opening ≡ a.opening)
@@ -69,9 +69,9 @@ reader_of remaining = logged_source (std_source remaining)
 abbrev pub writer_of : {D : Type 0} → (D → Option (List ℕ)) → SinkGhosts (Logged (Std D))
 writer_of contents = logged_sink (std_sink contents)
 
--- ---- what is known of the logs of a run
+-- ---- the logs of a run
 
--- the run of a filter, where its writer is by the logs
+-- the run of a filter, with its writer described by the logs
 record Writing {G O : Type 0} (name : Option (List ℕ)) (force : Bool) (target : Option (Logged (Std G)))
     (output : Logged (Std O)) (tool : Tool) (choices : Choices) (input : Input) (messages : Device)
     (status : ℕ)
@@ -81,7 +81,7 @@ record Writing {G O : Type 0} (name : Option (List ℕ)) (force : Bool) (target 
   pub took : (bytes : List ℕ) → writer.took bytes → WritesTook name force target output bytes
   pub flushed : writer.flushed → IsFlushedLast target output
 
--- and where its reader is
+-- and with its reader
 record Placed {F G I O : Type 0} (job : Job) (source : Option (Logged (Std F)))
     (target : Option (Logged (Std G)))
     (input : Logged (Std I)) (output : Logged (Std O)) (choices : Choices) (messages : Device) (status : ℕ)
@@ -97,7 +97,7 @@ by_plan Help help refused run = help refl
 by_plan (Refused refusal) help refused run = refused refusal refl
 by_plan (Run job) help refused run = run job refl
 
--- the reads of a job wait as they did before
+-- the job's input waits as it did before
 module _ {F G I : Type 0} (file : F → Option (List ℕ)) (made : G → Option (List ℕ))
     (stdin : I → Option (List ℕ))
     (first last : Logged (Std I)) where
@@ -207,7 +207,7 @@ module _ {F G I O E : Type 0} (file : F → Option (List ℕ)) (made : G → Opt
         → IsPlaced choices → (status ≡ 1 → ⊥) → IsExact
     exact_of choices chosen place well = grind arith
 
-    -- whatever ended a run, what was written is a prefix
+    -- the output is a prefix, however the run ended
     abbrev IsFront : Type 0
     IsFront = (given : List ℕ) × (written : List ℕ) × ReadsGave job.source source last given
         × WritesTook job.target job.force target after written × IsPrefixOf moment job given written
@@ -224,7 +224,7 @@ module _ {F G I O E : Type 0} (file : F → Option (List ℕ)) (made : G → Opt
           (choices, chosen, elim front.first [ inl some ↦ inl some | inr all ↦ inr all.1 ]),
         )
 
-    -- where the job was begun it has a reader and a writer
+    -- a job that was begun has a reader and a writer
     pub run_over : IsJobDone (reader_of file) (writer_of made) moment job source target input output messages
         status ((last ≡ first) × (after ≡ before) × (target ≡ None)) fewer calls
         → ((status ≡ 1 → ⊥) → IsExact)

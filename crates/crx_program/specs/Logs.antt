@@ -1,4 +1,4 @@
--- Beside meaning: what a log has after no bytes, and after some and then some more.
+-- How a log grows: by no bytes, and by some bytes and then more.
 use Rattle.std.proofs.Common.{◌≡◌, ◌∙◌, ℕ, List, [], ◌++◌, ap, sym, append_assoc, append-nil}
 
 pub adds_none : (log : List ℕ) → log ≡ log ++ []

@@ -1,14 +1,15 @@
-//! The writer of a file that is made later.
+//! A writer that is set after its buffer was made.
 
 ghost use Rattle.crx_program.specs.LateWriters.{late_contents};
 
 use std::io;
 use std::io::{ErrorKind, Write};
 
-/// A writer that comes later: a buffer can be made before it. Till it comes each write and flush fails.
+/// A place for a writer, so that a buffer can be made first. Until the writer is set, each write and flush fails with
+/// `NotConnected`.
 #[derive(Drop)]
 pub struct LateWriter<W> {
-    /// The writer, where it came.
+    /// The writer, once it is set.
     pub(crate) writer: Option<W>,
 }
 

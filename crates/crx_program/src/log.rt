@@ -1,5 +1,5 @@
-//! Devices that know what went through them, and by which name they were opened. What they know is read by
-//! contracts alone.
+//! Devices with a log of the bytes that passed through them and of the name that opened them. Only contracts read these
+//! logs.
 ghost use Rattle.std.specs.Prelude.{◌≡◌, ◌<◌, List, ℕ, [], None, ◌++◌};
 ghost use Rattle.std.specs.Borrow.{ftrue};
 ghost use Rattle.std.proofs.Common.{◌∙◌, refl};
@@ -15,12 +15,12 @@ use std::fs::OpenOptions;
 use std::io::BufWriter;
 use std::marker::{Model, PhantomData};
 
-/// How many bytes of the output are collected before they are written: a system call for each line would cost
-/// more than all other work. The reader of lines itself reads the input in pieces of that size.
+/// The size of the output's buffer, in bytes, because a system call per line would cost more than all other work. The
+/// reader of lines reads pieces of the same size.
 pub const OUTPUT_BUFFER: usize = 65536;
 
-/// Bytes, and the calls that opened files, or failed to, in their order. Contracts alone read them; the log
-/// takes no memory, and its methods do nothing at run time.
+/// Bytes, and the calls that opened files or failed to, in order. Only contracts read them: the log needs no memory,
+/// and its methods do nothing at run time.
 #[derive(Drop)]
 pub struct Log {
     marker: PhantomData<u8>,
@@ -33,7 +33,7 @@ impl Model for Log {
 }
 
 impl Log {
-    /// The log of no byte and no call.
+    /// Returns an empty log.
     pub(crate) fn new() -> Log
         ensures { (result.bytes ≡ []) × (result.calls ≡ []) }
     {
@@ -42,7 +42,7 @@ impl Log {
         }
     }
 
-    /// Adds bytes after those that are there.
+    /// Adds bytes at the end.
     #[inline(always)]
     pub(crate) fn add(&mut self, _more: &[u8])
         ensures { self.new.bytes ≡ self.old.bytes ++ _more.now }
@@ -58,39 +58,37 @@ impl Log {
 /// How the device of a file was opened.
 #[derive(Drop)]
 pub struct Opening {
-    /// The name that the opening call was given; empty where a device wasn't opened by a name.
+    /// The name in the call that opened the device, empty if none did.
     name: Log,
-    /// The options of the call that opened the file for writing; none where there was no such call.
+    /// The options of the call that opened the file for writing, if there was one.
     how: Option<OpenOptions>,
 }
 
-/// A device that knows what went through it, and how it was opened. It reads, writes and flushes by the
-/// device in it, once for each call.
+/// A device with a log of its bytes and of how it was opened. Each read, write and flush is one call of the inner
+/// device.
 #[derive(Drop)]
 pub struct Logged<S> {
     inner: S,
-    /// What its reads gave and its writes took.
+    /// The bytes that were read or written.
     log: Log,
     opening: Opening,
 }
 
-/// A file or a stream that is read, or a stream that is written without a buffer, as a device that knows what
-/// went through it, and of a file its name. It hands on no interruption.
+/// A file or stream that is read, or a stream that is written without a buffer, with a log. An interrupted call is
+/// repeated.
 pub type SourceFile<F> = Logged<Std<Uninterrupted<F>>>;
 
-/// The buffer of a file that is written. It can be made before the file.
+/// The buffer of an output file, which can be made before the file.
 pub type FileBuffer<F> = BufWriter<LateWriter<UntilFailure<Uninterrupted<F>>>>;
 
-/// A stream that is written over a buffer, as a device that knows what was written to it. It hands on no
-/// interruption.
+/// A stream that is written through a buffer, with a log. An interrupted call is repeated.
 pub type TargetStream<F> = Logged<Std<BufWriter<UntilFailure<Uninterrupted<F>>>>>;
 
-/// A file that is written over a buffer, as a device that knows what was written to it, and the file's
-/// name. It hands on no interruption.
+/// A file that is written through a buffer, with a log that has the file's name. An interrupted call is repeated.
 pub type TargetFile<F> = Logged<Std<FileBuffer<F>>>;
 
 impl<S> Logged<S> {
-    /// The device, with nothing in its log, and no name.
+    /// Wraps a device, with an empty log and no name.
     pub fn new(inner: S) -> Logged<S>
         ensures inner { result.inner ≡ inner }
         ensures log { result.log.bytes ≡ [] }
@@ -107,14 +105,14 @@ impl<S> Logged<S> {
         }
     }
 
-    /// The device itself.
+    /// Returns the inner device.
     pub fn into_inner(self) -> S
         ensures inner { result ≡ self.inner }
     {
         self.inner
     }
 
-    /// What went through the device, which is let go of.
+    /// Drops the device and returns its log.
     pub fn into_log(self) -> Log
     where
         S: Drop,

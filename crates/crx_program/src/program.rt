@@ -1,4 +1,4 @@
-//! A whole run of the program: from the arguments to an exit status.
+//! A whole run of the program, from the arguments to an exit status.
 
 ghost use Rattle.std.specs.Prelude.{◌≡◌, ◌⊎◌, ◌++◌, [], IfOk, None, is_some, map, string_bytes, true};
 ghost use Rattle.std.specs.Option.{option_map_or};
@@ -25,21 +25,20 @@ use std::alloc::{AllocError, Global};
 use std::io::{BufWriter, ErrorKind, Write};
 use std::rt::{Clock, Files};
 
-/// A run that is over: its exit status, and the devices of the files that it opened.
+/// A finished run: its exit status, and the devices of the files that it opened.
 #[derive(Drop)]
 pub struct Ended<F: Write + Drop> {
     /// The exit status.
     pub status: u8,
-    /// The file that was read, where the run opened one.
+    /// The input file, if the run opened one.
     pub source: Option<SourceFile<F>>,
-    /// The file that was written, where the run made one.
+    /// The output file, if the run made one.
     pub target: Option<TargetFile<F>>,
 }
 
-/// Has the buffer of a device hand on what it still holds, and lets go of the device. No byte more is
-/// written: a run that ended since a message couldn't be written hasn't flushed what it wrote before. After
-/// a write that failed nothing is handed on. A run whose output wasn't handed on before has ended with
-/// status 1, so a failure says nothing more.
+/// Flushes a device's buffer, drops the device and returns its log. Output is left only after a run with status 1, so a
+/// failure of this flush adds nothing: if a message couldn't be written, the output before it is written now; after a
+/// failed write nothing is.
 pub(crate) fn close_buffer<W: Write + Drop>(device: Logged<Std<BufWriter<W>>>) -> Log
     ensures { result.bytes ≡ device.log.bytes }
 {
@@ -51,8 +50,7 @@ pub(crate) fn close_buffer<W: Write + Drop>(device: Logged<Std<BufWriter<W>>>) -
 }
 
 impl<F: Write + Drop> Ended<F> {
-    /// Hands on what the buffer of the output file still holds, closes the files, and answers the exit
-    /// status.
+    /// Flushes the output file's buffer, closes the files and returns the exit status.
     fn close(self) -> u8
         ensures status { result ≡ self.status }
     {
@@ -67,7 +65,7 @@ impl<F: Write + Drop> Ended<F> {
         status
     }
 
-    /// A run that opened no file.
+    /// Makes a run that opened no file.
     fn without_files(status: u8) -> Ended<F>
         ensures status { result.status ≡ status }
         ensures source { result.source ≡ None }
@@ -81,7 +79,8 @@ impl<F: Write + Drop> Ended<F> {
     }
 }
 
-/// What the user chose: the date among the arguments, else that of the moment where one is needed.
+/// Returns the options of a job. The date is the job's, or for a compaction the date of `moment`. Returns `AllocError`
+/// if memory for that date is refused.
 fn options_of(alloc: Global, moment: Option<Timestamp>, job: &Job) -> Result<Options, AllocError>
     requires { option_map_or is_date job.now.date true ≡ true }
     ensures { IfOk result (λ options.
@@ -95,11 +94,11 @@ fn options_of(alloc: Global, moment: Option<Timestamp>, job: &Job) -> Result<Opt
         }
         (None, _) => Options::new(job.every, job.skip, b""),
     };
-    // A date that was given fits its columns, and so does that of a moment.
+    // Both dates fit their columns.
     Ok(options.unwrap())
 }
 
-/// Runs a filter, and answers the exit status: that of its outcome.
+/// Runs a filter and returns the exit status of its outcome.
 fn filter<R: Source, W: Sink, M: Sink>(
     alloc: Global,
     tool: Tool,
@@ -118,9 +117,9 @@ fn filter<R: Source, W: Sink, M: Sink>(
     }
 }
 
-/// Runs a filter into the job's target: a file, or `output` where the job names none. A file that exists is
-/// overwritten only where the job says so; else the call that makes the file fails where there is one, with
-/// `AlreadyExists`. Where there is no memory for the buffer, no file is made.
+/// Runs the job's filter into its output file, or into `output` if it names none. The file isn't made if memory for its
+/// buffer is refused. A file that exists is overwritten only if the job says so; otherwise, and if the file can't be
+/// made, this is reported with status 1.
 fn run_to_target<H: Files, R: Source, W: Sink, M: Sink>(
     files: &mut Opener<'_, H>,
     alloc: Global,
@@ -164,8 +163,8 @@ fn run_to_target<H: Files, R: Source, W: Sink, M: Sink>(
     }
 }
 
-/// Does a job: makes the default date where one is needed, then opens the input file, then makes the
-/// output file, and runs the filter.
+/// Runs a job: makes the default date if it is needed, opens the input file, makes the output file, and runs the
+/// filter.
 fn run_job<H: Files, R: Source, W: Sink, M: Sink>(
     files: &mut Opener<'_, H>,
     alloc: Global,
@@ -211,7 +210,7 @@ fn run_job<H: Files, R: Source, W: Sink, M: Sink>(
     }
 }
 
-/// Writes the help and flushes it.
+/// Writes the help, flushes it and returns the exit status: 0, or 1 if the output fails.
 fn show_help<W: Sink, M: Sink>(text: &Word, output: &mut W, messages: &mut M) -> u8
     ensures { IsHelped (span W.Sink output.old output.new) (span M.Sink messages.old messages.new) result }
 {
@@ -224,20 +223,18 @@ fn show_help<W: Sink, M: Sink>(text: &Word, output: &mut W, messages: &mut M) ->
     }
 }
 
-/// Does what the arguments ask for, at the moment that the clock gives, and answers the exit status; the
-/// arguments come without the program's name. `input` and `output` stand for standard input and standard
-/// output.
+/// Runs the program and returns the exit status. `words`: the arguments, without the program's name; `input` and
+/// `output`: standard input and standard output. The clock of `rt` gives the default date.
 ///
-/// A run's status is that of its filter: 0 where no message was written, 1 where an error ended it, and
-/// 2 where there were warnings alone or, for `check`, where the file isn't standard. Help is written to
-/// `output`, status 0. All else is a line of the messages, status 1: arguments that are refused (see
-/// [`plan`]), `ERROR: cannot read NAME`, `ERROR: file exists: NAME` where the output file exists and
-/// `-f` isn't given, and `ERROR: cannot create NAME`. If the system refuses memory before the filter runs,
-/// that is fault 22 at line 0, and a help that can't be written is fault 21 at line 0.
+/// The status is the filter's: 0 without messages, 1 after an error, 2 if there were only warnings or, for `check`, if
+/// the file isn't standard. Help is written to `output`, with status 0. In all other cases one line is reported, with
+/// status 1: refused arguments (see [`plan`]), `ERROR: cannot read NAME`, `ERROR: file exists: NAME` if the output file
+/// exists and `-f` isn't given, and `ERROR: cannot create NAME`. If the system refuses memory before the filter runs,
+/// that is fault 22 at line 0; if the help can't be written, that is fault 21 at line 0.
 ///
-/// The default date is made first, where one is needed; then the input file is opened, then the output
-/// file is made, once there is memory for its buffer. Where the input may have to wait, as all but regular
-/// files may, what is written is handed on before each read and before each warning.
+/// The default date is made first, if it is needed; then the input file is opened; then memory for the output's buffer
+/// is reserved and the output file is made. If `input` may have to wait, as everything but a regular file may, all
+/// output is passed on before each read and before each warning.
 pub fn run<H: Files + Clock, R: Source, W: Sink, M: Sink>(
     rt: &H,
     alloc: Global,
@@ -267,8 +264,8 @@ pub fn run<H: Files + Clock, R: Source, W: Sink, M: Sink>(
     run_with_files(&mut files, alloc, moment, words, input, output, messages).close()
 }
 
-/// Does the same at a moment that is given, opens files by this opener alone, and answers the devices of
-/// these too (see [`run`]). The default date is that of the moment, and empty where there is none.
+/// Does the same as [`run`], opens files only by `files`, and returns the devices of these files too. The default date
+/// is the date of `moment`, empty if there is none.
 pub fn run_with_files<H: Files, R: Source, W: Sink, M: Sink>(
     files: &mut Opener<'_, H>,
     alloc: Global,

@@ -1,4 +1,4 @@
-//! The lines that a user reads where nothing is run.
+//! The messages of a run without a filter.
 
 ghost use Rattle.std.specs.Prelude.{◌≡◌, Some, Err};
 ghost use Rattle.crx_command.specs.meaning.Planning.{Refusal, Refused};
@@ -14,10 +14,10 @@ use crx_lines::{Sink, write_all_counted};
 use crx_runs::message::{Severity, message};
 use std::alloc::Global;
 
-/// The exit status of a run that an error ended.
+/// The exit status after an error.
 pub const FAILED: u8 = 1;
 
-/// Writes a line of the messages; a failure ends it where it comes.
+/// Writes a line to the messages. If `messages` fails, the line ends there.
 fn show<M: Sink>(messages: &mut M, line: &[u8])
     ensures { IsShown (span M.Sink messages.old messages.new) line.now }
 {
@@ -27,7 +27,7 @@ fn show<M: Sink>(messages: &mut M, line: &[u8])
     }
 }
 
-/// Reports a fault that came before the first line was read, and answers the exit status.
+/// Reports a fault before the first line, and returns the exit status, which is 1.
 #[inline(never)]
 pub fn report_at_start<M: Sink>(messages: &mut M, fault: Fault) -> u8
     ensures shown { IsShown (span M.Sink messages.old messages.new) (at_start fault) }
@@ -40,7 +40,7 @@ pub fn report_at_start<M: Sink>(messages: &mut M, fault: Fault) -> u8
     FAILED
 }
 
-/// Reports that the system refused memory before the first line was read, and answers the exit status.
+/// Reports that memory was refused before the first line, and returns the exit status, which is 1.
 pub fn report_no_memory<M: Sink>(messages: &mut M) -> u8
     ensures shown { IsShown (span M.Sink messages.old messages.new) (at_start Fault.OutOfMemory) }
     ensures status { result ≡ 1 }
@@ -48,8 +48,8 @@ pub fn report_no_memory<M: Sink>(messages: &mut M) -> u8
     report_at_start(messages, Fault::OutOfMemory)
 }
 
-/// Reports what is wrong, and a name, as `ERROR: file exists: a.crx`, and answers the exit status. If the
-/// system refuses memory for the line, it reports that.
+/// Reports an error with a name, such as `ERROR: file exists: a.crx`, and returns the exit status, which is 1. If
+/// memory for the line is refused, reports that instead.
 pub fn report<M: Sink>(alloc: Global, messages: &mut M, words: &str, name: &str) -> u8
     ensures shown { IsShownOr (span M.Sink messages.old messages.new) (error_line words.now name.now) }
     ensures status { result ≡ 1 }
@@ -63,7 +63,7 @@ pub fn report<M: Sink>(alloc: Global, messages: &mut M, words: &str, name: &str)
     }
 }
 
-/// Reports why the arguments ask for nothing that can be done, and answers the exit status.
+/// Reports why the arguments are refused, and returns the exit status, which is 1.
 pub fn refuse<M: Sink>(alloc: Global, messages: &mut M, fault: &UsageFault) -> u8
     ensures memory { fault.now ≡ UsageFault.Memory
         → IsShown (span M.Sink messages.old messages.new) (at_start Fault.OutOfMemory) }

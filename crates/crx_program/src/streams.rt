@@ -1,5 +1,4 @@
-//! A whole run of the program over standard streams that are handed in, which are handed back as devices that
-//! know what went through them.
+//! A whole run of the program over standard streams, which are returned with their logs.
 
 ghost use Rattle.std.specs.Prelude.{◌≡◌, [], None, map, string_bytes};
 ghost use Rattle.crx_command.specs.meaning.Planning.{Help, Refusal, Refused, Run, plan_of};
@@ -22,34 +21,33 @@ use std::alloc::Global;
 use std::io::{BufWriter, Read, Write};
 use std::rt::Files;
 
-/// Standard input, as a device that knows what its reads gave.
+/// Standard input, with a log of the bytes read.
 pub type InputDevice<I> = SourceFile<I>;
 
-/// Standard output, as a device that knows what was written to it; it is over a buffer.
+/// Standard output over a buffer, with a log of the bytes written.
 pub type OutputDevice<O> = TargetStream<O>;
 
-/// Standard error, as a device that knows what was written to it.
+/// Standard error, with a log of the bytes written.
 pub type MessageDevice<E> = SourceFile<E>;
 
-/// A run over standard streams that is over: its exit status, and each device that it read or wrote, with a
-/// log of all that went through it.
+/// A finished run over standard streams: its exit status, and each device that it read or wrote, with its log.
 #[derive(Drop)]
 pub struct Whole<I, O: Write + Drop, E, F: Write + Drop> {
     /// The exit status.
     pub status: u8,
     /// Standard input.
     pub input: InputDevice<I>,
-    /// Standard output. The device is over the buffer.
+    /// Standard output, over its buffer.
     pub output: OutputDevice<O>,
     /// Standard error.
     pub messages: MessageDevice<E>,
-    /// The file that was read, where the run opened one.
+    /// The input file, if the run opened one.
     pub source: Option<SourceFile<F>>,
-    /// The file that was written, where the run made one.
+    /// The output file, if the run made one.
     pub target: Option<TargetFile<F>>,
 }
 
-/// A run that had no memory for its arguments: a line says so. It reads nothing, and writes nothing else.
+/// Ends a run whose arguments were refused memory: reports that, with status 1, and neither reads nor writes anything.
 pub fn without_memory<I: Read, O: Write + Drop, E: Write, F: Write + Drop>(
     stdin: Uninterrupted<I>,
     stdout: BufWriter<UntilFailure<Uninterrupted<O>>>,
@@ -74,9 +72,8 @@ pub fn without_memory<I: Read, O: Write + Drop, E: Write, F: Write + Drop>(
     }
 }
 
-/// Does what the arguments ask for, over standard streams (see [`run`](crate::program::run)), and hands these
-/// back. Files are opened by this opener alone. `may_wait` says whether standard input may have to wait for
-/// more.
+/// Runs the program over standard streams (see [`run`](crate::program::run)) and returns them. Files are opened only by
+/// `files`. `may_wait`: whether standard input may have to wait for more bytes.
 pub fn run_over<H: Files, I: Read, O: Write + Drop, E: Write>(
     files: &mut Opener<'_, H>,
     alloc: Global,
@@ -132,27 +129,26 @@ pub fn run_over<H: Files, I: Read, O: Write + Drop, E: Write>(
     }
 }
 
-/// A run that is over, whose files and streams are let go of: its exit status, and what went through each
-/// device.
+/// A finished run whose files and streams are closed: its exit status, and the log of each device.
 #[derive(Drop)]
 pub struct Closed {
     /// The exit status.
     pub status: u8,
-    /// What standard input gave.
+    /// The bytes read from standard input.
     pub input: Log,
-    /// What was written to standard output.
+    /// The bytes written to standard output.
     pub output: Log,
-    /// What was written to standard error.
+    /// The bytes written to standard error.
     pub messages: Log,
-    /// What the file that was read gave, where the run opened one.
+    /// The bytes read from the input file, if the run opened one.
     pub source: Option<Log>,
-    /// What was written to the file, where the run made one.
+    /// The bytes written to the output file, if the run made one.
     pub target: Option<Log>,
 }
 
 impl<I: Drop, O: Write + Drop, E: Drop, F: Write + Drop> Whole<I, O, E, F> {
-    /// Hands on what the buffers of the output still hold, closes the files, and answers the exit status. No
-    /// byte more is read or written.
+    /// Flushes the output's buffers, closes the files and returns the exit status with the logs. It reads and reports
+    /// nothing more.
     pub fn close(self) -> Closed
         ensures status { result.status ≡ self.status }
         ensures nothing_more { HasLogsOf self result }

@@ -1,4 +1,4 @@
-//! Opening files: each call that opens one is logged.
+//! Opening files, with a log of the calls.
 
 ghost use Rattle.std.specs.Prelude.{◌≡◌, [], None, Some, IfOk, is_some, true};
 ghost use Rattle.std.specs.Io.Buffered.{writer_buffer, writer_inner};
@@ -13,8 +13,8 @@ use std::fs::OpenOptions;
 use std::io;
 use std::rt::Files;
 
-/// The files of a machine, and a log of the calls that opened one. Who has this and not the machine opens no
-/// file that isn't logged.
+/// The files of a machine, and a log of the calls that opened one. Code that has this value but not the machine can't
+/// open a file without the log.
 #[derive(Drop)]
 pub struct Opener<'a, H: Files> {
     files: &'a H,
@@ -22,7 +22,7 @@ pub struct Opener<'a, H: Files> {
 }
 
 impl<'a, H: Files> Opener<'a, H> {
-    /// The files of this machine, none of which was opened yet.
+    /// Returns the files of a machine, with an empty log.
     pub fn new(files: &'a H) -> Opener<'a, H>
         ensures calls { result.log.calls ≡ [] }
     {
@@ -32,8 +32,8 @@ impl<'a, H: Files> Opener<'a, H> {
         }
     }
 
-    /// Opens the file of a name for reading. This call and [`Opener::open_to_write`] alone make a device that
-    /// has a name: the one that they were given, and hand on to the machine.
+    /// Opens the file `name` for reading. Only this call and [`Opener::open_to_write`] make a device with a name, which
+    /// is the one that they pass to the machine. Returns the system's error.
     pub fn open_to_read(&mut self, name: &str) -> io::Result<SourceFile<H::File>>
         ensures calls { self.new.log.calls ≡ with_call self.old.log.calls name.now options_to_read }
         ensures opened { IfOk result (IsFreshlyOpened name.now None) }
@@ -49,8 +49,8 @@ impl<'a, H: Files> Opener<'a, H> {
         Ok(device)
     }
 
-    /// Opens the file of a name for writing: one that exists is emptied where `force` says so, and else the
-    /// call fails where there is one. What is written goes through this buffer.
+    /// Opens the file `name` for writing through `buffer`. A file that exists is emptied if `force` is set; otherwise
+    /// the call fails with `AlreadyExists`. Returns the system's error.
     pub fn open_to_write(
         &mut self,
         force: bool,
