@@ -29,16 +29,15 @@ use std::os::fd::AsRawFd;
 use std::process::ExitCode;
 use std::{env, fs, io};
 
-/// What can be opened on each machine, and neither read nor written: the folder of all others.
+/// A name that every machine can open, but neither read nor write: the root folder.
 const NO_STREAM: &str = "/";
 
 /// The name of standard input as a file.
 const STANDARD_INPUT: &str = "/dev/stdin";
 
-/// Does what the arguments of a process ask for, of which the first is the program's name, over the standard
-/// streams (see [`run_over`]), and hands these back. It takes the list and the streams as they come from the
-/// machine: the words are all but the first, in order, each once. Files are opened by this opener alone.
-/// `waits` says whether standard input may have to wait for more.
+/// Runs the program over the standard streams (see [`run_over`]) and returns them. `arguments`: the arguments of the
+/// process, the first of which is the program's name; all the others are the words, in order. Files are opened only by
+/// `files`. `waits`: whether standard input may have to wait for more bytes.
 pub fn run_streams(
     files: &mut Opener<'_, HostRuntime>,
     alloc: Global,
@@ -79,14 +78,13 @@ pub fn run_streams(
     }
 }
 
-/// Does what the arguments ask for, over the standard streams, and answers the exit status. The output goes
-/// through a buffer.
+/// Runs the program over the standard streams, with a buffer for the output, and returns the exit status.
 ///
-/// If the system refuses memory for the arguments or the buffer, that is fault 22 at line 0, status 1.
-/// Arguments that aren't text are refused as such. A standard stream that was closed before the program began
-/// stays closed: a file that the arguments name doesn't take its place.
+/// If the system refuses memory for the arguments or the buffer, that is fault 22 at line 0, with status 1. Arguments
+/// that aren't UTF-8 are refused with their own message. A standard stream that was closed before the program began
+/// stays closed, so that no file takes its place.
 pub fn run_host(rt: &HostRuntime) -> ExitCode {
-    // The system gives the lowest number that is free, and numbers 0 to 2 are the standard streams.
+    // The system gives the lowest free number, and 0 to 2 are the standard streams.
     let place = fs::open(rt, NO_STREAM);
     let _others = match &place {
         Ok(file) if file.as_raw_fd() > 2 => None,
@@ -97,7 +95,7 @@ pub fn run_host(rt: &HostRuntime) -> ExitCode {
         Err(error) => {
             let mut messages = Std::new(Uninterrupted::new(rt.stderr()));
             let text = "error: invalid UTF-8 was detected in one or more arguments\n";
-            // The system refused memory for the arguments, or they aren't text.
+            // Memory for the arguments was refused, or they aren't UTF-8.
             let fault = match error.kind() {
                 io::ErrorKind::OutOfMemory => UsageFault::Memory,
                 _ => Word::new(rt.alloc(), text).map_or_else(UsageFault::from, UsageFault::Parse),
