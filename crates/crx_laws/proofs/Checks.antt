@@ -1,4 +1,4 @@
--- A compaction that skips nothing has the fault and the messages of the check.
+-- A compaction without `-s` has the fault and the messages of the check.
 use Rattle.crx_filter.proofs.Words
 use Words.{arith, ℕ, ◌≡◌, List, false, map, as_read, lines_of, Choices, compacted, checked, whole_of}
 use Rattle.crx_filter.proofs.wayback.NormalForm.{whole-none}

@@ -17,7 +17,7 @@ use Rattle.crx_laws.specs.{Blocks.read_of_text, Cuts.{IsNoticed, IsOfAnEnd}}
 
 module _ {E : Type 0} (place : List (Item E) → List ReadLine → Place (FileUnit E)) (h : IsReadForward place)
     (start : ℕ) where
-  -- a reading goes on from these items
+  -- a reading continues from these items
   abbrev From : List (Item E) → List (Item E) → List ReadLine → Type 0
   From begun items lines = (later : List (Item E)) × (items ≡ later ++ begun)
 
@@ -33,7 +33,7 @@ module _ {E : Type 0} (place : List (Item E) → List ReadLine → Place (FileUn
       (within-kept place false (From items) (on-from items) (length lines + 1) items number lines
       ([], refl)).1
 
-  -- if nothing is skipped, a good end leaves the items
+  -- without `-s`, a good end leaves the items
   same-items : (items : List (Item E)) (stop : Stop)
       → WholeReading.fault (ended_reading false (record { items = items; stop = stop })) ≡ None
       → WholeReading.items (ended_reading false (record { items = items; stop = stop })) ≡ items

@@ -1,4 +1,4 @@
--- The lines from which an epoch is read: how many they are, and that those of compact text are printable.
+-- The lines of an epoch: their number, and that the lines in compact text are printable.
 use Rattle.crx_filter.proofs.Words
 use Words.{arith, common_steps, refl, sym, [], ℕ, ℤ, suc, ◌≡◌, ◌+◌, true, List, ◌∷◌, map, length, length-map}
 use Words.{Option, Result, and_parts, list_all, ReadLine, Content, Fault, Past, Satellite, is_printable}

@@ -1,4 +1,4 @@
--- The compact text of a file, and what comes after the header in that of the next, expand to both.
+-- The compact text of a file, followed by the lines after the next file's header, expands to both.
 use Rattle.crx_filter.proofs.Words
 use Words.{common_steps, arith, [], ℕ, ◌≡◌, true, List, ◌∷◌, ◌++◌, map, drop, length}
 use Words.{refl, ap, sym, ◌∙◌, subst, append-nil, append_assoc, drop-append_seam, false≢true, lines_of}
@@ -30,7 +30,7 @@ is-header (Accepted (EventRecord line) ∷ before) h = absurd (false≢true h)
 is-header (Accepted (Observation epoch) ∷ before) h = absurd (false≢true h)
 is-header (Warned at ∷ before) h = absurd (false≢true h)
 
--- what comes after it begins anew
+-- the text after it starts again
 begins-anew : (choices : Choices) (header later : List (Item Epoch)) → IsHeader header
     → AreInPlace (later ++ header) → warnings_in (later ++ header) ≡ [] → BeginsAnew choices header later
 begins-anew choices header [] h placed none = tt
@@ -46,7 +46,7 @@ begins-anew choices header (Accepted unit ∷ item ∷ items) h placed none =
     begins-anew choices header (item ∷ items) h placed.1 none
 begins-anew choices header (Warned at ∷ item ∷ items) h placed none = absurd (grind (arith, none))
 
--- ---- the text behind it
+-- ---- the text after it
 
 record IsBehind (choices : Choices) (later before : List (Item Epoch)) : Type 0 where
   pub more : List (List ℕ)

@@ -1,4 +1,4 @@
--- An epoch whose lines have come in part is sound, and wants a row more.
+-- An open epoch is sound, and needs one more row.
 use Rattle.crx_filter.proofs.Words.{◌≡◌, ℕ, ◌<◌, zero, suc, List, [], ◌∷◌, Option, Some, None, Result, Ok}
 use Rattle.crx_filter.proofs.Words.{Err, refl, arith, ReadLine, Content, Overlong, Fault, Row, Count, head_of}
 use Rattle.crx_filter.proofs.Words.{OpenEpoch, Beginning, EpochBegins, opened, rows_wanted, with_next_row}
@@ -9,7 +9,7 @@ use Rattle.crx_rinex.specs.EpochPlaces.{still_open, opened_by, opened_at, open_a
 use Rattle.crx_rinex.proofs.SoundEpochs.{IsSoundSoFar, IsNext, IsSoundBeginning, next_sound, sound-next_row}
 use Rattle.crx_rinex.proofs.SoundEpochs.{sound-opened, sound-head_of, begun_sound}
 
--- what is true of every epoch that is open
+-- the properties of every open epoch
 pub record IsOpenSoundly (so_far : OpenEpoch) : Type 0 where
   pub counts : AreCounts so_far.types
   pub sound : IsSoundSoFar so_far

@@ -1,4 +1,4 @@
--- The theorems that laws are: src/lib.rt names the list, and the prover finds which one a law is.
+-- The theorems behind the laws: src/lib.rt names the list, and the prover finds the theorem of each law.
 use Rattle.crx_compact.proofs.anywriter.{Epochs.any-epoch, OnlyEpochs.only-epoch, OnlyRows.only-row}
 use Rattle.crx_compact.proofs.anywriter.{OwnReading.{reads-back, steps-read_back}, Rows.any-row}
 use Rattle.crx_compact.proofs.arcs.{Bounds.within-is, Inversion.inverts, Stepping.values-by_tail}

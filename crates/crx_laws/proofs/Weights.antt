@@ -1,5 +1,5 @@
--- What an expansion writes is bounded by the lines that it has read: each has a weight, and no unit's text is
--- longer than its lines weigh.
+-- The output of an expansion is bounded by the lines that it has read: each has a weight, and no unit's text is longer
+-- than its lines weigh.
 use Rattle.std.proofs.lemmas.Grind.{common_steps}
 use Rattle.crx_filter.proofs.Words.{ℕ, zero, suc, ◌≡◌, ◌+◌, ◌-◌, ◌*◌, ◌<◌, ◌≤◌, Bool, List, [], ◌∷◌, ◌++◌}
 use Rattle.crx_filter.proofs.Words.{map, length, drop, refl, ap, sym, ◌∙◌, subst, arith, length-append, ⊤}
@@ -150,7 +150,7 @@ written-weighs items lines unit count e good =
 
 -- ---- a whole reading
 
--- what was written, and the lines that are still to come, weigh no more than all lines
+-- the text written so far and the lines that remain weigh no more than all lines
 abbrev Fits : ℕ → List (Item ReadEpoch) → List ReadLine → Type 0
 Fits all items lines = ItemsAreRead compact_place items × (size (expanded_lines items) + weight lines ≤ all)
 

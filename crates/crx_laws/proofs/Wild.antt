@@ -1,4 +1,4 @@
--- What is known of the wild text's units and of its first epoch, by computation.
+-- Properties of the wild text's units and of its first epoch, by computation.
 use Rattle.crx_compact.proofs.Words.{refl, ℕ, zero, suc, ◌≡◌, true, List, [], ◌∷◌, ◌++◌, Option, Some, None}
 use Rattle.std.specs.{Prelude.{flat_map, drop, map}, List.list_all}
 use Rattle.std.proofs.Common.{inl, pos, sym, append-nil}
@@ -139,7 +139,7 @@ kept-lines = (
 
 -- ---- damaged texts
 
--- lines after those of the header and the first epoch, and then those that are kept
+-- the lines of the header and the first epoch, other lines, and the lines that are kept
 pub stretch-met : (damaged : List ℕ) (instead : List ReadLine)
     → map as_read (lines_of damaged) ≡ map Content (first_line ∷ second_line ∷ lines_before)
     ++ (instead ++ map Content wild_stretch.lines) → list_all begins_no_event instead ≡ true

@@ -1,3 +1,3 @@
--- The lines that are ready to be written, and how much is held of them.
+-- The pending lines and their bounds.
 pub mod ReadyToHandOut
 pub mod Bounds

@@ -1,4 +1,4 @@
--- What was read is sound, and within the limits.
+-- Epochs that were read are sound, and within the limits.
 pub mod BoundedTails
 pub mod BoundedReading
 pub mod GoodLists

@@ -1,4 +1,4 @@
--- What is compacted or expanded again is the same; and hours make a day. Lists of items have the newest first.
+-- Compacting or expanding again changes nothing; and hours make a day. Lists of items have the newest first.
 use Rattle.std.specs.Prelude.{◌≡◌, ℕ, List, [], ◌∷◌, ◌++◌, true, None}
 use Rattle.crx_base.specs.meaning.Choices.{Choices, is_date}
 use Rattle.crx_base.specs.meaning.Lines.{lines_text}
@@ -10,13 +10,13 @@ use Rattle.crx_filter.specs.meaning.Standard.{normal_form, printed_items, whole_
 use Rattle.crx_filter.specs.meaning.WayBack.{HasNormalForm, written_well}
 use Rattle.crx_filter.specs.meaning.WrittenStandard.{has_plain_lines}
 
--- the compact text of a file is written again, with the same choices, by the compaction of its expansion
+-- compacting the expansion of a file's compact text with the same options writes the same compact text again
 abbrev pub IsTheSameAgain : List ℕ → Choices → Choices → Type 0
 IsTheSameAgain file compacting expanding = is_date compacting.date ≡ true → HasNormalForm file
     → compacted (expanded (compacted file compacting).output expanding).output compacting
     ≡ compacted file compacting
 
--- what was expanded of a text is expanded again from its own compact text
+-- the expansion of a text is expanded again from its own compact text
 abbrev pub ExpandsTheSameAgain : List ℕ → Choices → Choices → Choices → Type 0
 ExpandsTheSameAgain text choices compacting expanding = is_date compacting.date ≡ true
     → (expanded text choices).fault ≡ None → has_plain_lines (expanded text choices).output ≡ true
@@ -30,8 +30,8 @@ abbrev pub EndWithHeader : List (Item Epoch) → Type 0
 EndWithHeader [] = ⊥
 EndWithHeader (item ∷ before) = ends_header item ≡ true
 
--- a file follows another: both have a normal form; it has a header, and later units; and the types that the other one
--- ends with are those of this header
+-- a file follows another: both have a normal form; the second has a header and later units; and the first ends with the
+-- types of that header
 pub record Follows (first second : List ℕ) (header later : List (Item Epoch)) : Type 0 where
   pub first_good : HasNormalForm first
   pub second_good : HasNormalForm second
@@ -39,8 +39,8 @@ pub record Follows (first second : List ℕ) (header later : List (Item Epoch)) 
   pub ended : EndWithHeader header
   pub types : types_in_force (whole_of first).items ≡ types_in_force header
 
--- the compact text of the first, and behind it that of the second without what its header has there, expand to the
--- first and the later units
+-- the compact text of the first, followed by the compact text of the second without the lines of its header, expands to
+-- the first and the later units
 abbrev pub MakeADay : List ℕ → List ℕ → List (Item Epoch) → List (Item Epoch) → List ℕ → Choices → Choices → Type 0
 MakeADay first second header later rest compacting expanding = is_date compacting.date ≡ true
     → Follows first second header later

@@ -1,4 +1,4 @@
--- Blocks can be expanded alone: what comes after one text is expanded alike after another that leaves the same types in
+-- Blocks can be expanded separately: the same text is expanded alike after two texts that leave the same types in
 -- force.
 use Rattle.std.specs.Prelude.{ℕ, ◌≡◌, Bool, true, List, ◌++◌, Option, None, map}
 use Rattle.std.specs.List.{list_all}
@@ -27,11 +27,11 @@ use Rattle.crx_filter.specs.meaning.Reading.{WholeReading}
 abbrev pub has_whole_lines : List ℕ → Bool
 has_whole_lines text = list_all (λ (piece : Piece). piece.is_ended) (pieces_of text)
 
--- what is read of compact text
+-- the reading of compact text
 abbrev pub read_of_text : List ℕ → Choices → WholeReading ReadEpoch
 read_of_text text choices = whole_compact choices.skip (map as_read (lines_of text))
 
--- a text after which more can come: its lines end with LF, and no fault ends its expansion
+-- a text that can be continued: its lines end with LF, and no fault ends its expansion
 pub record CanGoOn (text : List ℕ) (choices : Choices) : Type 0 where
   pub lines : has_whole_lines text ≡ true
   pub good : (read_of_text text choices).fault ≡ None
@@ -45,8 +45,7 @@ HaveSameTypes one other choices =
 abbrev pub kind_of : Option At → Option Fault
 kind_of fault = option_map (λ (at : At). at.fault) fault
 
--- what comes after two texts is expanded alike: the same lines are written for it, and it is ended by the
--- same fault or by none
+-- a text is expanded alike after two others: to the same lines, with the same fault or none
 pub record GoOnWith (more : List ℕ) (one other : List ℕ) (choices : Choices) : Type 0 where
   pub lines : List (List ℕ)
   pub first : (expanded (one ++ more) choices).output ≡ (expanded one choices).output ++ lines_text lines
@@ -54,17 +53,17 @@ pub record GoOnWith (more : List ℕ) (one other : List ℕ) (choices : Choices)
   pub ended : kind_of (expanded (one ++ more) choices).fault
       ≡ kind_of (expanded (other ++ more) choices).fault
 
--- whoever wrote them, where all starts anew at the first line that comes
+-- this is true for texts of any writer, if the first line that follows starts again
 abbrev pub StandAlone : List ℕ → List ℕ → List ℕ → Choices → Type 0
 StandAlone more one other choices =
     CanGoOn one choices → CanGoOn other choices → HaveSameTypes one other choices
     → starts_anew 0 (map as_read (lines_of more)) ≡ true → GoOnWith more one other choices
 
--- ---- a piece of a file, whoever wrote it
+-- ---- a piece of a file, of any writer
 
--- the compact text of a file, as of its header alone, and after it the lines of units that come after other
--- units and go on from no epoch, so that the first epoch among them is in full: where the file leaves the
--- observation types that are in force before these units
+-- the compact text of a file, for example only its header, followed by the lines of units after other units. These
+-- lines use no earlier epoch, so the first epoch among them is full. The file leaves the observation types in force
+-- that are in force before these units
 pub record IsPieceAfter (front before piece : List (FileUnit Epoch)) (text : List ℕ) : Type 0 where
   pub file : AreWholeFile front
   pub in_place : AreUnitsInPlace (piece ++ before)
@@ -80,8 +79,8 @@ pub record IsPieceAfter (front before piece : List (FileUnit Epoch)) (text : Lis
 
 -- ---- blocks that a compaction wrote
 
--- some units of a file, from an event or an epoch in full on, whose compact text comes after that of another
--- file, as the header alone, which leaves the types that are in force before these units
+-- the compact text of some units of a file, from an event or a full epoch on, follows the compact text of another file,
+-- for example only the header, which leaves the types in force that are in force before these units
 pub record IsOwnPieceAfter (file front : List ℕ) (choices : Choices) (text : List ℕ) : Type 0 where
   pub file_good : IsReadWhole file choices
   pub front_good : IsReadWhole front choices

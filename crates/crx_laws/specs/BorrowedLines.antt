@@ -16,12 +16,12 @@ pub record IsReadable (line : List ℕ) : Type 0 where
 abbrev pub AreReadable : List (List ℕ) → Type 0
 AreReadable lines = AllByRecursion IsReadable lines
 
--- what was made of lines, by what is there: the epoch, or none where more lines are wanted
+-- the result of reading lines: the epoch, or none if more lines are needed
 abbrev pub HasGiven : Place HeldEpoch → ColumnsState → Option Epoch → Type 0
 HasGiven place after None = place ≡ NeedsMore
 HasGiven place after (Some epoch) = (held : HeldEpoch)
     × (count : ℕ) × (place ≡ Done held count) × (epoch ≡ held.epoch) × (after ≡ Idle (Some held.tail))
 
--- a fault that is there
+-- a fault in these lines
 abbrev pub IsFaultAt : Place HeldEpoch → Fault → Type 0
 IsFaultAt place fault = (offset : ℕ) × (place ≡ Fails offset fault)

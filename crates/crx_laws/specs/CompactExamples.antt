@@ -1,4 +1,4 @@
--- Worked examples of compact text: the epochs, newest first, and what their lines are made of.
+-- Worked examples of compact text: the epochs, newest first, and the parts of their lines.
 use Rattle.std.specs.Prelude.{ℕ, ◌+◌, ℤ, pos, neg_ℤ, true, false, List, [], ◌∷◌, ◌++◌, map, reverse, Option, Some, None}
 use Rattle.std.specs.Prelude.{codes}
 use Rattle.crx_rinex.specs.meaning.Observations.{Row, Epoch}
@@ -18,7 +18,7 @@ use Rattle.crx_compact.specs.ReadingLaws.{epochs_at, TypedEpoch}
 abbrev pub head_at : ℕ → ℕ → List ℕ
 head_at s n = codes "> 2024 01 01 00 00  " ++ (48 + s) ∷ codes ".0000000  0  " ++ (48 + n) ∷ codes "      "
 
--- the line of an epoch in full
+-- the line of a full epoch
 abbrev pub full_line : ℕ → ℕ → List ℕ → List ℕ
 full_line s n names = head_at s n ++ names
 
@@ -38,11 +38,11 @@ row_of_g01 value = satellite (codes "G01") value (codes "  ")
 abbrev pub row_of_g02 : Option ℤ → Row
 row_of_g02 value = satellite (codes "G02") value (codes " 7")
 
--- an epoch of G01 alone, with no clock
+-- an epoch of only G01, without a clock
 abbrev pub epoch_of_one : ℕ → Option ℤ → Epoch
 epoch_of_one s value = record { head = head_at s 1; clock = None; rows = row_of_g01 value ∷ [] }
 
--- an epoch of G01 alone, with a clock and no observation
+-- an epoch of only G01, with a clock and no observation
 abbrev pub epoch_of_clock : ℕ → Option ℤ → Epoch
 epoch_of_clock s clock = record { head = head_at s 1; clock = clock; rows = row_of_g01 None ∷ [] }
 
@@ -57,7 +57,7 @@ five_epochs =
     ∷ later (epoch_of_one 2 (Some (pos 20000202000))) ∷ later (epoch_of_one 1 (Some (pos 20000100500)))
     ∷ full (epoch_of_one 0 (Some (pos 20000000000))) ∷ []
 
--- the same with every second one in full
+-- the same, every second one full
 abbrev pub five_epochs_restarted : List Marked
 five_epochs_restarted =
     full (epoch_of_one 4 (Some (pos 20000408000))) ∷ later (epoch_of_one 3 (Some (pos 20000304500)))
@@ -99,7 +99,7 @@ extremes =
     ∷ later (epoch_of_one 2 (Some (pos 9999999999999))) ∷ later (epoch_of_one 1 (Some (neg_ℤ (pos 999999999999))))
     ∷ full (epoch_of_one 0 (Some (pos 9999999999999))) ∷ []
 
--- two epochs of no satellites
+-- two epochs without satellites
 abbrev pub no_satellites : List Marked
 no_satellites =
     later (record { head = head_at 0 0; clock = None; rows = [] })
@@ -116,7 +116,7 @@ e05 first second flags = record { name = codes "E05"; values = first ∷ second 
 abbrev pub epoch_of_systems : ℕ → ℤ → Row → Epoch
 epoch_of_systems s value row = record { head = head_at s 2; clock = None; rows = row_of_g01 (Some value) ∷ row ∷ [] }
 
--- what some lines read as: so many epochs, the oldest first, or the first fault
+-- the reading of some lines: the epochs, oldest first, or the first fault
 abbrev pub epochs_read : List (List Count) → List ReadLine → Place (List Epoch)
 epochs_read types lines = placed_as
     (λ (read : List ReadEpoch). reverse (map (λ (r : ReadEpoch). r.epoch) read)) (epochs_at types lines)
@@ -124,7 +124,7 @@ epochs_read types lines = placed_as
 abbrev pub epochs_in : List (List Count) → List (List ℕ) → Place (List Epoch)
 epochs_in types lines = epochs_read types (map Content lines)
 
--- an epoch of G01 whose satellite line is still to come
+-- an epoch of G01 before its satellite line
 abbrev pub half_open_raw : OpenRawEpoch
 half_open_raw =
     record {
@@ -142,7 +142,7 @@ two_epochs = later (epoch_of_one 1 (Some (pos 2000))) ∷ full (epoch_of_one 0 (
 abbrev pub two_typed : List TypedEpoch
 two_typed = map (λ (m : Marked). record { types = one_type; marked = m }) two_epochs
 
--- how their lines read
+-- the reading of their lines
 abbrev pub row_read : Code → RawRow
 row_read code = record { name = codes "G01"; codes = code ∷ []; marks = [] }
 

@@ -17,8 +17,8 @@ is_clean Overlong = false
 abbrev pub IsOfAnEnd : Fault → Type 0
 IsOfAnEnd fault = (fault ≡ MissingVersion) ⊎ ((fault ≡ NoEndOfHeader) ⊎ (fault ≡ Truncated))
 
--- `cut` is the reading of the first `count` lines of an input, and `all` is that of the whole input: either the cut
--- input has no fault and its units are the first units of the whole; or it has one of these faults at the line after
+-- `cut` is the reading of the first `count` lines of an input, and `all` the reading of the whole input. Either the cut
+-- input has no fault, and its units are the first units of the whole; or it has one of these faults at the line after
 -- its last
 abbrev pub IsNoticed : {E : Type 0} → WholeReading E → WholeReading E → ℕ → Type 0
 IsNoticed all cut count = ((cut.fault ≡ None) × ((later : List (Item _)) × (all.items ≡ later ++ cut.items)))

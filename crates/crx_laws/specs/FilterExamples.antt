@@ -1,4 +1,4 @@
--- Worked examples: what small files come to.
+-- Worked examples: the results of small files.
 use Rattle.std.specs.Prelude.{ℕ, Bool, true, false, List, [], ◌∷◌, ◌++◌, Some, None, codes, length}
 use Rattle.crx_base.specs.declared.fault.Fault.{Fault}
 use Rattle.crx_base.specs.declared.fault.At.{At}
@@ -22,7 +22,7 @@ use Rattle.crx_laws.specs.SmallFiles.{blanks}
 abbrev pub two_types : List ℕ
 two_types = codes "G    2 C1C L1C" ++ blanks 46 ++ codes "SYS / # / OBS TYPES"
 
--- what a run comes to: the lines of its output, and its messages
+-- the result of a run, by the lines of its output and its messages
 abbrev pub good : List (List ℕ) → FilterResult
 good lines = record { output = lines_text lines; messages = []; status = 0; fault = None }
 
@@ -44,11 +44,11 @@ compaction_of choices lines = compacted (lines_text lines) choices
 abbrev pub expansion_of : Choices → List (List ℕ) → FilterResult
 expansion_of choices lines = expanded (lines_text lines) choices
 
--- the answer to a line, and how many lines are borrowed
+-- the answer to a line, and the number of lines that are borrowed
 abbrev pub answered : {O K : Type 0} → Step O K → Answer × ℕ
 answered step = (step.answer, length step.handed_out)
 
--- what is answered to some lines one after another; a line that is to come again is given again
+-- the answers to some lines one after another; a line may be fed again
 abbrev pub answers_to : {U O K : Type 0} → Direction U O K → RunState O K → List (List ℕ) → List (Answer × ℕ)
 answers_to direction state [] = []
 answers_to direction state (line ∷ lines) =
@@ -65,7 +65,7 @@ compaction_answers choices lines = answers_to compaction (compaction_state choic
 abbrev pub expansion_answers : Choices → List (List ℕ) → List (Answer × ℕ)
 expansion_answers choices lines = answers_to expansion (expansion_state choices []) lines
 
--- a warning that is answered
+-- a warning as an answer
 abbrev pub notice : ℕ → Fault → Bool → Answer
 notice number fault again = Notice (record { line = number; fault = fault }) again
 
@@ -73,7 +73,7 @@ notice number fault again = Notice (record { line = number; fault = fault }) aga
 abbrev pub report : List (List ℕ) → FilterResult
 report lines = checked (lines_text lines)
 
--- a file whose lines are given, with what the report says of it
+-- the result of a check, by the lines of its report
 abbrev pub reported : List ℕ → List ℕ → List ℕ → List ℕ → List ℕ → ℕ → FilterResult
 reported systems epochs events observations standard status = record {
   output = lines_text (codes "format 3.04" ∷ systems ∷ epochs ∷ events ∷ observations ∷ standard ∷ []);
@@ -82,11 +82,11 @@ reported systems epochs events observations standard status = record {
   fault = None;
 }
 
--- the state of a check after some lines more, line by line
+-- the state of a check after some more lines, line by line
 abbrev pub check_state_on : CheckState → List InputLine → CheckState
 check_state_on before [] = before
 check_state_on before (line ∷ lines) = check_state_on (check_next before line) lines
 
--- what a check finds at the end of an input, line by line
+-- the findings of a check at the end of an input, line by line
 abbrev pub found_line_by_line : List ℕ → Findings
 found_line_by_line input = found_by (check_state_on (check_state []) (lines_of input))

@@ -1,10 +1,9 @@
--- The normal form of a file: what a file that is read to its good end, and has no copied line that ends in CR, is read
--- as again.
+-- The normal form of a file that is read to its good end and has no copied line that ends in CR.
 use Rattle.std.specs.Prelude.{◌≡◌, ℕ, List}
 use Rattle.crx_filter.specs.meaning.Standard.{whole_of, normal_form, IsStandard}
 use Rattle.crx_filter.specs.meaning.WayBack.{HasNormalForm}
 
--- its normal form is read as the very same units
+-- its normal form is read as the same units
 abbrev pub IsReadAsNormal : List ℕ → Type 0
 IsReadAsNormal input = HasNormalForm input → whole_of (normal_form input) ≡ whole_of input
 

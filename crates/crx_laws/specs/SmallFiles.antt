@@ -6,7 +6,7 @@ use Rattle.crx_base.specs.meaning.Choices.{Choices}
 use Rattle.crx_filter.specs.meaning.Items.{Item, Accepted}
 use Rattle.crx_base.specs.meaning.Lines.{lines_text}
 
--- so many blanks
+-- `count` blanks
 abbrev pub blanks : ℕ → List ℕ
 blanks count = replicate count 32
 
@@ -29,7 +29,7 @@ first_two =
     ∷ (codes "RNX2CRX profile 1.0" ++ blanks 21 ++ codes "D" ++ blanks 19 ++ codes "CRINEX PROG / DATE")
     ∷ []
 
--- the line of the epoch at second s of a day, or of an event there, with this flag and count
+-- the first line of the epoch, or of the event with this flag and count, at second s of a day
 abbrev pub line_at : ℕ → ℕ → ℕ → List ℕ
 line_at s flag n = codes "> 2024 01 01 00 00  "
     ++ (48 + s) ∷ codes ".0000000  " ++ (48 + flag) ∷ codes "  " ++ (48 + n) ∷ []
@@ -37,7 +37,7 @@ line_at s flag n = codes "> 2024 01 01 00 00  "
 abbrev pub epoch_line_at : ℕ → ℕ → List ℕ
 epoch_line_at s n = line_at s 0 n
 
--- an epoch line in full in compact text
+-- the epoch line of a full epoch in compact text
 abbrev pub full_line_at : ℕ → ℕ → List ℕ → List ℕ
 full_line_at s n names = epoch_line_at s n ++ blanks 6 ++ names
 
@@ -45,14 +45,14 @@ full_line_at s n names = epoch_line_at s n ++ blanks 6 ++ names
 abbrev pub second_changed : ℕ → List ℕ
 second_changed s = blanks 20 ++ (48 + s) ∷ []
 
--- one epoch of G01 with this observation, nine characters and the value
+-- one epoch of G01 with this observation: nine characters and the value
 abbrev pub observed : List ℕ → List ℕ
 observed value = codes "G01         " ++ value
 
 abbrev pub plain_choices : Choices
 plain_choices = record { every = None; skip = false; date = codes "D" }
 
--- every second epoch in full
+-- every second epoch full
 abbrev pub in_full_every_second : Choices
 in_full_every_second = record { every = Some 2; skip = false; date = codes "D" }
 
@@ -63,7 +63,7 @@ with_skip = record { every = None; skip = true; date = codes "D" }
 abbrev pub returned_text : List (List ℕ) → List ℕ
 returned_text lines = flat_map (λ (line : List ℕ). line ++ 13 ∷ 10 ∷ []) lines
 
--- five epochs of one satellite, the second satellite line with what follows its value
+-- five epochs of one satellite, with `after_second` after the value in the second satellite line
 abbrev pub file_of_five : List ℕ → List (List ℕ)
 file_of_five after_second =
     header
@@ -74,7 +74,7 @@ file_of_five after_second =
     ∷ epoch_line_at 4 1 ∷ codes "G01  20000408.000"
     ∷ []
 
--- ---- a file of five epochs, every second one in full in its compact text, with damage to its second block
+-- ---- a file of five epochs, every second one full in its compact text, with damage to its second block
 
 -- the epoch of one satellite at second s with this observation
 abbrev pub epoch_at_second : ℕ → ℕ → Epoch
@@ -99,7 +99,7 @@ first_block =
     ∷ Accepted (Observation (epoch_at_second 0 20000000000))
     ∷ header_items
 
--- the compact text, with these lines in place of those of the second block after its first
+-- the compact text, with these lines instead of the second block's lines after its first
 abbrev pub damaged_by : List (List ℕ) → List ℕ
 damaged_by lines =
     lines_text (first_two ++ header ++ full_line_at 0 1 (codes "G01")
@@ -107,11 +107,11 @@ damaged_by lines =
     ++ lines_text lines
     ++ lines_text (full_line_at 4 1 (codes "G01") ∷ [] ∷ codes "3&20000408000" ∷ [])
 
--- lines in place of those of the second block that read as two other epochs
+-- lines instead of the second block's that read as two other epochs
 abbrev pub other_block : List (List ℕ)
 other_block = [] ∷ codes "3&20000202001" ∷ second_changed 3 ∷ [] ∷ codes "102500" ∷ []
 
--- the same with the second block as it is, and this text in place of what comes after the first line of the third,
+-- the same with the second block undamaged, and this text instead of the bytes after the first line of the third block,
 -- which is the last
 abbrev pub last_damaged_by : List ℕ → List ℕ
 last_damaged_by text =
@@ -127,7 +127,7 @@ last_damaged_by text =
 abbrev pub comment_event : List (List ℕ)
 comment_event = line_at 2 4 1 ∷ (blanks 60 ++ codes "COMMENT") ∷ []
 
--- two epochs, the event, and one epoch more
+-- two epochs, the event, and one more epoch
 abbrev pub with_event : List (List ℕ)
 with_event =
     header
@@ -135,7 +135,7 @@ with_event =
     ∷ epoch_line_at 1 1 ∷ codes "G01  20000100.500"
     ∷ (comment_event ++ epoch_line_at 2 1 ∷ codes "G01  20000202.000" ∷ [])
 
--- its compact text, with these lines in place of those of the first block after its first
+-- its compact text, with these lines instead of the first block's lines after its first
 abbrev pub damaged_before_event : List (List ℕ) → List ℕ
 damaged_before_event lines =
     lines_text (first_two ++ header ++ full_line_at 0 1 (codes "G01") ∷ [])
@@ -157,7 +157,7 @@ units_with_event =
 
 -- ---- compact text that the program doesn't write
 
--- an arc of order 1, and one of order 0 after it in the next epoch
+-- an arc of order 1, followed by one of order 0 in the next epoch
 abbrev pub of_other_orders : List ℕ
 of_other_orders = lines_text (first_two ++ header
     ++ full_line_at 0 1 (codes "G01") ∷ [] ∷ codes "1&20000000000"

@@ -9,7 +9,7 @@ use Rattle.crx_laws.specs.SmallFiles.{blanks, header, first_two, line_at, full_l
 use Rattle.crx_laws.specs.SmallFiles.{epoch_at_second}
 use Rattle.crx_laws.specs.SmallFiles.{header_items}
 
--- ---- a file of five epochs, every second one in full in its compact text
+-- ---- a file of five epochs, every second one full in its compact text
 
 -- the header and the first epoch
 abbrev pub first_epoch : List (Item Epoch)
@@ -29,7 +29,7 @@ second_block_text =
     lines_text (full_line_at 2 1 (codes "G01") ∷ [] ∷ codes "3&20000202000" ∷ second_changed 3 ∷ []
     ∷ codes "102500" ∷ [])
 
--- all five epochs, and their text where only the first is in full
+-- all five epochs, and their text if only the first is full
 abbrev pub five_epochs : List (Item Epoch)
 five_epochs = (Accepted (Observation (epoch_at_second 4 20000408000)) ∷ second_block)
     ++ Accepted (Observation (epoch_at_second 1 20000100500))
@@ -41,8 +41,8 @@ five_epochs_text =
     ∷ second_changed 2 ∷ [] ∷ codes "1000" ∷ second_changed 3 ∷ [] ∷ codes "0"
     ∷ second_changed 4 ∷ [] ∷ codes "0" ∷ [])
 
--- in place of the second epoch's lines two others, of which the first begins with >; and in place of the
--- third block, its first line too, a part of that line without LF at its end
+-- the second epoch's lines are replaced by two others, of which the first begins with >; and the whole third block,
+-- with its first line, by a part of that line without LF
 abbrev pub two_stretches : List OwnStretch
 two_stretches =
     record {
@@ -67,7 +67,7 @@ cut_off = first_epoch_text ++ lines_text (second_changed 1 ∷ [] ∷ codes "100
 
 -- ---- a file with an event after its first block
 
--- the first two epochs and the event are lost, and with them their lines
+-- the first two epochs and the event are lost, with their lines
 abbrev pub event_lost : List OwnStretch
 event_lost =
     record {
@@ -83,7 +83,7 @@ abbrev pub without_event : List ℕ
 without_event =
     lines_text (first_two ++ header ++ full_line_at 2 1 (codes "G01") ∷ [] ∷ codes "3&20000202000" ∷ [])
 
--- the event's first line has another character in place of its count, so that the event is lost with its record
+-- the event's first line has another character instead of its count, so that the event is lost with its record
 abbrev pub without_count : List ℕ
 without_count = lines_text (codes "> 2024 01 01 00 00  2.0000000  4  x" ∷ (blanks 60 ++ codes "COMMENT") ∷ [])
 

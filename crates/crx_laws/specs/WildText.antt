@@ -1,4 +1,4 @@
--- A small file and a compact text of it that no writer known here would write.
+-- A small file and a compact text of it that no known writer writes.
 use Rattle.std.specs.Prelude.{ℕ, ◌+◌, List, [], ◌∷◌, ◌++◌, codes, replicate, pos}
 use Rattle.crx_base.specs.meaning.AsRead.{Content}
 use Rattle.crx_base.specs.meaning.Lines.{lines_text}
@@ -35,7 +35,7 @@ epoch_at_second s value = Observation (record {
   rows = record { name = codes "G01"; values = Some (pos value) ∷ []; flags = codes "  " } ∷ [];
 })
 
--- a header, two epochs, an event with a record, and an epoch more
+-- a header, two epochs, an event with a record, and one more epoch
 abbrev pub wild_units : List (FileUnit Epoch)
 wild_units = epoch_at_second 2 20000202000 ∷ EventRecord comment ∷ EventLine event
     ∷ epoch_at_second 1 20000100500 ∷ epoch_at_second 0 20000000000
@@ -45,8 +45,8 @@ abbrev pub file : List (List ℕ)
 file = version ∷ types_line ∷ end_line ∷ head_at 0 ∷ codes "G01  20000000.000" ∷ head_at 1 ∷ codes "G01  20000100.500"
     ∷ event ∷ comment ∷ head_at 2 ∷ codes "G01  20000202.000" ∷ []
 
--- the lines of each epoch: order 9 and leading zeros; marks where nothing changes, 18 digits, and & for indicators that
--- stay blank; and an epoch that goes on over the event
+-- the lines of each epoch: order 9 and leading zeros; marks without a change, 18 digits, and & for indicators that stay
+-- blank; and an epoch with differences after the event
 abbrev pub first_lines_of : List (List ℕ)
 first_lines_of = (head_at 0 ++ blanks 6 ++ codes "G01   ") ∷ [] ∷ codes "9&0020000000000" ∷ []
 
@@ -71,7 +71,7 @@ wild_text = first_line ++ 13 ∷ 10 ∷ lines_text (second_line ∷ body)
 
 -- ---- another text of the units, damaged
 
--- the units of the header, those before the stretch, and their lines
+-- the units of the header, the units before the stretch, and their lines
 abbrev pub wild_header : List (FileUnit Epoch)
 wild_header = HeaderLine end_line ∷ HeaderLine types_line ∷ HeaderLine version ∷ []
 
@@ -81,8 +81,8 @@ wild_before = epoch_at_second 0 20000000000 ∷ wild_header
 abbrev pub lines_before : List (List ℕ)
 lines_before = version ∷ types_line ∷ end_line ∷ first_lines_of
 
--- in place of the second epoch's lines come two, the first of which begins with >; then the event, and an
--- epoch in full of order 7 with zeros in front
+-- the second epoch's lines are replaced by two, the first of which begins with >; then follow the event and a full
+-- epoch of order 7 with leading zeros
 abbrev pub full_lines : List (List ℕ)
 full_lines = (head_at 2 ++ blanks 6 ++ codes "G01 ") ∷ [] ∷ codes "7&0020000202000  " ∷ []
 
@@ -98,15 +98,14 @@ abbrev pub wild_damaged : List ℕ
 wild_damaged = first_line ++ 13 ∷ 10 ∷ lines_text
     (second_line ∷ lines_before ++ codes ">" ∷ codes "xyz" ∷ event ∷ comment ∷ full_lines)
 
--- what is kept, after the header alone
+-- the lines that are kept, after only the header
 abbrev pub wild_piece : List ℕ
 wild_piece =
     first_line ++ 13 ∷ 10 ∷ lines_text (second_line ∷ version ∷ types_line ∷ end_line ∷ event ∷ comment ∷ full_lines)
 
--- ---- a block of another text, its second line lost
+-- ---- a block of another text, without its second line
 
--- the second epoch goes on from the first, and the line of its clock is lost; then the event, and an epoch in
--- full
+-- the second epoch has differences, and its clock line is lost; then follow the event and a full epoch
 abbrev pub wild_block : Stretch
 wild_block = record {
   lost = epoch_at_second 1 20000100500 ∷ [];

@@ -1,4 +1,4 @@
-//! What is compacted or expanded again is the same: each law is the contract of a function that does nothing.
+//! Compacting or expanding again changes nothing.
 
 ghost use Rattle.std.specs.Prelude.{◌≡◌, ◌++◌, [], ℕ, List, None, true};
 ghost use Rattle.crx_base.specs.meaning.Choices.{Choices, is_date};
@@ -13,31 +13,30 @@ ghost use Rattle.crx_laws.specs.Again.{ExpandsTheSameAgain, Follows, IsTheSameAg
 ghost use Rattle.crx_laws.specs.SmallFiles.{file_of_five, header_items, of_other_orders, plain_choices, with_event};
 ghost use Rattle.crx_laws.specs.SmallStretches.{five_epochs, five_epochs_text};
 
-/// The compact text of a file without faults, and without copied lines that end in two CRs, is written again
-/// by the compaction of its expansion, with the same options and the same date, whatever is chosen for the
-/// expansion.
+/// Compacting the expansion of a file's compact text, with the same options, writes the same compact text again. The
+/// file may have neither faults nor copied lines that end in two CRs; the options of the expansion don't matter.
 #[tactic(auto, using(crate::proofs::Theorems::of_again))]
 pub fn compacting_again_changes_nothing()
     ensures law { (file : List ℕ) (compacting expanding : Choices) → IsTheSameAgain file compacting expanding }
 {}
 
-/// What was expanded of any text without a fault, and has no line that ends in CR, is expanded again from its
-/// own compact text.
+/// The output of an expansion without a fault is expanded again from its own compact text, if none of its lines ends in
+/// CR.
 pub fn expanding_again_changes_nothing()
     ensures law { (text : List ℕ) (choices compacting expanding : Choices)
         → ExpandsTheSameAgain text choices compacting expanding }
 {}
 
-/// Hours make a day: the compact text of one file, and behind it that of the next without its two first lines
-/// and its header, expand to both, where neither has faults, no copied line of them ends in two CRs, and the
-/// types that the first ends with are those of the second's header.
+/// Hours make a day: the compact text of one file, followed by the compact text of the next without its first two lines
+/// and its header, expands to both. Neither may have faults or a copied line that ends in two CRs, and the first has to
+/// end with the types of the second's header.
 pub fn hours_make_a_day()
     ensures law { (first second : List ℕ) (header later : List (Item Epoch)) (rest : List ℕ)
         (compacting expanding : Choices) → MakeADay first second header later rest compacting expanding }
 {}
 
-/// What these laws ask for can be met: by a date, by a file of five epochs, by a text with arcs of other
-/// orders, and by that file behind one with an event.
+/// Shows that the premises of these laws can be met: by a date, by a file of five epochs, by a text with arcs of other
+/// orders, and by that file after one with an event.
 pub fn premises()
     ensures date { is_date plain_choices.date ≡ true }
     ensures file { HasNormalForm (lines_text (file_of_five [])) }

@@ -1,4 +1,4 @@
-//! Blocks of compact text can be expanded alone: each law is the contract of a function that does nothing.
+//! Blocks of compact text can be expanded separately.
 
 ghost use Rattle.std.specs.Prelude.{◌≡◌, ◌++◌, [], List, ℕ, true, map};
 ghost use Rattle.crx_base.specs.meaning.Lines.{lines_of, lines_text};
@@ -18,27 +18,25 @@ ghost use Rattle.crx_filter.specs.meaning.Expanded.{expanded};
 ghost use Rattle.crx_filter.specs.meaning.Standard.{printed_items};
 ghost use Rattle.crx_filter.specs.meaning.WayBack.{written_well};
 
-/// Blocks can be expanded alone. Of two compact texts, each of whole lines and expanded without a fault, both
-/// leave the same observation types in force, as a file up to some block and its header alone do where the
-/// types don't change. Then what comes after them, from a line on at which all starts anew (an epoch in full,
-/// or an event and then an epoch in full), is expanded to the same lines after both, and is ended by the same
-/// fault or by none. So a file can be cut where an epoch in full begins, and each piece be expanded alone,
-/// after the header.
+/// Blocks can be expanded separately. Two compact texts, each of whole lines and expanded without a fault, leave the
+/// same observation types in force; for example, a file up to some block and only its header, if the types don't
+/// change. Then lines that begin with a full epoch, or with an event and then a full epoch, are expanded to the same
+/// lines after both texts, with the same fault or none. So a file can be cut before a full epoch, and each piece can be
+/// expanded separately after the header.
 pub fn blocks_stand_alone()
     ensures law { (more one other : List ℕ) (choices : Choices) → StandAlone more one other choices }
 {}
 
-/// A piece of compact text can be expanded alone, whoever wrote it. The lines of some units of a file, of
-/// which the first epoch is in full, come after the compact text of another file that leaves the same types
-/// in force, as that of the header alone. Then they expand to these units after that file, with no message
-/// and status 0, and with any choice.
+/// A piece of compact text of any writer can be expanded separately. If the lines of some units of a file, whose first
+/// epoch is full, follow the compact text of another file that leaves the same types in force, for example only the
+/// header, they expand to these units after that file, with no message, status 0 and any options.
 pub fn a_piece_is_expanded_alone()
     ensures law { (front before piece : List (FileUnit Epoch)) (text : List ℕ) (expanding : Choices)
         → IsPieceAfter front before piece text
         → expanded text expanding ≡ written_well (rinex_text (piece ++ front)) }
 {}
 
-/// So it is of what a compaction wrote of some units of a file, from an event or an epoch in full on.
+/// The same holds for the lines that a compaction wrote for some units of a file, from an event or a full epoch on.
 pub fn an_own_piece_is_expanded_alone()
     ensures law { (file front : List ℕ) (compacting expanding : Choices) (text : List ℕ)
         → is_date compacting.date ≡ true → (whole : IsOwnPieceAfter file front compacting text)
@@ -46,9 +44,9 @@ pub fn an_own_piece_is_expanded_alone()
         (printed_items (read_of_file front compacting).items ++ printed_items whole.piece)) }
 {}
 
-/// What the laws ask for can be met: a header with an epoch, the header alone, and a block that comes after
-/// either; and that block in a file of which the header alone is another. Also by an event and an epoch with
-/// an arc of order 7, which no writer known here would write.
+/// Shows that the premises can be met: by a header with an epoch, by only the header, and by a block after either; by
+/// that block in a file, with its header as the other file; and by an event and an epoch with an arc of order 7, which
+/// no known writer writes.
 pub fn premises()
     ensures wild { IsPieceAfter wild_header (up_to_end wild_before wild_stretch) wild_stretch.kept wild_piece }
     ensures one { CanGoOn first_epoch_text plain_choices }

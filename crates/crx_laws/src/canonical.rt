@@ -1,4 +1,4 @@
-//! Compact text is canonical: each law is the contract of a function that does nothing.
+//! Compact text is canonical.
 
 ghost use Rattle.std.specs.Prelude.{◌≡◌, ◌∷◌, ◌++◌, [], ℕ, List, true, codes};
 ghost use Rattle.crx_base.specs.meaning.Lines.{lines_text};
@@ -8,18 +8,18 @@ ghost use Rattle.crx_base.specs.meaning.Choices.{Choices, is_date};
 ghost use Rattle.crx_filter.specs.meaning.Standard.{normal_form};
 ghost use Rattle.crx_filter.specs.meaning.WayBack.{HasNormalForm};
 
-/// The normal form of a file is compacted as the file is, whatever is chosen.
+/// The normal form of a file has the same compact text as the file, with any options.
 pub fn the_normal_form_compacts_the_same()
     ensures law { (file : List ℕ) (choices : Choices) → CompactsAsNormal file choices }
 {}
 
-/// Two files have the same compact text exactly where they have the same normal form.
+/// Two files have the same compact text if and only if they have the same normal form.
 pub fn compact_text_is_canonical()
     ensures law { (one other : List ℕ) (choices : Choices) → IsCanonical one other choices }
 {}
 
-/// What these laws ask for can be met: by a date; and by two files that differ in how a number is written,
-/// and have the same normal form.
+/// Shows that the premises of these laws can be met: by a date, and by two files that differ in the spelling of a
+/// number and have the same normal form.
 pub fn premises()
     ensures date { is_date plain_choices.date ≡ true }
     ensures one { HasNormalForm (lines_text (header ++ epoch_line_at 0 1 ∷ codes "G01        01.000" ∷ [])) }

@@ -1,5 +1,4 @@
-//! Worked examples of the check, by the definitions alone: each is the contract of a function that does
-//! nothing.
+//! Worked examples of the check, by the definitions only.
 
 ghost use Rattle.std.specs.Prelude.{◌≡◌, ◌∷◌, ◌++◌, [], Some, codes};
 ghost use Rattle.crx_base.specs.declared.fault.Fault.TheVariants.{BadFlags};
@@ -7,8 +6,8 @@ ghost use Rattle.crx_base.specs.meaning.Lines.{lines_text};
 ghost use Rattle.crx_laws.specs.FilterExamples.{failed, report, reported, found_line_by_line};
 ghost use Rattle.crx_laws.specs.SmallFiles.{header, epoch_line_at, line_at, observed, file_of_five, returned_text};
 
-/// The reports of small files: five epochs; cycle slip records and an event without records; an indicator
-/// that may not be there.
+/// The reports of small files: five epochs; cycle slip records and an event without records; a character that no
+/// indicator may have; only a header.
 pub fn reports_of_small_files()
     ensures five { report (file_of_five []) ≡ reported (codes "systems G 1")
         (codes "epochs 5") (codes "events 0") (codes "observations 5") (codes "standard yes") 0 }
@@ -20,7 +19,7 @@ pub fn reports_of_small_files()
         (codes "epochs 0") (codes "events 0") (codes "observations 0") (codes "standard yes") 0 }
 {}
 
-/// What a check has seen line by line is what there is to find.
+/// The findings of a check, line by line, are those of the whole file.
 pub fn found_line_by_line()
     ensures returns { found_line_by_line (returned_text (header
         ++ (epoch_line_at 0 2 ++ codes "  ") ∷ codes "G01        -0.000" ∷ codes "G02          .353" ∷ []))

@@ -1,5 +1,4 @@
-//! What a check means line by line, and what `standard yes` means: each law is the contract of a function
-//! that does nothing.
+//! The meaning of a check, line by line, and the meaning of `standard yes`.
 
 ghost use Rattle.std.specs.Prelude.{◌≡◌, [], List, ℕ, None, true};
 ghost use Rattle.crx_base.specs.meaning.Lines.{InputLine};
@@ -11,36 +10,36 @@ ghost use Rattle.crx_base.specs.meaning.Lines.{lines_text};
 ghost use Rattle.crx_runs.specs.Lawful.{IsLawful};
 ghost use Rattle.crx_filter.specs.meaning.Standard.{whole_of};
 
-/// A check goes line by line: what it has seen after a line is made of the line and of what it had seen
-/// before it, and the fault is that of the reading of all lines so far.
+/// A check works line by line: its findings after a line depend only on that line and the findings before it, and its
+/// fault is the fault of reading all lines so far.
 pub fn check_by_line()
     ensures law { (lines : List InputLine) (line : InputLine) → IsCheckedOn lines line }
 {}
 
-/// At the end of the input the fault is that of the whole reading; and where there is none, what was seen is
-/// what there is to find.
+/// At the end of the input the fault is the fault of reading the whole file; without a fault the findings are those of
+/// the whole file.
 pub fn check_ends()
     ensures law { (lines : List InputLine) → IsCheckEnded lines }
 {}
 
-/// A file that is read to its good end has no line to name exactly where it is standard.
+/// A file that is read to its good end is standard if and only if the check finds no line that isn't.
 pub fn standard_files_are_named()
     ensures law { (input : List ℕ) → IsNamedWhereNot input }
 {}
 
-/// A file that is read to its good end is reported as standard, with status 0, exactly where the expansion of
-/// its compaction gives it back byte for byte, whatever is chosen on either way.
+/// A file that is read to its good end is reported as standard, with status 0, if and only if the expansion of its
+/// compaction returns it byte for byte. The options of both don't matter.
 pub fn standard_exactly_where_same()
     ensures law { (input : List ℕ) (compacting expanding : Choices)
         → IsStandardExactlyWhereSame input compacting expanding }
 {}
 
-/// Nothing is written before the end, and a fault of the lines so far is the fault of all lines.
+/// Nothing is written before the end, and a fault of the lines so far is the fault of the whole file.
 pub fn check_keeps_to_its_fault()
     ensures law { IsLawful check_filter }
 {}
 
-/// What the laws ask for can be met: a date; a file that is read to its good end, standard or not.
+/// Shows that the premises can be met: by a date, and by files that are read to their good end, standard or not.
 pub fn premises()
     ensures date { is_date plain_choices.date ≡ true }
     ensures good { (whole_of (lines_text (file_of_five []))).fault ≡ None }

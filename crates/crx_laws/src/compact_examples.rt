@@ -1,4 +1,4 @@
-//! Worked examples, by the definitions alone: each is the contract of a function that does nothing.
+//! Worked examples of compact text, by the definitions only.
 
 ghost use Rattle.std.specs.Prelude.{◌≡◌, ◌∷◌, ◌++◌, [], pos, neg_ℤ, codes, Some, None};
 ghost use Rattle.std.specs.List.{AllByRecursion};
@@ -12,7 +12,7 @@ ghost use Rattle.crx_compact.specs.OpenEpochs.{open_raw_with, first_step, state_
 ghost use Rattle.crx_compact.specs.OpenEpochs.RawStep.{Faulty};
 ghost use Rattle.crx_compact.specs.ReadingLaws.{text_lines, AreWholeByTypes, HasSingleLines, HasPrintableMarks};
 
-/// Up to the fourth value the differences of order 1 and 2 are written, from then on those of order 3.
+/// The second and third values are written as differences of order 1 and 2, all later ones of order 3.
 pub fn five_values()
     ensures lines { text_lines five_epochs
         ≡ full_line 0 1 (codes "G01") ∷ [] ∷ codes "3&20000000000" ∷ codes "                    1" ∷ []
@@ -20,7 +20,7 @@ pub fn five_values()
         ∷ [] ∷ codes "0" ∷ codes "                    4" ∷ [] ∷ codes "0" ∷ [] }
 {}
 
-/// An epoch in full starts everything anew.
+/// A full epoch starts all arcs again.
 pub fn every_second_in_full()
     ensures lines { text_lines five_epochs_restarted ≡ full_line 0 1 (codes "G01")
         ∷ [] ∷ codes "3&20000000000" ∷ codes "                    1" ∷ [] ∷ codes "100500"
@@ -28,7 +28,7 @@ pub fn every_second_in_full()
         ∷ [] ∷ codes "102500" ∷ full_line 4 1 (codes "G01") ∷ [] ∷ codes "3&20000408000" ∷ [] }
 {}
 
-/// A missing value ends the arc: the next one starts another.
+/// A missing value ends the arc, and the next value starts another.
 pub fn missing_value()
     ensures lines { text_lines one_missing
         ≡ full_line 0 1 (codes "G01") ∷ [] ∷ codes "3&20000000000" ∷ codes "                    1"
@@ -64,7 +64,7 @@ pub fn extreme_values()
         ∷ [] ∷ codes "-43999999999992" ∷ codes "                    4" ∷ [] ∷ codes "43999999999992" ∷ [] }
 {}
 
-/// A difference of an arc that never started, and a value past its columns, are faults of their line.
+/// A difference without an arc, and a value too wide for its columns, are faults of their line.
 pub fn bad_values()
     ensures no_arc { epochs_in (one_type ∷ [])
         (full_line 0 1 (codes "G01") ∷ [] ∷ codes "5" ∷ []) ≡ Fails 2 NoArc }
@@ -72,7 +72,7 @@ pub fn bad_values()
         "3&9999999999999" ∷ codes "                    1" ∷ [] ∷ codes "1" ∷ []) ≡ Fails 5 OutOfRange }
 {}
 
-/// Differences of order 1; and & where there is nothing is a blank.
+/// Differences of order 1; and `&` in an empty text is a blank.
 pub fn order_one()
     ensures epochs { epochs_in (one_type ∷ one_type ∷ one_type ∷ []) (full_line 0 1 (codes "G01") ∷ []
         ∷ codes "1&1000" ∷ codes "                    1                              &&&" ∷ [] ∷ codes "500"
@@ -90,7 +90,7 @@ pub fn order_two()
         ∷ epoch_of_one 2 (Some (pos 2100)) ∷ epoch_of_one 3 (Some (pos 2800)) ∷ []) 12 }
 {}
 
-/// Of order 0 each code is the value itself.
+/// With order 0 each code is the value itself.
 pub fn order_zero()
     ensures epochs { epochs_in (one_type ∷ one_type ∷ []) (full_line 0 1 (codes "G01")
         ∷ [] ∷ codes "0&1000" ∷ codes "                    1" ∷ [] ∷ codes "7" ∷ [])
@@ -113,7 +113,7 @@ pub fn order_too_high()
         (full_line 0 1 (codes "G01") ∷ [] ∷ codes "10&1000" ∷ []) ≡ Fails 2 BadField }
 {}
 
-/// Differences of an order above those that are written.
+/// Differences of a higher order than this program writes.
 pub fn order_four()
     ensures epochs { epochs_in (one_type ∷ one_type ∷ one_type ∷ one_type ∷ one_type ∷ one_type ∷ [])
         (full_line 0 1 (codes "G01") ∷ [] ∷ codes "4&1000" ∷ codes "                    1"
@@ -124,8 +124,7 @@ pub fn order_four()
         ∷ epoch_of_one 4 (Some (pos 1015)) ∷ epoch_of_one 5 (Some (pos 1030)) ∷ []) 18 }
 {}
 
-/// An epoch of no satellites has an epoch line and a clock line; where nothing changes, the epoch line is
-/// empty.
+/// An epoch without satellites has an epoch line and a clock line; if nothing changes, the epoch line is empty.
 pub fn no_satellite()
     ensures written { text_lines no_satellites
         ≡ codes "> 2024 01 01 00 00  0.0000000  0  0" ∷ [] ∷ [] ∷ [] ∷ [] }
@@ -137,7 +136,7 @@ pub fn no_satellite()
         } ∷ record { head = head_at 0 0; clock = None; rows = [] } ∷ []) 4 }
 {}
 
-/// Each satellite's line has as many codes as its system has types; what the line leaves out is missing.
+/// A satellite's line has a code for each type of its system; codes left out at its end are missing values.
 pub fn satellites_of_two_systems()
     ensures epochs { epochs_in (two_systems ∷ two_systems ∷ [])
         (full_line 0 2 (codes "G01E05") ∷ [] ∷ codes "3&1000"
@@ -178,21 +177,21 @@ pub fn bad_lines()
         (full_line 0 1 (codes "G01") ∷ [] ∷ full_line 1 1 (codes "G01") ∷ []) ≡ Fails 2 Truncated }
 {}
 
-/// An epoch whose satellite line hasn't come wants more lines, and is open.
+/// An epoch without its satellite line needs more lines, and is open.
 pub fn a_line_wanted()
     ensures wanted { epochs_in (one_type ∷ []) (full_line 0 1 (codes "G01") ∷ [] ∷ []) ≡ NeedsMore }
     ensures left_open { open_raw_with one_type None
         (Content (full_line 0 1 (codes "G01")) ∷ Content [] ∷ []) ≡ Some half_open_raw }
 {}
 
-/// A fault empties what is held: the next line has to begin with `>`.
+/// A fault empties the state: the next line has to begin with `>`.
 pub fn a_fault_empties()
     ensures fault { first_step one_type (tail_held (state_after (Faulty BadField)))
         (Content (codes "                    1")) ≡ Faulty NotAnEpoch }
 {}
 
-/// The premises of the laws can be met: two epochs of one satellite are whole by the counts of types in
-/// force, and their lines, as they are read, are one for each satellite, with marks that can be printed.
+/// Shows that the premises of the laws can be met: two epochs of one satellite are whole by the counts of types in
+/// force, and their lines, as they are read, are one for each satellite, with printable marks.
 pub fn premises_can_be_met()
     ensures counts { AreCounts one_type }
     ensures whole { AreWholeByTypes two_typed }

@@ -1,4 +1,4 @@
-//! Laws of arcs, texts and the epochs that are written: each is the contract of a function that does nothing.
+//! Laws of arcs, texts and the epochs that are written.
 
 ghost use Rattle.std.specs.Prelude.{◌≡◌, ◌↔◌, true, ℕ, ℤ, List, Option};
 ghost use Rattle.crx_text.specs.declared.code.Code.{Code};
@@ -10,40 +10,40 @@ ghost use Rattle.crx_compact.specs.meaning.Expansion.{overlaid};
 ghost use Rattle.crx_compact.specs.ArcLaws.{Inverts, CodesByTail, ValuesByTail, CodesOfValues, ValuesOfCodes};
 ghost use Rattle.crx_compact.specs.Laws.{PatchesBack, patched_in_turn, EpochByTail, ArePrintable, AreShort, AllLinesCanStand, WrittenAreBounded};
 
-/// From the codes of an arc, of any order, comes its newest value.
+/// The codes of an arc, of any order, determine its newest value.
 pub fn inversion()
     ensures law { Inverts }
 {}
 
-/// What a difference marks comes back by a patch, but for the blanks at its end.
+/// Patching a text with a difference returns the new text, except for blanks at its end.
 pub fn patch_after_difference()
     ensures law { PatchesBack }
 {}
 
-/// Marks laid over one another are patches, line after line.
+/// Marks laid over one another are patches, one line after another.
 pub fn overlay_by_patches()
     ensures law { (marks : List (List ℕ)) → overlaid marks ≡ patched_in_turn marks }
 {}
 
-/// The differences that are left of an arc decide the next value's code, and what is left then: the step of
-/// the running differences in compaction, for every order.
+/// The differences that are kept of an arc determine the next value's code and the differences kept then: this is a
+/// step of the running differences in a compaction, for every order.
 pub fn next_code()
     ensures law { (order : ℕ) (value : ℤ) (older : List ℤ) → CodesByTail order value older }
 {}
 
-/// The differences that are left of an arc decide the value of its next code, and what is left then: the step
-/// of the running differences in expansion, for every order.
+/// The differences that are kept of an arc determine the value of its next code and the differences kept then: this is
+/// a step of the running differences in an expansion, for every order.
 pub fn next_value()
     ensures law { (order : ℕ) (number before : ℤ) (older : List ℤ) → ValuesByTail order number before older }
 {}
 
-/// What is left of the epochs before decides the compact lines of the next one, and what is left then.
+/// The state after the earlier epochs determines the compact lines of the next one, and the state after it.
 pub fn next_epoch()
     ensures law { (m : Marked) (older : List Marked)
         → are_different m.epoch.rows ≡ true → EpochByTail m older }
 {}
 
-/// The test whether a value fits its columns, and the fact that it does.
+/// The test whether a value fits its columns, and the statement that it does, agree.
 pub fn fitting_values()
     ensures law { (width : ℕ) (number : ℤ) → (is_within width number ≡ true) ↔ IsWithin width number }
 {}
@@ -53,32 +53,32 @@ pub fn printable_codes()
     ensures law { ArePrintable }
 {}
 
-/// Each of the compact lines of an epoch has at most 18 bytes for each of `TYPES_LIMIT` types: a code of 15
-/// characters with a blank, and two indicators. So none is longer than a line may be.
+/// A compact line of an epoch has at most 18 bytes for each of `TYPES_LIMIT` types: a code of 15 characters, a blank
+/// and two indicators. So none is longer than a line may be.
 pub fn short_lines()
     ensures law { AreShort }
 {}
 
-/// After every list of values, missing ones too, an arc is that of their latest stretch without a missing
-/// one, and gives the code of that stretch's newest value.
+/// After any values, some of them missing, the arc is the arc of the values since the last missing one, and has the
+/// code of the newest.
 pub fn codes_of_values()
     ensures law { (value : Option ℤ) (older : List (Option ℤ)) → CodesOfValues value older }
 {}
 
-/// After every list of codes an arc is that of the accepted ones since their latest start, and gives the
-/// value that they stand for; a refused code changes nothing.
+/// After any codes the arc is the arc of the accepted codes since their latest start, and has the value that they
+/// encode; a refused code changes nothing.
 pub fn values_of_codes()
     ensures law { (width : ℕ) (code : Code) (older : List Code) → ValuesOfCodes width code older }
 {}
 
-/// The compact lines of an epoch can be in a file: characters 32 to 126, none an event's first line, and `>`
-/// at the beginning of a full epoch's first line alone.
+/// The compact lines of an epoch can be in a file: they have characters 32 to 126, none is an event's first line, and
+/// only a full epoch's first line begins with `>`.
 pub fn lines_can_stand()
     ensures law { AllLinesCanStand }
 {}
 
-/// What is left of the epochs that were written is within the limits, however many they were: the text of one
-/// epoch, and for each of its satellites two indicators a type and at most four differences a cell.
+/// The state after any number of written epochs is within the limits: the text of one epoch, and for each of its
+/// satellites two indicators per type and at most four differences per cell.
 pub fn bounded_tails()
     ensures law { WrittenAreBounded }
 {}

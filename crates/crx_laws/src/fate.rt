@@ -1,5 +1,4 @@
-//! The lines of an epoch, what a check tells of a compaction, and files that are cut off: each law is the
-//! contract of a function that does nothing.
+//! The lines of an epoch, a check as a forecast of a compaction, and files that are cut off.
 
 ghost use Rattle.std.specs.Prelude.{◌≡◌, ◌∷◌, ◌++◌, ◌+◌, ◌≤◌, [], ℕ, List, None, Some, codes, drop, false, length, take, true};
 ghost use Rattle.std.specs.List.{list_all};
@@ -21,9 +20,8 @@ ghost use Rattle.crx_rinex.specs.meaning.Observations.{Epoch};
 ghost use Rattle.crx_rinex.specs.meaning.Places.{Done};
 ghost use Rattle.crx_rinex.specs.meaning.Units.{Observation};
 
-/// An epoch of a RINEX file is read from its epoch line and one line for each row. An epoch of compact text is
-/// read from its epoch line, its clock line and one line for each row, and these lines have only characters 32
-/// to 126.
+/// An epoch of a RINEX file is read from its epoch line and one line per row. An epoch of compact text is read from its
+/// epoch line, its clock line and one line per row, and these lines have only characters 32 to 126.
 pub fn the_lines_of_an_epoch()
     ensures file { (items : List (Item Epoch)) (own : List ReadLine) (epoch : Epoch)
         → rinex_place items own ≡ Done (Observation epoch) (length own) → length own ≡ length epoch.rows + 1 }
@@ -38,8 +36,8 @@ pub fn a_warning_drops_one_stretch()
         (Content (codes "> bad") ∷ Content (codes "> good") ∷ []) kept → ⊥ }
 {}
 
-/// A check tells of a compaction: without `-s` the compaction has the fault and the messages of the check, for
-/// every file.
+/// A check forecasts a compaction: without `-s` the compaction has the fault and the messages of the check, for every
+/// file.
 pub fn a_check_tells_of_a_compaction()
     ensures fault { (choices : Choices) (file : List ℕ) → choices.skip ≡ false
         → (compacted file choices).fault ≡ (checked file).fault }
@@ -47,9 +45,9 @@ pub fn a_check_tells_of_a_compaction()
         → (compacted file choices).messages ≡ (checked file).messages }
 {}
 
-/// A cut is noticed: if a file without faults is cut off at the end of a line, either whole units of it are
-/// left, or a compaction without `-s` ends with code 3, 7 or 19 at the line after the last. The same is true of
-/// the expansion of compact text that is cut off after its first two lines.
+/// A cut is noticed: if a file without faults is cut off at the end of a line, either whole units of it are left, or a
+/// compaction without `-s` ends with code 3, 7 or 19 at the line after the last. The same is true of the expansion of
+/// compact text that is cut off after its first two lines.
 pub fn a_cut_is_noticed()
     ensures file { (choices : Choices) (file cut : List ℕ) (more : List InputLine) → choices.skip ≡ false
         → (compacted file choices).fault ≡ None → lines_of file ≡ lines_of cut ++ more
@@ -59,8 +57,8 @@ pub fn a_cut_is_noticed()
         → IsNoticed (read_of_text text choices) (read_of_text cut choices) (length (lines_of cut)) }
 {}
 
-/// What these laws ask for can be met: by a file and a text that are cut off in their second epochs, where
-/// each cut is a fault.
+/// Shows that the premises of these laws can be met: by a file and a text that are cut off in their second epochs,
+/// where each cut is a fault.
 pub fn premises()
     ensures skips_nothing { plain_choices.skip ≡ false }
     ensures file { (compacted (lines_text (file_of_five [])) plain_choices).fault ≡ None }

@@ -1,4 +1,4 @@
-//! Worked examples, by the definitions alone: each is the contract of a function that does nothing.
+//! Worked examples of both filters, by the definitions only.
 
 ghost use Rattle.std.specs.Prelude.{◌≡◌, ◌∷◌, ◌++◌, [], take, drop, true, false, codes};
 ghost use Rattle.crx_base.specs.declared.fault.Fault.TheVariants.{MissingVersion, NoEndOfHeader, NotCompact, BadProgLine, RepeatedSatellite, NoArc, BadClock, BadFlags, Truncated, NotAnEpoch, BadEpoch};
@@ -10,12 +10,12 @@ ghost use Rattle.crx_filter.specs.meaning.Standard.{checked};
 ghost use Rattle.crx_base.specs.meaning.Lines.{lines_text};
 ghost use Rattle.crx_filter.specs.LineByLine.{Quiet, Ready};
 
-/// A header alone.
+/// Only a header.
 pub fn header_alone()
     ensures compaction { compaction_of plain_choices (header) ≡ good (first_two ++ header) }
 {}
 
-/// Types that change in an event: the next epoch is in full, with the new count; and the way back.
+/// Types that change in an event: the next epoch is full, with the new count; and the way back.
 pub fn types_that_change()
     ensures compaction { compaction_of plain_choices (header ++ epoch_line_at 0 1 ∷ observed (codes "1.000")
         ∷ line_at 1 4 1 ∷ two_types ∷ epoch_line_at 2 1 ∷ observed (codes "3.000          12.500") ∷ [])
@@ -27,8 +27,7 @@ pub fn types_that_change()
         ∷ line_at 1 4 1 ∷ two_types ∷ epoch_line_at 2 1 ∷ observed (codes "3.000          12.500") ∷ []) }
 {}
 
-/// An identifier that is there twice in an epoch ends the run, and nothing of the epoch is written; where
-/// faults are skipped, it is a warning.
+/// A repeated identifier in an epoch ends the run, and nothing of the epoch is written; with `-s` it is a warning.
 pub fn repeated_satellite()
     ensures ends { compaction_of plain_choices (header ++ epoch_line_at 0 2 ∷ observed (codes "1.000")
         ∷ observed (codes "1.000") ∷ []) ≡ failed (first_two ++ header) 6 RepeatedSatellite }
@@ -36,7 +35,7 @@ pub fn repeated_satellite()
         ∷ observed (codes "1.000") ∷ []) ≡ warned (first_two ++ header) (warning 6 RepeatedSatellite) }
 {}
 
-/// A difference without an arc ends the run; an epoch in full starts all arcs anew.
+/// A difference without an arc ends the run; a full epoch starts all arcs again.
 pub fn no_arc()
     ensures first { expansion_of plain_choices (first_two
         ++ header ++ full_line_at 0 1 (codes "G01") ∷ [] ∷ codes "5" ∷ []) ≡ failed header 8 NoArc }
@@ -45,8 +44,7 @@ pub fn no_arc()
         ≡ failed (header ++ epoch_line_at 0 1 ∷ observed (codes "1.000") ∷ []) 11 NoArc }
 {}
 
-/// A new epoch line cuts an epoch off; where faults are skipped, reading goes on at that line. The end of the
-/// input cuts it off too.
+/// A new epoch line cuts an epoch off; with `-s` reading resumes at that line. The end of the input cuts it off too.
 pub fn cut_epochs()
     ensures ends { expansion_of plain_choices (first_two ++ header ++ full_line_at 0 1 (codes "G01")
         ∷ [] ∷ full_line_at 1 1 (codes "G01") ∷ [] ∷ codes "3&1000" ∷ []) ≡ failed header 8 Truncated }
@@ -59,7 +57,7 @@ pub fn cut_epochs()
         ++ header ++ full_line_at 0 1 (codes "G01") ∷ [] ∷ []) ≡ warned header (warning 8 Truncated) }
 {}
 
-/// An event leaves the reader's state, but one with a types line empties it.
+/// An event keeps the reader's state, unless it has a types line, which empties it.
 pub fn across_an_event()
     ensures kept { expansion_of plain_choices (first_two ++ header ++ full_line_at 0 1 (codes "G01")
         ∷ [] ∷ codes "3&1000" ∷ line_at 1 4 1 ∷ (blanks 60 ++ codes "COMMENT") ∷ second_changed 2 ∷ []
@@ -71,14 +69,14 @@ pub fn across_an_event()
         ++ epoch_line_at 0 1 ∷ observed (codes "1.000") ∷ line_at 1 4 1 ∷ one_type_line ∷ []) 11 NotAnEpoch }
 {}
 
-/// A line that cuts an epoch off and is itself bad gives two warnings.
+/// A line that cuts an epoch off and is itself bad has two warnings.
 pub fn two_warnings()
     ensures compaction { compaction_of with_skip (header ++ epoch_line_at 0 1 ∷ codes ">" ∷ epoch_line_at 1 1
         ∷ observed (codes "1.000") ∷ []) ≡ warned (first_two ++ header ++ full_line_at 1 1 (codes "G01")
         ∷ [] ∷ codes "3&1000" ∷ []) (warning 5 Truncated ++ warning 5 BadEpoch) }
 {}
 
-/// Cycle slip records are copied and never read; an event without records is its first line alone.
+/// Cycle slip records are copied and never read; an event without records is only its first line.
 pub fn cycle_slips()
     ensures compaction { compaction_of plain_choices (header ++ line_at 0 6 1
         ∷ observed (codes "1.000") ∷ line_at 1 3 0 ∷ epoch_line_at 2 1 ∷ observed (codes "2.000") ∷ [])
@@ -86,7 +84,7 @@ pub fn cycle_slips()
         ∷ line_at 1 3 0 ∷ full_line_at 2 1 (codes "G01") ∷ [] ∷ codes "3&2000" ∷ []) }
 {}
 
-/// After a fault that is skipped, compact text is read on at the next epoch in full.
+/// After a skipped fault, reading of compact text resumes at the next full epoch.
 pub fn skipped_to_full()
     ensures expansion { expansion_of with_skip
         (first_two ++ header ++ full_line_at 0 1 (codes "G01") ∷ [] ∷ codes "5"
@@ -100,7 +98,7 @@ pub fn no_input()
     ensures expansion { expansion_of plain_choices ([]) ≡ failed [] 1 NotCompact }
 {}
 
-/// A header that doesn't end; of compact text, the first two lines alone.
+/// A header without an end; compact text of only the first two lines.
 pub fn no_end_of_header()
     ensures compaction { compaction_of with_skip (take 2 header)
         ≡ failed (first_two ++ take 2 header) 3 NoEndOfHeader }
@@ -108,7 +106,7 @@ pub fn no_end_of_header()
     ensures second { expansion_of with_skip (take 1 first_two) ≡ failed [] 2 BadProgLine }
 {}
 
-/// Compact text of another writer: differences of order 1, and & where there is nothing.
+/// Compact text of another writer: differences of order 1, and `&` in an empty text.
 pub fn first_differences()
     ensures expansion { expansion_of plain_choices (first_two ++ header ++ full_line_at 0 1 (codes "G01") ∷ []
         ∷ codes "1&1000" ∷ (second_changed 1 ++ blanks 30 ++ codes "&&&") ∷ [] ∷ codes "500" ∷ second_changed
@@ -116,7 +114,7 @@ pub fn first_differences()
         ∷ epoch_line_at 1 1 ∷ observed (codes "1.500") ∷ epoch_line_at 2 1 ∷ observed (codes "2.000") ∷ []) }
 {}
 
-/// A bad indicator ends the run; where faults are skipped, the next epoch is in full.
+/// A bad indicator ends the run; with `-s` the next epoch is full.
 pub fn bad_indicator()
     ensures ends { compaction_of plain_choices (header ++ epoch_line_at 0 1 ∷ codes "G01  20000000.000"
         ∷ epoch_line_at 1 1 ∷ codes "G01  20000100.500&" ∷ epoch_line_at 2 1 ∷ codes "G01  20000202.000"
@@ -131,8 +129,8 @@ pub fn bad_indicator()
         ∷ [] ∷ codes "102500" ∷ second_changed 4 ∷ [] ∷ codes "1000" ∷ []) (warning 7 BadFlags) }
 {}
 
-/// What is answered line by line: the compact lines before the header come with its first line, an epoch with
-/// its last line.
+/// The answers of a compaction, line by line: the compact lines before the header follow from its first line, an epoch
+/// from its last line.
 pub fn steps_of_a_compaction()
     ensures one { compaction_answers plain_choices (header ++ epoch_line_at 0 1 ∷ codes "G01  20000000.000"
         ∷ []) ≡ (Ready, 3) ∷ (Ready, 1) ∷ (Ready, 1) ∷ (Quiet, 0) ∷ (Ready, 3) ∷ [] }
@@ -140,8 +138,8 @@ pub fn steps_of_a_compaction()
         ∷ epoch_line_at 0 0 ∷ []) ≡ (Ready, 3) ∷ (Ready, 1) ∷ (Ready, 1) ∷ (Ready, 2) ∷ (Ready, 2) ∷ [] }
 {}
 
-/// What an expansion answers line by line: nothing at the first two lines, a header line at once, and an
-/// epoch with its last line.
+/// The answers of an expansion, line by line: no output for the first two lines, a header line at once, and an epoch
+/// with its last line.
 pub fn steps_of_an_expansion()
     ensures one { expansion_answers plain_choices
         (first_two ++ header ++ full_line_at 0 1 (codes "G01") ∷ [] ∷ codes "3&20000000000" ∷ []) ≡ (Quiet, 0)
@@ -151,7 +149,7 @@ pub fn steps_of_an_expansion()
         ≡ (Quiet, 0) ∷ (Quiet, 0) ∷ (Ready, 1) ∷ (Ready, 1) ∷ (Ready, 1) ∷ (Quiet, 0) ∷ (Ready, 1) ∷ [] }
 {}
 
-/// A line that cuts an epoch off comes again, and may give a second warning.
+/// A line that cuts an epoch off is fed again, and may have a second warning.
 pub fn a_line_that_comes_again()
     ensures answers { compaction_answers with_skip
         (header ++ epoch_line_at 0 1 ∷ codes ">" ∷ epoch_line_at 1 1
@@ -159,7 +157,7 @@ pub fn a_line_that_comes_again()
         ∷ (notice 5 Truncated true, 0) ∷ (notice 5 BadEpoch false, 0) ∷ (Quiet, 0) ∷ (Ready, 3) ∷ [] }
 {}
 
-/// The report of a file: a standard one with an event, one without types, and one whose lines end with CR LF.
+/// The reports of a standard file with an event, of a file without types, and of a file whose lines end with CR LF.
 pub fn reports()
     ensures with_an_event { report (header ++ epoch_line_at 0 1 ∷ observed (codes "1.000")
         ∷ line_at 1 4 1 ∷ two_types ∷ epoch_line_at 2 1 ∷ observed (codes "3.000          12.500") ∷ [])
@@ -172,7 +170,7 @@ pub fn reports()
         (codes "epochs 1") (codes "events 0") (codes "observations 2") (codes "standard no 1") 2 }
 {}
 
-/// A damaged block costs its own epochs alone, and one warning at most.
+/// A damaged block costs only its own epochs, with at most one warning.
 pub fn damaged_blocks()
     ensures replaced { expansion_of with_skip (first_two ++ header ++ full_line_at 0 1 (codes "G01")
         ∷ [] ∷ codes "3&20000000000" ∷ second_changed 1 ∷ [] ∷ codes "100500" ∷ full_line_at 2 1 (codes "G01")
@@ -194,8 +192,7 @@ pub fn damaged_blocks()
         (header ++ comment_event ++ epoch_line_at 2 1 ∷ codes "G01  20000202.000" ∷ []) (warning 7 BadClock) }
 {}
 
-/// What isn't noticed: a block whose lines read as other epochs, and a last line that is cut off in
-/// mid-number.
+/// Damage without a warning: a block whose lines read as other epochs, and a last line that is cut off inside a number.
 pub fn damage_not_noticed()
     ensures other_epochs { expanded (damaged_by other_block) with_skip
         ≡ good (header ++ epoch_line_at 0 1 ∷ codes "G01  20000000.000" ∷ epoch_line_at 1 1
@@ -207,7 +204,7 @@ pub fn damage_not_noticed()
         ∷ epoch_line_at 3 1 ∷ codes "G01  20000304.500" ∷ epoch_line_at 4 1 ∷ observed (codes "2.000") ∷ []) }
 {}
 
-/// Every second epoch in full, counted from the first; and the way back.
+/// Every second epoch full, counted from the first; and the way back.
 pub fn every_second_epoch()
     ensures compaction { compaction_of in_full_every_second
         (header ++ epoch_line_at 0 1 ∷ codes "G01  20000000.000" ∷ epoch_line_at 1 1
@@ -225,7 +222,7 @@ pub fn every_second_epoch()
         ∷ codes "G01  20000304.500" ∷ epoch_line_at 4 1 ∷ codes "G01  20000408.000" ∷ []) }
 {}
 
-/// A block of which the first line alone is left: the units before it are saved, with one warning.
+/// A block of which only the first line is left: the units before it are saved, with one warning.
 pub fn a_block_cut_off()
     ensures salvaged { (damage : IsOwnDamaged
         (lines_text (header ++ epoch_line_at 0 1 ∷ observed (codes "1.000") ∷ [])) plain_choices

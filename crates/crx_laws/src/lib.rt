@@ -1,6 +1,6 @@
-//! The laws of lines, of RINEX and Compact RINEX, and of what both filters and the check mean, and worked
-//! examples of the definitions. Each is the contract of a function that does nothing, but for the way back
-//! through `Columns`, which reads what was written.
+//! The laws of lines, of RINEX and Compact RINEX, of both filters and of the check, and worked examples of the
+//! definitions. Each is the contract of a function with an empty body, except for the way back through `Columns`, which
+//! reads the lines that were written.
 #![tactic(auto, using(crate::proofs::Theorems::laws), unfolding(crate::proofs::Opened::digits, crate::proofs::Opened::coded_number, crate::proofs::Opened::size_of, crate::proofs::Opened::number_of, crate::proofs::Opened::number_text, crate::proofs::Opened::warning_text))]
 
 pub mod again;

@@ -1,4 +1,4 @@
-//! Laws of the lines of an input, and of how a reader reads them.
+//! Laws of the lines of an input, and of a reader of lines.
 ghost use Rattle.std.specs.Prelude.{◌≡◌, ℕ, List, [], ◌∷◌, ◌++◌, ◌+◌, ◌<◌, ◌≤◌, ◌⊎◌, length, take, true, false, Option, Result};
 ghost use Rattle.crx_lines.specs.meaning.Devices.{one_more, tally_of};
 ghost use Rattle.crx_lines.specs.Reading.{HasNoFeed};
@@ -14,21 +14,21 @@ use crx_base::Fault;
 use crx_lines::Source;
 use crx_lines::phase::Phase;
 
-/// The lines of an input that begins with a piece and its LF: the line of that piece, then those of the rest.
+/// If an input begins with a piece and its LF, its lines are that piece's line and the lines of the rest.
 pub fn lines_after_first()
     ensures law { (piece rest : List ℕ) → HasNoFeed piece
         → lines_of (piece ++ 10 ∷ rest)
         ≡ line_of (record { bytes = piece; is_ended = true }) ∷ lines_of rest }
 {}
 
-/// The one line of an input that isn't empty and has no LF.
+/// A nonempty input without LF is one line.
 pub fn last_line()
     ensures law { (piece : List ℕ) → HasNoFeed piece → 0 < length piece
         → lines_of piece ≡ line_of (record { bytes = piece; is_ended = false }) ∷ [] }
 {}
 
-/// The lines whose LF is among the first bytes of an input are its first lines, whatever comes after: the
-/// rest of these bytes has no LF, and the other lines are those of the rest and what comes after.
+/// The lines whose LF is among the first bytes of an input are its first lines, whatever follows: the rest of these
+/// bytes has no LF, and the other lines are the lines of that rest and the bytes after it.
 pub fn ended_lines_come_first()
     ensures law { (given : List ℕ) → (rest : List ℕ) × HasNoFeed rest
         × ((more : List ℕ) → lines_of (given ++ more) ≡ ended_lines_of given ++ lines_of (rest ++ more)) }
@@ -41,8 +41,8 @@ pub fn reading_starts<R: Source>()
         (record { rest = []; passed = 0; number = 0; phase = Phase.Open }) [] }
 {}
 
-/// From one answer of a reader of lines to the next: what was read of the bytes that its source gave, and how
-/// often the source failed or reported its end.
+/// From one result of a reader of lines to the next: the bytes read of those that its source gave, and how often the
+/// source failed or reported its end.
 pub fn reading_goes_on<R: Source>()
     ensures law { (start before after : R)
         (more : List ℕ) (old new : ReaderState) (answer : Result (Option Line) At) (lines : List InputLine)
@@ -56,8 +56,8 @@ pub fn reading_goes_on<R: Source>()
         (tally_of (R.failures start) (R.ends start)) (tally_of (R.failures after) (R.ends after)) new then }
 {}
 
-/// Once the end was reported and no line is pending, the lines are those of all the bytes that the source
-/// gave. The source was asked for its end once.
+/// After the end was reported and no line is pending, the lines are those of all bytes that the source gave. The source
+/// reported its end once.
 pub fn reading_ends<R: Source>()
     ensures law { (start now : R) (r : ReaderState) (lines : List InputLine)
         → HasRead (λ given. R.gave start given now) (R.at_end now)
@@ -68,8 +68,8 @@ pub fn reading_ends<R: Source>()
         × (R.failures now ≡ R.failures start) × (R.ends now ≡ one_more (R.ends start)) }
 {}
 
-/// Once a fault ended the reading, the lines are those whose LF is among the bytes that the source gave,
-/// within the limit of an input, and the fault is in the line after them. The end wasn't reported.
+/// After a fault ended the reading, the lines are those whose LF is among the bytes that the source gave, within the
+/// limit of an input, and the fault is in the line after them. The end wasn't reported.
 pub fn reading_stops<R: Source>()
     ensures law { (start now : R) (r : ReaderState) (lines : List InputLine) (at : At)
         → HasRead (λ given. R.gave start given now) (R.at_end now)

@@ -1,5 +1,4 @@
-//! Losslessness, by the results of the three calls alone: the law is the contract of a function that does
-//! nothing.
+//! Losslessness, by the results of the three calls only.
 
 ghost use Rattle.std.specs.Prelude.{◌≡◌, ◌∷◌, ◌++◌, [], true, codes};
 ghost use Rattle.crx_base.specs.meaning.Lines.{lines_text};
@@ -8,14 +7,13 @@ ghost use Rattle.crx_laws.specs.SmallFiles.{header, epoch_line_at, observed, pla
 ghost use Rattle.crx_base.specs.meaning.Choices.{is_date};
 ghost use Rattle.crx_filter.specs.meaning.Standard.{checked};
 
-/// A file that a check passes, with status 0, comes back byte for byte from its compact text, with no message
-/// and status 0, whatever is chosen on either way: how often epochs are in full, whether faults are skipped,
-/// and the date.
+/// A file that a check passes, with status 0, returns byte for byte from its compact text, with no message and status
+/// 0, for any options of both: the distance of full epochs, whether faults are skipped, and the date.
 pub fn what_passes_comes_back()
     ensures law { WhatPassesComesBack }
 {}
 
-/// What this law asks for can be met: a date; and a file that a check passes.
+/// Shows that the premises of this law can be met: by a date, and by a file that a check passes.
 pub fn premises()
     ensures date { is_date plain_choices.date ≡ true }
     ensures passed { (checked (lines_text

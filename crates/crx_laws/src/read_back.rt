@@ -1,4 +1,4 @@
-//! The way back: what one `Columns` makes of an epoch, another one reads.
+//! The way back: one `Columns` reads the lines that another one made of an epoch.
 
 ghost use Rattle.std.specs.Prelude.{◌≡◌, ◌⊎◌, ◌↔◌, ◌∷◌, List, Some, true, false, map, IfOk, IfErr, IsTrue};
 ghost use Rattle.crx_base.specs.meaning.AsRead.{Content};
@@ -15,19 +15,19 @@ use crx_compact::{Coded, Columns};
 use crx_header::Types;
 use crx_rinex::{Epoch, is_event_line};
 
-/// Whether a line may be one of an observation epoch: it is no longer than a line may be, and begins no
-/// event.
+/// Returns whether a line may be one of an observation epoch: it is within the length limit, and isn't an event's first
+/// line.
 fn is_readable(line: &[u8]) -> bool
     ensures { IsTrue result ↔ IsReadable line.now }
 {
     line.len() <= LINE_LIMIT && !is_event_line(line)
 }
 
-/// Reads compact lines that are borrowed one after another, up to the epoch that they make; `None` where more
-/// lines are needed.
+/// Reads compact lines, borrowed one after another, up to the end of their epoch, and returns it; `None` if more lines
+/// are needed.
 ///
-/// The faults are those of [`Columns::begin`] and [`Columns::feed`]; `NotAnEpoch` comes at an event's line
-/// too, and at one that is longer than a line may be.
+/// The faults are those of [`Columns::begin`] and [`Columns::feed`], and `NotAnEpoch` at an event's line or a line
+/// above the length limit.
 fn read_coded(
     columns: &mut Columns,
     types: &Types,
@@ -58,21 +58,19 @@ fn read_coded(
     Ok(None)
 }
 
-/// Reads the compact lines of an epoch that was coded, by the counts of types that its rows have: gives the
-/// epoch back.
+/// Reads the compact lines of an encoded epoch, by the counts of types of its rows, and returns the epoch.
 ///
-/// Where the columns have the history of the epochs before, or the epoch is in full, only `OutOfMemory` can
-/// refuse it. Otherwise the faults are those of [`Columns::begin`] and [`Columns::feed`]. `NotAnEpoch` comes
-/// also at an event's line and at one that is longer than a line may be; where that isn't the first line, the
-/// columns stay in the midst of an epoch.
+/// If the columns have the history of the earlier epochs, or the epoch is full, the only fault is `OutOfMemory`.
+/// Otherwise the faults are those of [`Columns::begin`] and [`Columns::feed`], and `NotAnEpoch` at an event's line or a
+/// line above the length limit. After such a fault at a later line than the first, the columns stay inside an epoch.
 pub fn read_back(
     columns: &mut Columns,
     types: &Types,
     coded: &mut Coded,
 ) -> Result<Option<Epoch>, Fault>
     requires idle { is_idle columns.old ≡ true }
-    // After any epochs at all, written so that they can be read: the lines give the newest of them, and the
-    // reader then has the history that the writer has.
+    // After any epochs that are written so that they can be read, the lines are read as the newest of them, and the
+    // reader then has the writer's history.
     ensures epoch { (m : Marked) (older : List Marked)
         → AreWhole types.now (since_full (m ∷ older)) → coded.old.lines ≡ compact_epoch (m ∷ older)
         → (m.in_full ≡ false → tail_held columns.old ≡ tail_or_nothing older)

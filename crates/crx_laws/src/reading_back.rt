@@ -1,5 +1,4 @@
-//! Reading back: what is printed of a row, of an epoch line and of an epoch is read as it was. Each law is
-//! the contract of a function that does nothing.
+//! Reading back: the printed text of a row, of an epoch line and of an epoch is read as it was.
 
 ghost use Rattle.std.specs.Prelude.{◌≡◌, ◌+◌, ◌++◌, List, Ok, length, map};
 ghost use Rattle.crx_base.specs.meaning.AsRead.{ReadLine, Content};
@@ -14,29 +13,27 @@ ghost use Rattle.crx_rinex.specs.meaning.Printing.{printed_row, printed_head, pr
 ghost use Rattle.crx_rinex.specs.meaning.Units.{Observation};
 ghost use Rattle.crx_laws.specs.Examples.{one_type, g02, epoch_of_two};
 
-/// The printed line of a sound row, of a system with as many types as the row has values, is read as that
-/// very row: its identifier, each value and each indicator.
+/// The printed line of a sound row, with a value for each type of its system, is read as that row: its identifier, each
+/// value and each indicator.
 pub fn a_row_is_read_back()
     ensures law { (types : List Count) (row : Row)
         → IsSoundRow row → HasItsTypes types row → row_of types (printed_row row) ≡ Ok row }
 {}
 
-/// A printed epoch line is read as its columns 1 to 41, the count of satellites in them, and its receiver
-/// clock offset.
+/// A printed epoch line is read as its columns 1 to 41, the count of satellites in them, and its receiver clock offset.
 pub fn an_epoch_line_is_read_back()
     ensures law { (line : ObservationHead) → IsObservationHead line
         → head_of (printed_head line.head line.clock) ≡ Ok (EpochHead line.head line.count line.clock) }
 {}
 
-/// The printed lines of a whole epoch, whatever lines come after them, are read as that very epoch, and no
-/// line more.
+/// The printed lines of a whole epoch, whatever lines follow, are read as that epoch, and no further line is.
 pub fn an_epoch_is_read_back()
     ensures law { (types : List Count) (epoch : Epoch) (after : List ReadLine) → IsWholeEpoch types epoch
         → epoch_place types (map Content (printed_epoch epoch) ++ after)
         ≡ Done (Observation epoch) (length epoch.rows + 1) }
 {}
 
-/// What these laws ask for can be met: by a row of one value with an indicator, and by an epoch of two
+/// Shows that the premises of these laws can be met: by a row of one value with an indicator, and by an epoch of two
 /// satellites.
 pub fn premises()
     ensures row { IsSoundRow g02 }

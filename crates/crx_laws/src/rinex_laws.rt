@@ -1,4 +1,4 @@
-//! Laws of reading RINEX: what is at some lines, and what an open epoch decides.
+//! Laws of reading RINEX: the unit at some lines, and the effect of an open epoch.
 
 ghost use Rattle.std.specs.Prelude.{◌≡◌, ◌≤◌, ◌+◌, ◌∷◌, [], ℕ, List, Some, length};
 ghost use Rattle.std.specs.Prelude.{Result};
@@ -17,42 +17,42 @@ ghost use Rattle.crx_rinex.specs.meaning.EpochPlaces.{OpenEpoch, epoch_place, ro
 ghost use Rattle.crx_rinex.specs.EpochPlaces.{open_with};
 ghost use Rattle.crx_rinex.specs.Laws.{IsWantedWhereOpen, IsDecidedByOpen};
 
-/// What is in the first line alone is certain as soon as it has come.
+/// The content of only the first line is certain when that line is read.
 pub fn steady_first_line<X>()
     ensures law { (read : List ℕ → Result X Fault) → IsSteady (λ lines. first_line lines read) }
 {}
 
-/// One thing and then another are certain as soon as the last line of the second has come.
+/// Two things in turn are certain when the last line of the second is read.
 pub fn steady_in_turn<X, Y>()
     ensures law { (first : List ReadLine → Place X) (next : X → List ReadLine → Place Y)
         → IsSteady first → ((x : X) → IsSteady (next x))
         → IsSteady (λ lines. then_place (first lines) lines next) }
 {}
 
-/// What is where an epoch or an event may begin is certain as soon as its last line has come.
+/// The epoch or event at some lines is certain when its last line is read.
 pub fn steady_epochs()
     ensures law { (types : List Count) → IsSteady (epoch_place types) }
 {}
 
-/// The rows of an epoch that is open are certain as soon as the last of them has come.
+/// The rows of an open epoch are certain when the last of them is read.
 pub fn steady_rows()
     ensures row { (so_far : OpenEpoch) → IsSteady (row_at so_far) }
     ensures rest { (so_far : OpenEpoch) → IsSteady (rest_at so_far) }
 {}
 
-/// An epoch wants more lines exactly where it is open.
+/// An epoch needs more lines if and only if it is open.
 pub fn wanted_where_open()
     ensures law { (types : List Count) (lines : List ReadLine) → IsWantedWhereOpen types lines }
 {}
 
-/// An open epoch decides what the next line makes of the lines so far.
+/// An open epoch determines how the next line continues the lines so far.
 pub fn next_line_by_open()
     ensures law { (types : List Count) (lines : List ReadLine) (line : ReadLine) (so_far : OpenEpoch)
         → open_with types lines ≡ Some so_far → IsDecidedByOpen types lines line so_far }
 {}
 
-/// An epoch that is read is whole: its line, its rows and their counts of types are sound, no satellite is
-/// there twice, and it took its epoch line and one line for each satellite.
+/// An epoch that is read is whole: its line, its rows and their counts of types are sound, no satellite is repeated,
+/// and it took its epoch line and one line for each satellite.
 pub fn epochs_are_whole()
     ensures law { (types : List Count) → AreCounts types → (lines : List ReadLine) (epoch : Epoch) (count : ℕ)
         → epoch_place types lines ≡ Done (Observation epoch) count
@@ -64,8 +64,8 @@ pub fn few_systems()
     ensures law { (types : List Count) → AreCounts types → length types ≤ 7 }
 {}
 
-/// An epoch of two satellites: it is open after its first two lines, whole with the third, and cut off by
-/// another epoch line or by its first satellite again.
+/// An epoch of two satellites is open after its first two lines, whole with the third, and cut off by another epoch
+/// line or by its first satellite again.
 pub fn an_epoch_of_two()
     ensures left_open { open_with one_type (first_line_of_two ∷ g01_line ∷ []) ≡ Some half_open }
     ensures wanted { epoch_place one_type (first_line_of_two ∷ g01_line ∷ []) ≡ NeedsMore }

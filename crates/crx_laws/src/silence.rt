@@ -1,4 +1,4 @@
-//! Nothing is lost in silence, and blocks are short: each law is the contract of a function that does nothing.
+//! Nothing is lost in silence, and blocks are short.
 
 ghost use Rattle.std.specs.Prelude.{◌≡◌, ◌<◌, ◌∷◌, ◌++◌, [], ℕ, List, None, Some, codes, map};
 ghost use Rattle.crx_base.specs.meaning.AsRead.{as_read};
@@ -16,22 +16,21 @@ ghost use Rattle.crx_laws.specs.SmallFiles.{damaged_by, epoch_at_second, epoch_l
 ghost use Rattle.crx_laws.specs.SmallStretches.{second_block};
 ghost use Rattle.crx_rinex.specs.meaning.Units.{Observation};
 
-/// If no fault ends it, a compaction and an expansion account for each line of their input: an accepted unit
-/// was read from it, or a warning drops it. So a status of 0 says that no line was dropped.
+/// If no fault ends it, a compaction and an expansion account for each line of their input: an accepted unit was read
+/// from it, or a warning drops it. So a status of 0 says that no line was dropped.
 pub fn nothing_is_lost_in_silence()
     ensures compaction { (choices : Choices) (file : List ℕ)
         → AccountsForFile choices file (compacted file choices) }
     ensures expansion { (choices : Choices) (text : List ℕ) → AccountsForText choices.skip text (expanded text choices) }
 {}
 
-/// With every n-th epoch in full a block of compact text has at most n epochs.
+/// If every n-th epoch is full, a block of compact text has at most n epochs.
 pub fn blocks_are_short()
     ensures law { (choices : Choices) (file : List ℕ) → HasShortBlocks choices file (compacted file choices) }
 {}
 
-/// What these laws ask for can be met: by a file and a text of which an epoch is dropped with a warning; by
-/// another file that has the lines which no warning drops; and by a block of two epochs where every second one
-/// is in full.
+/// Shows that the premises of these laws can be met: by a file and a text of which an epoch is dropped with a warning;
+/// by another file that has the lines which no warning drops; and by a block of two epochs if every second one is full.
 pub fn premises()
     ensures file { (compacted (lines_text (header ++ epoch_line_at 0 2 ∷ observed (codes "1.000")
         ∷ observed (codes "1.000") ∷ [])) with_skip).fault ≡ None }

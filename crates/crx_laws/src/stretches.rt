@@ -1,5 +1,4 @@
-//! What is saved of compact text that is damaged in stretches, or cut off: each law is the contract of a
-//! function that does nothing.
+//! The part that is saved of compact text that is damaged in stretches, or cut off.
 
 ghost use Rattle.std.specs.Prelude.{◌≡◌, ◌∷◌, [], List, ℕ, true};
 ghost use Rattle.crx_base.specs.meaning.Lines.{lines_text};
@@ -15,21 +14,20 @@ ghost use Rattle.crx_filter.specs.meaning.Expanded.{expanded};
 ghost use Rattle.crx_filter.specs.meaning.Standard.{printed_items};
 ghost use Rattle.crx_runs.specs.meaning.Results.{Begins};
 
-/// Damage costs what it touches, whoever wrote the text. Of the compact text of a file, any number of
-/// stretches after the header are damaged: in place of the lines of some units come any others, but no
-/// event's first line with a count of records. No stretch begins or ends inside an event, or loses a change
-/// of types, and the first epoch that is kept after one is in full. Then an expansion that skips faults
-/// writes exactly all units before the first stretch, then for each stretch some whole epochs followed by
-/// exactly the units that are kept, and no fault ends it.
+/// Damage to compact text of any writer costs only the parts it touches. After the header any number of stretches are
+/// damaged: the lines of some units are replaced by any others except an event's first line with a count of records. No
+/// stretch begins or ends inside an event or loses a change of types, and the first epoch kept after one is full. Then
+/// an expansion that skips faults writes exactly all units before the first stretch, then for each stretch some whole
+/// epochs followed by exactly the units that are kept, and no fault ends it.
 pub fn damage_costs_what_it_touches()
     ensures law { (before : List (FileUnit Epoch)) (stretches : List Stretch) (damaged : List ℕ) (expanding : Choices)
         → expanding.skip ≡ true → HasStretches before stretches damaged
         → KeepsTheRest before stretches (expanded damaged expanding) }
 {}
 
-/// So it is of text that a compaction wrote, whether it skipped faults or not, if no fault ended it and no
-/// copied line ends in CR: the bytes of some units' lines are replaced, and the units that are kept after a
-/// stretch begin with an event or an epoch in full.
+/// The same holds for text that a compaction wrote, with or without `-s`, if no fault ended it and no copied line ends
+/// in CR: the bytes of some units' lines are replaced, and the units kept after a stretch begin with an event or a full
+/// epoch.
 pub fn damage_of_own_text()
     ensures law { (file : List ℕ) (compacting expanding : Choices) (damaged : List ℕ)
         → is_date compacting.date ≡ true → expanding.skip ≡ true
@@ -37,18 +35,18 @@ pub fn damage_of_own_text()
         → KeepsOwnRest file compacting damaged damage (expanded damaged expanding) }
 {}
 
-/// Whatever comes after what a compaction wrote of a file's first units, an expansion writes these units
-/// first. So of a text that is cut off, all units are written that are whole before the cut.
+/// Whatever follows the compact text of a file's first units, an expansion writes these units first. So if a text is
+/// cut off, all units that are whole before the cut are written.
 pub fn whole_units_are_written()
     ensures law { (file : List ℕ) (compacting expanding : Choices) (text : List ℕ)
         → is_date compacting.date ≡ true → (whole : BeginsWithOwn file compacting text)
         → Begins (expanded text expanding).output (lines_text (printed_items whole.before)) }
 {}
 
-/// What these laws ask for can be met: two stretches of one file, the first with a line that begins with `>`,
-/// and the second the last block, its first line too, up to the end; an event that is lost with its block, or
-/// since its count is damaged; and a text that is cut off inside a line. And by a text that no writer known
-/// here writes, with arcs of order 9 and 7 and an event after the stretch.
+/// Shows that the premises of these laws can be met: by two stretches of one file, the first with a line that begins
+/// with `>`, the second from the first line of the last block to the end; by an event that is lost with its block, or
+/// because its count is damaged; and by a text that is cut off inside a line. And by a text with arcs of order 9 and 7
+/// and an event after the stretch, which no known writer writes.
 pub fn premises()
     ensures wild { HasStretches wild_before (wild_stretch ∷ []) wild_damaged }
     ensures twice { HasOwnStretches (lines_text (file_of_five [])) in_full_every_second damaged_twice }

@@ -1,4 +1,4 @@
-//! The way back: each law is the contract of a function that does nothing.
+//! The way back.
 
 ghost use Rattle.std.specs.Prelude.{◌≡◌, ◌∷◌, ◌++◌, [], List, ℕ, None, true, codes, map};
 ghost use Rattle.crx_base.specs.meaning.AsRead.{as_read};
@@ -12,37 +12,35 @@ ghost use Rattle.crx_filter.specs.meaning.Standard.{whole_of, IsStandard};
 ghost use Rattle.crx_filter.specs.WayBack.{ComesBack, NormalFormComesBack, StandardComesBack, IsStandardWhereSame};
 ghost use Rattle.crx_filter.specs.meaning.WayBack.{HaveNoReturns};
 
-/// Whatever was compacted comes back: where the compaction isn't ended by a fault, the expansion of its
-/// compact text writes each accepted unit as RINEX prints it, reports nothing, and ends with status 0. Faults
-/// may be skipped or not, on both ways, and epochs may be in full as often as is chosen. No header line,
-/// event line or record may have a content that ends in CR.
+/// Compacted files return: if no fault ends the compaction, the expansion of its compact text writes each accepted unit
+/// as RINEX prints it, reports nothing, and ends with status 0. Faults may be skipped or not, in both directions, and
+/// any epochs may be full. No content of a header line, event line or record may end in CR.
 pub fn what_was_compacted_comes_back()
     ensures law { (input : List ℕ) (compacting expanding : Choices) → ComesBack input compacting expanding }
 {}
 
-/// A file that is read to its good end comes back in its normal form, whatever is chosen on either way.
+/// A file that is read to its good end returns in its normal form, with any options in both directions.
 pub fn the_normal_form_comes_back()
     ensures law { (input : List ℕ) (compacting expanding : Choices)
         → NormalFormComesBack input compacting expanding }
 {}
 
-/// A standard file comes back byte for byte, whatever is chosen on either way: how often epochs are in full,
-/// whether faults are skipped, and the date.
+/// A standard file returns byte for byte, with any options in both directions: the distance of full epochs, whether
+/// faults are skipped, and the date.
 pub fn a_standard_file_comes_back()
     ensures law { (input : List ℕ) (compacting expanding : Choices)
         → StandardComesBack input compacting expanding }
 {}
 
-/// The converse: where a file that is read to its good end comes back byte for byte, by any choices, it is
-/// standard. One with a header line, event line or record whose content ends in CR never does, since it comes
-/// back with fewer of them.
+/// The converse: if a file that is read to its good end returns byte for byte, with any options, it is standard. A file
+/// with a header line, event line or record whose content ends in CR never does, because it returns with fewer CRs.
 pub fn what_comes_back_is_standard()
     ensures law { (input : List ℕ) (compacting expanding : Choices)
         → IsStandardWhereSame input compacting expanding }
 {}
 
-/// What these laws ask for can be met: a date; a standard file; and, where faults are skipped, a file with
-/// two warnings, an event and no line that ends in CR.
+/// Shows that the premises of these laws can be met: by a date; by a standard file; and, if faults are skipped, by a
+/// file with two warnings, an event and no line that ends in CR.
 pub fn premises()
     ensures date { is_date (plain_choices.date) ≡ true }
     ensures standard { IsStandard (lines_text (header ++ epoch_line_at 0 1 ∷ observed (codes "1.000") ∷ [])) }

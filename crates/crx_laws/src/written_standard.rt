@@ -1,4 +1,4 @@
-//! What an expansion writes is standard: the law is the contract of a function that does nothing.
+//! The output of an expansion is standard.
 
 ghost use Rattle.std.specs.Prelude.{◌≡◌, ◌∷◌, [], ℕ, List, None, true, false, codes};
 ghost use Rattle.crx_filter.specs.meaning.WrittenStandard.{WhatIsExpandedIsStandard, has_plain_lines};
@@ -6,15 +6,14 @@ ghost use Rattle.crx_laws.specs.SmallFiles.{damaged_by, of_other_orders, with_re
 ghost use Rattle.crx_base.specs.meaning.Choices.{Choices};
 ghost use Rattle.crx_filter.specs.meaning.Expanded.{expanded};
 
-/// What an expansion writes, where no fault ends it, is a standard file, unless a line of it ends in CR:
-/// whoever wrote the compact text, whatever was damaged of it, and whether faults were skipped or not. A line
-/// ends in CR exactly where one that was copied does.
+/// The output of an expansion without a fault is a standard file, unless a line of it ends in CR: for compact text of
+/// any writer, damaged or not, with or without `-s`. A line of the output ends in CR if and only if a copied line does.
 pub fn what_is_expanded_is_standard()
     ensures law { (text : List ℕ) (choices : Choices) → WhatIsExpandedIsStandard text choices }
 {}
 
-/// What this law asks for can be met: by a damaged text where faults are skipped, and by one with arcs of the
-/// orders 1 and 0. Of a text with a copied line that ends in CR, a line of the output does.
+/// Shows that the premises of this law can be met: by a damaged text if faults are skipped, and by a text with arcs of
+/// the orders 1 and 0. For a text with a copied line that ends in CR, a line of the output ends in CR.
 pub fn premises()
     ensures damaged { (expanded (damaged_by (codes "xyz" ∷ [])) with_skip).fault ≡ None }
     ensures damaged_plain { has_plain_lines

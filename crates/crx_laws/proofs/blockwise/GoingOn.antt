@@ -1,5 +1,5 @@
--- What comes after a text that is expanded without a fault is read after its units, and after a warning, if
--- there is one; and alike after another text that leaves the same types.
+-- The lines after a text that is expanded without a fault are read after its units, and after its warning, if there is
+-- one. They are read alike after another text that leaves the same types in force.
 use Rattle.std.proofs.lemmas.Grind.{common_steps}
 use Rattle.std.proofs.Common.{arith}
 use Rattle.crx_filter.proofs.Words.{ℕ, ◌≡◌, ◌+◌, ◌⊎◌, inl, inr, Bool, true, false, cond, List, [], ◌∷◌, ◌++◌}
@@ -28,7 +28,7 @@ use Rattle.crx_filter.proofs.damage.GoingOn.{open-goes_on}
 use Rattle.crx_filter.proofs.damage.SavedText.{lines-warned}
 use Rattle.crx_laws.specs.Blocks.{read_of_text, CanGoOn, HaveSameTypes, kind_of, GoOnWith, StandAlone}
 
--- ---- where a reading whose end is good has stopped
+-- ---- the place at which a reading with a good end has stopped
 
 -- an end without a fault is good, or a warning
 end-passed : (skip : Bool) (items : List (Item ReadEpoch)) (number : ℕ) (o : Option Fault)
@@ -63,7 +63,7 @@ lines-passed skip items number rest e = either (end-passed skip items number (fa
           inr (and_parts skip (header_has_ended items && ((records_left items == 0) && _)) on).0,
         )
 
--- ---- reading goes on
+-- ---- reading continues
 
 pub record GoesOn (skip : Bool) (items : List (Item ReadEpoch)) (lines : List ReadLine)
     (r : Reading ReadEpoch) : Type 0 where
@@ -126,7 +126,7 @@ goes-on skip items (AtLines number rest) next line tail stopped e begins =
 
 -- ---- a whole text, and more
 
--- how a text was read, and how it is read with more after it
+-- how a text is read, and how it is read with more lines after it
 pub record IsTextRead (text : List ℕ) (choices : Choices) : Type 0 where
   pub items : List (Item ReadEpoch)
   pub stop : Stop
@@ -179,7 +179,7 @@ pub ended-lines : (skip : Bool) (items : List (Item ReadEpoch)) (stop : Stop)
 ended-lines skip items stop =
     of-ended (λ is. expanded_lines is ≡ expanded_lines items) skip items stop refl (λ at on. refl)
 
--- a text, and what comes after it
+-- a text, and the lines after it
 pub record IsFurtherRead (text more : List ℕ) (choices : Choices) (lines : List ReadLine) : Type 0 where
   pub items : List (Item ReadEpoch)
   pub number : ℕ

@@ -1,4 +1,4 @@
--- What is held between two lines is bounded.
+-- The state between two lines is bounded.
 use Rattle.std.proofs.lemmas.Grind.{common_steps}
 use Rattle.crx_filter.proofs.Words.{ℕ, zero, suc, ◌≡◌, Bool, List, [], ◌∷◌, Option, Some, None, ap, sym, ◌∙◌}
 use Rattle.crx_filter.proofs.Words.{subst, arith, All, AllByRecursion, All-head, All-tail, ReadLine, Row}
@@ -81,7 +81,7 @@ open-epoch (Some so_far) h =
       rows = rows-bounded so_far.rows h.sound.rows;
     }
 
--- what is kept of some items
+-- the state after some items
 kept-bounded : (choices : Choices) (items : List (Item Epoch))
     → AreInPlace items → IfSome (written_of choices.every items).tail (IsBoundedTail WRITTEN_ORDER)
 kept-bounded choices (Accepted (Observation epoch) ∷ before) h =
@@ -117,7 +117,7 @@ by-steps types tail [] counts h = tt
 by-steps types tail (line ∷ lines) counts h =
     place-bounded lines 0 (first_step types tail line) (read-bounded.first types tail line counts h)
 
--- what is left of the epochs that were read
+-- the state after the epochs that were read
 left-bounded : (items : List (Item ReadEpoch))
     → ItemsAreRead compact_place items → IfSome (tail_left (raws_kept items)) (IsBoundedTail ORDER_LIMIT)
 left-bounded [] h = tt

@@ -1,4 +1,4 @@
--- Compact lines that are borrowed one after another, and what they make.
+-- Compact lines that are borrowed one after another, and their result.
 use Rattle.crx_filter.proofs.Words.{◌≡◌, refl, ℕ, suc, ◌+◌, ◌*◌, ◌≤◌, Bool, true, false, List, [], ◌∷◌, drop}
 use Rattle.crx_filter.proofs.Words.{map, length, Option, Some, None, Result, Ok, Err, is_some, sym, ◌∙◌, ap}
 use Rattle.crx_filter.proofs.Words.{arith, inl, inr, ◌⊎◌, true≢false, Content, Fault, OutOfMemory, Epoch}
@@ -14,9 +14,8 @@ use Rattle.crx_compact.specs.OpenEpochs.{Whole, is_idle, place_by_steps, place_o
 use Rattle.crx_compact.proofs.anywriter.OwnReading.{steps-read_back}
 use Rattle.crx_compact.proofs.wayback.Standing.{lines-short, lines-stand}
 
--- an epoch is open, and what is at all lines is what those that are left make of it; these may be read where
--- all
--- lines may
+-- an epoch is open, and reading all lines is reading the remaining lines from it; the remaining lines may be read if
+-- all lines may
 pub record IsMidway (place : Place HeldEpoch) (state : ColumnsState)
     (all lines : List (List ℕ)) : Type 0 where
   pub begun : OpenRawEpoch

@@ -1,4 +1,4 @@
--- What is held of epochs that are read is within the limits.
+-- The state after epochs that are read is within the limits.
 use Rattle.crx_filter.proofs.Words.{◌≡◌, refl, ℕ, zero, suc, ◌+◌, ◌*◌, ◌≤◌, ◌<◌, ℤ, List, [], ◌∷◌}
 use Rattle.crx_filter.proofs.Words.{length, map, take, Option, Some, None, Result, Ok, Err, ⊤}
 use Rattle.crx_filter.proofs.Words.{AllByRecursion, sym, ◌∙◌, ap, subst, arith, length-map}
@@ -94,7 +94,7 @@ arc-read (Step number) (Some arc) h k = grind (
   length-take arc.order arc.differences,
 )
 
--- what holds of all things of a list, and where there is none
+-- a property of all things of a list, and of the default
 all-index : {X : Type 0} (P : X → Type 0) (d : X) (xs : List X) (place : ℕ)
     → P d → AllByRecursion P xs → P (slice_index_or xs place d)
 all-index P d [] place h k = h
@@ -116,7 +116,7 @@ named-bounded name (row ∷ rows) h = grind (arith, named-bounded name rows h.1)
 
 -- ---- rows
 
--- what a line leaves of a satellite
+-- the state of a satellite after its line
 row-read : (row : RowTail) (line : List ℕ) (read : ReadRow) → IsBoundedRowTail ORDER_LIMIT row
     → RowFacts (past_of_row row.cells row.flags) (satellite_of row) line read
     → IsBoundedRowTail ORDER_LIMIT (held_from row.cells row.flags read)
@@ -220,7 +220,7 @@ next-bounded begun (Content line) h = line-came begun begun.clock line refl h
 
 -- ---- the epoch line
 
--- what an epoch line leaves of the satellites
+-- the state of the satellites after an epoch line
 rows-opened : (types : List Count) (before : Tail) (satellites : List Satellite)
     → AreCounts types → AllByRecursion (IsBoundedRowTail ORDER_LIMIT) before.rows
     → AllByRecursion (λ (s : Satellite). types_of_satellite types s.name ≡ Some s.count) satellites
@@ -290,7 +290,7 @@ open-bounded (line ∷ lines) (Going begun) h = open-bounded lines (next_step be
     (next-bounded begun line h)
 open-bounded lines step h = tt
 
--- what an epoch leaves, where one is at some lines
+-- the state after an epoch, if there is one at some lines
 abbrev pub OfHeld : Place HeldEpoch → Type 0
 OfHeld (Done held count) = IsBoundedTail ORDER_LIMIT held.tail
 OfHeld p = ⊤

@@ -1,4 +1,4 @@
--- What is left of epochs is within the limits.
+-- The state after epochs is within the limits.
 use Rattle.crx_filter.proofs.Words.{ℕ, suc, ◌-◌, ℤ, List, [], ◌∷◌, length, map, Option, AllByRecursion, arith}
 use Rattle.crx_filter.proofs.Words.{length-map, Row, Count, Marked}
 use Rattle.std.specs.Prelude.{min, IfSome}

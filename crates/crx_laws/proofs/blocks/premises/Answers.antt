@@ -13,7 +13,7 @@ use Rattle.crx_laws.specs.SmallStretches.{first_epoch, second_block}
 use Rattle.crx_text.specs.meaning.Numbers.{size_of, number_of, number_text}
 use Rattle.crx_laws.proofs.blocks.premises.Goals as goal
 
--- the header's units are in their places, as they are in the whole file
+-- the header's units are in their places, as in the whole file
 headers : AreUnitsInPlace wild_header
 headers = units-before (epoch_at_second 2 20000202000 ∷ EventRecord comment ∷ EventLine event
     ∷ epoch_at_second 1 20000100500 ∷ epoch_at_second 0 20000000000 ∷ []) wild_header

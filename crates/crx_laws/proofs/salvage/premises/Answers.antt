@@ -13,7 +13,7 @@ use Rattle.crx_laws.specs.SmallFiles.{in_full_every_second, epoch_at_second, hea
 use Rattle.crx_laws.specs.SmallFiles.{damaged_by, other_block, last_damaged_by, damaged_before_event}
 use Rattle.crx_laws.proofs.salvage.premises.Goals as goal
 
--- the second block with other lines in place of those after its first
+-- the second block, with other lines instead of its lines after the first
 damaged : (lines : List (List ℕ)) → list_all may_replace (lines_of (lines_text lines)) ≡ true
     → list_all (λ (piece : Piece). piece.is_ended) (pieces_of (lines_text lines)) ≡ true
     → IsOwnDamaged (lines_text (file_of_five [])) in_full_every_second (damaged_by lines)
@@ -34,7 +34,7 @@ damaged lines allowed ended = record {
   text = refl;
 }
 
--- the first block of a file, an event after it
+-- the first block of a file, followed by an event
 before-event : IsOwnDamaged (lines_text with_event) plain_choices (damaged_before_event (codes "xyz" ∷ []))
 unfolding digits coded_number size_of number_of number_text
 before-event = record {
