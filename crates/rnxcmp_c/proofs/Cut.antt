@@ -1,4 +1,4 @@
--- What ended a run at a line, by what is kept.
+-- The end of a run at a line, by the texts kept.
 use Rattle.std.proofs.{Common.rules, lemmas.{Grind.common_steps, List.append_cancel_left}}
 use Rattle.rnxcmp_c.proofs.{GoingLemmas.notices-both, Words.{◌≡◌, ℕ, Bool, true, List, [], ◌++◌, take, drop}}
 use Rattle.rnxcmp_c.proofs.Words.{Option, None, sym, ◌∙◌, append-nil, arith, length-append}
@@ -7,25 +7,25 @@ use Rattle.rnxcmp_c.proofs.Words.{waiting, Pending, IsKept, StopsBy}
 use Rattle.std.proofs.Common.{Result, Ok, Err, IfOk, IfErr}
 use Rattle.crx_runs.specs.{Endings.EndsFrom, Taking.{Becomes, IsDone}}
 
--- the first warnings by which a course goes on are first in its messages
+-- the next warnings of a course are next in its messages
 pub begins-next : (before after : Course) (here : List At) → AreNext before after here
     → Begins (notices_text after.warnings) (notices_text before.warnings ++ notices_text here)
 begins-next before after here next = grind (arith, common_steps, notices-both)
 
--- what came after a text is what is left of both
+-- the text after a prefix is what both have after it
 rest-of : (first more rest : List ℕ) → first ++ rest ≡ first ++ more → more ≡ rest
 rest-of first more rest is = sym (append_cancel_left first rest more is)
 
 none-more : (first more : List ℕ) → first ≡ first ++ more → more ≡ []
 none-more first more is = rest-of first more [] (append-nil first ∙ is)
 
--- what a device took of a text is first in it
+-- the bytes that a device took of a text are a prefix of it
 begins-taken : (all first more : List ℕ) (count : ℕ) → take count all ≡ first ++ more
     → Begins all (first ++ more)
 begins-taken all first more count is =
     rw (← is) (record { rest = drop count all; same = sym (take-append-drop count all) })
 
--- what a text that waits took
+-- the bytes that a waiting text took, as a device
 abbrev kept-by : Pending → Pending → Device
 kept-by old new = record {
   took = λ text. waiting new ≡ waiting old ++ text;
@@ -47,7 +47,7 @@ module _ (before after : Course) (output then_output kept then_kept : Pending) w
   cut-stops =
       search (rules, none-more, append-nil, rest-of, notices-both, begins-taken, begins-next, length-append)
 
-  -- the same of the end, at which memory may run out for the texts alone
+  -- the same for the end, at which only the texts may need memory
   halted-stops : (number last : ℕ) (halt : Halt)
       → EndsFrom None last (kept-by output then_output) (kept-by kept then_kept) before after halt
       → StopsBy number None before after output then_output kept then_kept halt

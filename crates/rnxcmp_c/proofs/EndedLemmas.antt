@@ -1,4 +1,4 @@
--- What the result of a run brings back, saves and judges follows from what it is, by the laws.
+-- The promises of a run about files follow from its result, by the laws.
 use Rattle.std.proofs.{Common.{rules, arith}, lemmas.Grind.common_steps}
 use Rattle.rnxcmp_c.proofs.Words.{◌≡◌, ◌⊎◌, ℕ, List, true, code_of_fault, InputTooLong, Choices, expanded}
 use Rattle.rnxcmp_c.proofs.Words.{checked, what-passes, FilterResult, Answer, OUTPUT_LIMIT, BothTexts}
@@ -16,7 +16,7 @@ use Rattle.rnxcmp_c.specs.meaning.Kept.{TaskKeeps}
 use Rattle.crx_filter.proofs.stretches.StretchesSaved.{rest-kept}
 use Rattle.crx_filter.proofs.anywriter.{AnyRun.reads-any, AnyText.first-units, OnlyTexts.only-text}
 
--- what holds of the result of an expansion holds of what it brings back, saves and keeps
+-- the promises of an expansion follow from its result
 pub record KeepsPromises (holds : FilterResult → Type 0) (choices : Choices) (text : List ℕ) : Type 0 where
   pub whole : holds (expanded text choices)
   pub lossless : CallBringsBackWhatPasses holds text
@@ -60,12 +60,12 @@ module _ (fed : List ℕ) (made kept : BothTexts) (answer : Answer) where
       ⊎ (StopsForMemory is_line (run_for task) fed result ⊎ StopsWhenFull (run_for task) fed result))
 
   module _ (is_line : ℕ → Type 0) (task : Task) (memory : HasNoMemory answer → ⊥) where
-    -- a run has its result where neither memory nor a limit ended it
+    -- a run has its result unless refused memory or a limit ended it
     pub result-where : (answer.status ≡ OUTPUT_LIMIT → ⊥) → RunHasEnded (Early is_line task) made kept answer
         → Has ((run_for task).result fed)
     result-where few ended = grind arith
 
-    -- and where its input wasn't too long
+    -- and unless its input was too long
     pub ended-where : (answer.code ≡ code_of_fault InputTooLong → ⊥)
         → RunHasEnded (Late is_line task) made kept answer → RunHasEnded (Early is_line task) made kept answer
     ended-where long ended = grind arith

@@ -1,4 +1,4 @@
--- A run goes on by the bytes that are fed, or something stops it.
+-- The bytes that are fed continue a run or stop it.
 use Rattle.std.proofs.{Common.{rules, ◌≢◌, slice_index}, lemmas.{Grind.common_steps, List.get_or-take}}
 use Rattle.std.proofs.lemmas.List.Elements.{All-append, All-from_get_or}
 use Rattle.rnxcmp_c.proofs.Words.{Some, ◌≡◌, inl, inr, ℕ, ◌+◌, ◌-◌, ◌<◌, ◌≤◌, ⊎_elim}
@@ -19,7 +19,7 @@ use Rattle.rnxcmp_c.specs.{declared.piece.Piece.Piece}
 use Rattle.crx_lines.proofs.ProgressLemmas.{lines-first, lines-last, ended_lines-first, ended_lines-none}
 use Rattle.crx_runs.specs.Engines.{Awaited}
 
--- the bytes before the first LF have none
+-- there is no LF before the first one
 pub no_feed-before : (bytes : List ℕ) (n : ℕ) → n ≤ length bytes
     → ((k : ℕ) → k < n → slice_index bytes k ≢ 10) → HasNoFeed (take n bytes)
 no_feed-before bytes n within none =
@@ -49,17 +49,17 @@ flag-grows : (before after : Course) (shown : Type 0) (old new : HandleState)
     → new.warned ≡ are_some after.warnings
 flag-grows before after shown old new flag moved = grind arith
 
--- the line that comes next takes memory
+-- the next line needs memory
 asked-by : (filter : Filter) (lines others : List InputLine) (notices : List At)
     → memory_next filter lines others ≡ Some notices → (next : InputLine) × (more : List InputLine)
     × (others ≡ next ∷ more) × (filter.memory_after lines next ≡ Some notices)
 asked-by = grind arith
 
--- the line that was reached is the last of those with the next one
+-- the line reached is the last of these lines and the next one
 reached-lines : (lines others : List InputLine) → line_reached lines others ≡ length (lines ++ take 1 others)
 reached-lines = grind (arith, common_steps)
 
--- a fault of the next line, or of the end, is that of all lines
+-- a fault of the next line, or of the end, is the fault of all lines
 decided-next : (filter : Filter) → IsLawful filter → (lines others : List InputLine) (at : At)
     → (with_one_more filter lines others).fault ≡ Some at
     → filter.whole (lines ++ others) ≡ with_one_more filter lines others
@@ -70,7 +70,7 @@ decided-next filter lawful lines (line ∷ others) at fault =
 
 module _ {run : TaskRun} {held : HandleState} {taken : BothTexts} {lines : List InputLine}
     (is : IsSoFar run held taken lines) (new : HandleState) where
-  -- a line more was taken
+  -- one more line was taken
   pub taken-more : (line : InputLine) (shown : Type 0)
       → MovesWithin (run.filter.so_far lines) (run.filter.so_far (with_next lines line)) shown held new
       → new.number ≡ held.number + 1 → IsSoFar run new taken (with_next lines line)
@@ -174,7 +174,7 @@ module _ {run : TaskRun} {held : HandleState} {taken : BothTexts} {lines : List 
         (is.number ∙ ap length (sym whole)) stop e) step.1,
   )
 
--- memory ran out at a line of more kinds, and what is held has no other failures
+-- memory was refused at a line of more kinds, and the texts have the same failures
 pub early-weaker : {run : TaskRun} {P Q : ℕ → Type 0} {input : List ℕ} {mid held : HandleState}
     {result : FilterResult} → ((n : ℕ) → P n → Q n) → held.output.failures ≡ mid.output.failures
     → held.messages.failures ≡ mid.messages.failures → StopsEarly P run input mid result
@@ -185,7 +185,7 @@ early-weaker weaker output messages (inr ran) = inr (record {
   lacking = grind (arith, ran.lacking);
 })
 
--- a run that was stopped as it ends with one of some results was stopped as with one of more
+-- a run that was stopped with one of some results was stopped with one of more results
 pub stopped-as : {P Q : FilterResult → Type 0} {limit : ℕ} {held : HandleState} {taken : BothTexts}
     {stop : Stop} → StopsAs limit P held taken stop → ((result : FilterResult) → P result → Q result)
     → StopsAs limit Q held taken stop
@@ -205,14 +205,14 @@ module _ {run : TaskRun} {ready : List (List ℕ)} {shows : List InputLine → L
     abbrev lines : List InputLine
     lines = ended_lines_of fed
 
-    -- lines that were ended are no more, where the bytes that follow have no LF
+    -- bytes without LF end no line
     ended-still : (more : List ℕ) → HasNoFeed more → ended_lines_of (fed ++ more) ≡ lines
     ended-still more none =
         is.cut_ended more ∙ ap (λ (ls : List InputLine). lines ++ ls)
         (ended_lines-none (is.tail ++ more) (All-append (λ b. b ≢ 10) is.tail more is.no_feed none))
         ∙ append-nil lines
 
-    -- a line more is taken, or the last part of one, since little enough waits
+    -- one more line is used, or a part of one, because fewer than READY_LIMIT bytes wait
     pub soon-by : (bytes : List ℕ) (n : ℕ) → HasNoFeed (take (n - 1) bytes) → ready_in held < READY_LIMIT
         → StopsSoon run fed taken bytes n
     soon-by bytes n none low = grind (arith, common_steps, ended-still, length-append)
@@ -222,11 +222,11 @@ module _ {run : TaskRun} {ready : List (List ℕ)} {shows : List InputLine → L
     all-cut : lines_of fed ≡ lines ++ lines_of is.tail
     all-cut = grind (arith, common_steps, is.cut [])
 
-    -- nothing is after the last LF
+    -- there are no bytes after the last LF
     pub all-ended : held.tail.bytes.items ≡ [] → lines_of fed ≡ lines
     all-ended none = grind (arith, common_steps, all-cut)
 
-    -- a line without LF is there
+    -- there is a last line without LF
     pub all-but_last : 0 < length held.tail.bytes.items → lines_of fed ≡ with_next lines
         (piece_line is.tail false)
     all-but_last some = search (rules, all-cut, lines-last, length-take)
@@ -236,7 +236,7 @@ module _ {run : TaskRun} {ready : List (List ℕ)} {shows : List InputLine → L
     module _ (piece : Piece) (bytes : List ℕ)
         (added : piece.bytes.items ≡ take LINE_ROOM (held.tail.bytes.items ++ bytes)) (none : HasNoFeed bytes)
       where
-        -- what is held once these bytes were added to those of the last line
+        -- the state after these bytes were added to the last line
         abbrev mid : HandleState
         mid = record held { tail = piece }
 
@@ -270,7 +270,7 @@ module _ {run : TaskRun} {ready : List (List ℕ)} {shows : List InputLine → L
               counted = omega (arith, is.counted, length-append is.tail bytes, length-append fed bytes);
             }
 
-        -- those bytes, and an LF
+        -- the line of those bytes and an LF
         abbrev line : InputLine
         line = piece_line bytes_all true
 

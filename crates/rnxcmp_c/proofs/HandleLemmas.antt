@@ -13,11 +13,11 @@ use Rattle.rnxcmp_c.specs.Handles.{IsFresh, IsOverWith, ReaderEndsBy, ReaderHasE
 use Rattle.rnxcmp_c.specs.Holding.{HoldsNothing}
 use Rattle.rnxcmp_c.proofs.{GoingLemmas.early-weaker, ReaderLemmas.{ended-as, lawful-for}}
 
--- the lines that an LF ends are no more than all
+-- the lines with an LF are at most all lines
 ended-within : (fed : List ℕ) → length (ended_lines_of fed) ≤ length (lines_of fed)
 ended-within fed = grind (arith, common_steps, ended_lines-come_first fed, append-nil fed, length-append)
 
--- a reader that was fed or ended has a state by what was fed
+-- a reader that was fed or ended is in the state given by the bytes fed
 fed-stands : (before : List ℕ) (task : Task) (reader : Reader) (fed : List ℕ) (taken : BothTexts)
     (outcome : Option Outcome) → HasFedBy before task reader fed taken outcome
     → StandsBy task reader fed taken outcome
@@ -32,7 +32,7 @@ ended-stands : {P : FilterResult → Type 0} (task : Task) (reader : Reader) (fe
     → StandsBy task reader fed taken outcome
 ended-stands = grind (arith, ended-as)
 
--- a run that hasn't ended goes on
+-- a run that hasn't ended continues
 pub runs-where_none : (task : Task) (reader : Reader) (fed : List ℕ) (taken : BothTexts)
     (outcome : Option Outcome)
     → is_some outcome ≡ false → StandsBy task reader fed taken outcome → ReaderRuns task reader fed taken
@@ -50,7 +50,7 @@ pub ended-by_none : (task : Task) (old new : Reader) (fed : List ℕ) (taken : B
     → ReaderEndsBy task old new fed taken answer outcome
 ended-by_none = grind arith
 
--- bytes were fed, or there are some and an input may have none of them
+-- bytes were fed, or the input may have no more
 pub either-fed : {task : Task} {old new : Reader} {fed : List ℕ} {taken : BothTexts} {bytes : List ℕ}
     {used : ℕ}
     {answer : Answer} → FeedsBytes task old new fed taken bytes used answer

@@ -1,4 +1,4 @@
--- What the answers of calls bring back follows from what they are, by the laws.
+-- The promises of calls about files follow from their answers, by the laws.
 use Rattle.std.proofs.{Common.arith, lemmas.Grind.common_steps}
 use Rattle.rnxcmp_c.proofs.Words.{ℕ, ◌≡◌, List, Choices, expanded, FilterResult}
 use Rattle.rnxcmp_c.proofs.Words.{CallBringsBackWhatWasCompacted, AnswersWithin, Answer, BothTexts}
@@ -15,7 +15,7 @@ brings-back holds expanding text answered file compacting dated same =
 
 -- ---- status 0
 
--- a call that answers status 0 answers the whole result of a run
+-- a call with status 0 returns the whole result of a run
 pub zero-answered : (most : ℕ) (whole : FilterResult) (answer : Answer) (before after : BothTexts)
     → AnswersWithin most whole answer before after → answer.status ≡ 0 → whole.status ≡ 0
 zero-answered most whole answer before after h is =

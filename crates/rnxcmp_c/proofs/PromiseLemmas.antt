@@ -1,4 +1,4 @@
--- What the state of a reader says of its run, in the words of the promise.
+-- The state of a reader as a promise about its run.
 use Rattle.std.proofs.lemmas.Grind.{common_steps}
 use Rattle.rnxcmp_c.proofs.Words.{◌≡◌, ◌⊎◌, inl, inr, ⊎_elim, ℕ, List, [], ◌∷◌, ◌++◌}
 use Rattle.rnxcmp_c.proofs.Words.{take, drop, append_assoc, Option, Some, None, is_some, true, false, arith}
@@ -24,12 +24,12 @@ use Rattle.crx_filter.proofs.reading.Prefixes.{warnings-go_on}
 
 -- ---- warnings
 
--- where more are warned of, their messages come after the others
+-- the messages of more warnings follow the messages of the first
 begins-more : (all some_of : List At) → (later : List At) × (all ≡ some_of ++ later)
     → Begins (notices_text all) (notices_text some_of)
 begins-more all some_of (later, e) = grind (arith, common_steps, notices-both)
 
--- the warnings of the first lines are first in those of all
+-- the warnings of the first lines are a prefix of all warnings
 pub warned-first : (task : Task) (lines more : List InputLine)
     → Begins (notices_text ((filter_for task).whole (lines ++ more)).warnings)
     (notices_text ((filter_for task).so_far lines).warnings)
@@ -39,14 +39,14 @@ warned-first (Expand choices limit) lines more = begins-more _ _ (warnings-go_on
     lines more)
 warned-first Check lines more = record { rest = []; same = refl }
 
--- the messages of a result begin with the warnings
+-- the messages of a result begin with its warnings
 pub messages-for : (task : Task) (input : List ℕ) → Begins (result_for task input).messages
     (notices_text ((filter_for task).whole (lines_of input)).warnings)
 messages-for (Compact choices limit) input = record { rest = _; same = refl }
 messages-for (Expand choices limit) input = record { rest = _; same = refl }
 messages-for Check input = record { rest = _; same = refl }
 
--- what some of the first lines make is first in both texts of the result
+-- the output and messages of some first lines are prefixes of the result's
 module _ (task : Task) (input : List ℕ) (lines others : List InputLine)
     (first : lines_of input ≡ lines ++ others) where
   pub output-first : Begins (result_for task input).output ((filter_for task).so_far lines).output
@@ -56,7 +56,7 @@ module _ (task : Task) (input : List ℕ) (lines others : List InputLine)
       (notices_text ((filter_for task).so_far lines).warnings)
   messages-first = begins-then _ _ _ (messages-for task input) (rw first (warned-first task lines others))
 
--- so are the warnings of the next one, or of the end
+-- so are the warnings of the next line, or of the end
 module _ (task : Task) (input : List ℕ) (lines : List InputLine) where
   messages-next : (others : List InputLine) → lines_of input ≡ lines ++ others
       → Begins (result_for task input).messages
@@ -66,7 +66,7 @@ module _ (task : Task) (input : List ℕ) (lines : List InputLine) where
       messages-first task input (with_next lines line) others (first ∙ sym (append_assoc lines
       (line ∷ []) others))
 
-  -- the warnings of the lines before it, and then some of its own
+  -- the warnings of the lines before it, followed by some of its own
   pub messages-own : (others : List InputLine) → lines_of input ≡ lines ++ others → (notices : List At)
       → (notices ≡ []) ⊎ AreNext ((filter_for task).so_far lines)
       (with_one_more (filter_for task) lines others) notices → Begins (result_for task input).messages
@@ -102,7 +102,7 @@ module _ (task : Task) (reader : Reader) (fed : List ℕ) (taken : BothTexts) wh
     within = over.few;
   }
 
-  -- how a run stands whose end was reported
+  -- the end of a run whose input has ended
   abbrev Last : FilterResult → Type 0
   Last result = (result ≡ result_for task fed) ⊎ (StopsAtLimit (run_for task) fed result
       ⊎ StopsForMemory (IsLastLine fed) (run_for task) fed result)
@@ -126,12 +126,12 @@ pub sound-holds : {handle : Handle} → IsSoundHandle handle → handle.is_open 
     → (reader : Reader) × Holds handle reader
 sound-holds sound is_open = let is = sound is_open in (is.3.reader, is.3.holds)
 
--- a handle stands as the reader does that it holds
+-- a handle is in the state of its reader
 pub stood : {task : Task} {handle : Handle} {fed : List ℕ} {taken : BothTexts} {reader : Reader}
     → Holds handle reader → HandleStands task handle fed taken → ReaderStands task reader fed taken
 stood {task} {handle} {fed} {taken} {reader} holds stands = grind arith
 
--- so there is that by which its reader stands
+-- so its reader's state is given by some bytes and texts
 pub sound-stands : {handle : Handle} {reader : Reader} → IsSoundHandle handle → handle.is_open ≡ true
     → Holds handle reader → (task : Task) × (fed : List ℕ) × (taken : BothTexts)
     × ReaderStands task reader fed taken
@@ -144,7 +144,7 @@ pub handle-promise : {task : Task} {handle : Handle} {fed : List ℕ} {taken : B
 handle-promise {task} {handle} {fed} {taken} {reader} {answer} stands holds answers =
     rw (holds, answers) (stands-by task reader fed taken reader.outcome (stood holds stands))
 
--- what is promised of a handle that was fed
+-- the promises of a handle that was fed
 module _ {task : Task} {old new : Handle} {fed : List ℕ} {taken : BothTexts} {bytes : List ℕ} {used : ℕ}
     {answer : Answer} (is : FeedsHandle task old new fed taken bytes used answer)
     (stands : HandleStands task old fed taken) where
@@ -185,7 +185,7 @@ module _ {task : Task} {old new : Handle} {fed : List ℕ} {taken : BothTexts} {
               taken is.after.outcome passed.2 (λ result is. is)).1,
         )) (either-fed feeds-bytes))
 
--- and of one whose input has ended
+-- and of a handle whose input has ended
 module _ {task : Task} {old new : Handle} {fed : List ℕ} {taken : BothTexts} {answer : Answer}
     (is : EndsHandle task old new fed taken answer) (stands : HandleStands task old fed taken) where
   pub ends-on : HandleStands task new fed taken

@@ -1,4 +1,4 @@
--- The words of the proofs over raw pointers, of this crate, of std and of the logic.
+-- The vocabulary of the proofs over raw pointers, from this crate, std and the logic.
 pub use Rattle.std.proofs.Common.{◌≡◌, List, [], ◌∷◌, ◌++◌, refl, subst, sym, ap, ◌∙◌}
 pub use Rattle.std.proofs.raw_atomic.Walks.{proved_at, leaves}
 pub use Rattle.std_alloc.proofs.BoxSteps.Steps.{box_out, box_in}

@@ -1,4 +1,4 @@
--- A reader's run has ended as the whole run of its input does.
+-- A reader's run has ended like the whole run of its input.
 use Rattle.std.proofs.{lemmas.Grind.common_steps}
 use Rattle.rnxcmp_c.proofs.Words.{◌≡◌, ◌⊎◌, inl, inr, ⊎_elim, ℕ, List, ◌++◌, Some, None, refl, ◌≤◌, ◌+◌}
 use Rattle.rnxcmp_c.proofs.Words.{◌∷◌, []}
@@ -22,18 +22,18 @@ lawful-for (Compact choices limit) = compaction-lawful choices
 lawful-for (Expand choices limit) = expansion-lawful choices
 lawful-for Check = check-lawful
 
--- the output of a result is that of the filter
+-- the output of a result is the filter's
 pub output-for : (task : Task) (input : List ℕ) → (result_for task input).output ≡ ((filter_for task).whole
     (lines_of input)).output
 output-for = grind arith
 
--- the result of an input in whose run a fault came
+-- the result of an input with a fault
 failed-for : (task : Task) (input : List ℕ) (at : At) → ((filter_for task).whole
     (lines_of input)).fault ≡ Some at
     → result_of_course ((filter_for task).whole (lines_of input)) ≡ result_for task input
 failed-for = grind (arith, common_steps)
 
--- a run that has ended with one of some results has ended with one of more
+-- a run that has ended with one of some results has ended with one of more results
 pub ended-as : {P Q : FilterResult
     → Type 0} {limit : ℕ} {held : HandleState} {taken : BothTexts} {outcome : Outcome}
     → EndsWithin limit P held taken outcome → ((result : FilterResult) → P result → Q result)
@@ -45,7 +45,7 @@ same-failures : (mid held : HandleState) (outcome : Outcome) (stop : Stop) → E
 same-failures = grind arith
 
 module _ {mid held : HandleState} {taken : BothTexts} {outcome : Outcome} where
-  -- what stopped a run is how it has ended, once the message of a fault was put down
+  -- the reason of a run's end gives its outcome, after the message of a fault was added
   pub put-ends : {P : FilterResult → Type 0} {limit : ℕ} (stop : Stop) → StopsAs limit P mid taken stop
       → EndsRunBy mid held outcome stop → EndsWithin limit P held taken outcome
   put-ends (Fault at) stopped put = grind (arith, common_steps, append_assoc, put, stopped)
@@ -67,7 +67,7 @@ module _ {mid held : HandleState} {taken : BothTexts} {outcome : Outcome} where
       inr (early-weaker (λ n at. at) same.0 same.1 early))
       is)
 
-  -- a byte more than an input may have ended it
+  -- a byte above the input's limit ended it
   pub passed-over : (task : Task) (fed : List ℕ) → IsSoFar (run_for task) mid taken (ended_lines_of fed)
       → length fed ≡ INPUT_LIMIT → IsPut mid held (record { line = mid.number + 1; fault = InputTooLong })
       outcome
@@ -109,7 +109,7 @@ all-over task held fed taken outcome then is_of ended all status = record {
 pub length-begins : (text first : List ℕ) → Begins text first → length first ≤ length text
 length-begins text first begins = omega (arith, ap length begins.same, length-append first begins.rest)
 
--- what some lines make with one more of those that follow, or with the end, is first in what all of them make
+-- the output of some lines and the next one, or the end, is a prefix of the output of all lines
 pub one_more-first : (filter : Filter) → IsLawful filter → (lines others : List InputLine)
     → Begins (filter.whole (lines ++ others)).output (with_one_more filter lines others).output
 one_more-first filter lawful lines [] = grind (arith, common_steps, append-nil)

@@ -1,4 +1,4 @@
--- What was collected of a whole run is its result, or its output is longer than it may be.
+-- The texts collected from a whole run are its result, or its output is longer than its limit.
 use Rattle.std.proofs.lemmas.{Bool.cases_lt, Grind.common_steps}
 use Rattle.rnxcmp_c.proofs.{GoingLemmas.begins-then, ReaderLemmas.lawful-for}
 use Rattle.rnxcmp_c.proofs.{ReaderLemmas.output-for, Words.{◌≡◌, ⊎_elim, inl, inr, ℕ, ◌≤◌, List, [], ◌++◌}}
@@ -19,18 +19,18 @@ use Rattle.rnxcmp_c.proofs.Words.{At, Option, None, Some, ◌-◌}
 use Rattle.std.specs.Prelude.{◌^◌}
 use Rattle.crx_lines.specs.meaning.Devices.{tally_of}
 
--- a text was put into a room as far as it fits, and then all of it
+-- copying the part of a text that fits is copying the text
 placed-taken : (text room : List ℕ) → placed (take (length room) text) room ≡ placed text room
 placed-taken text room = grind (arith, common_steps, ⊎_elim, cases_lt)
 
 module _ {outcome : Outcome} {output messages : Counted} {most : ℕ} {answer : Answer} {before after :
     BothTexts} where
-  -- an answer that says that memory ran out has no texts
+  -- an answer that says that memory was refused has no texts
   pub answers-alone : AnswersRun outcome output messages most answer before after → HasNoMemory answer
       → AnswersAlone 1 answer.line (code_of_fault OutOfMemory) answer before after
   answers-alone = grind arith
 
--- what gives bytes of the caller's input, by what is left of them, and what collects a text
+-- the source of the caller's input, by the bytes left, and a sink that collects a text
 abbrev gives : List ℕ → List ℕ → ℕ → ℕ → Input
 gives before after ends then_ends = record {
   gave = λ given. before ≡ given ++ after;
@@ -47,7 +47,7 @@ collects before after = record {
   after = record { failures = after.failures; flushes = after.flushes };
 }
 
--- whatever ended a run, its sinks take as much as before
+-- however a run ended, its sinks take as much as before
 module _ (task : Task) {left rest given : List ℕ} {ends then_ends : ℕ} {outcome : Outcome}
     {output_before output_after messages_before messages_after : Counted}
     (runs : RunsAs (result_for task) (filter_for task) (gives left rest ends then_ends) given
@@ -82,7 +82,7 @@ module _ (task : Task) {left rest given : List ℕ} {ends then_ends : ℕ} {outc
       → counted_most ≡ taken_of most → told_most ≡ 2 ^ 64 - 1 → TakeEnough output_after messages_after most
   take-enough empty none_told counted all = grind (arith, runs.front, told outcome.fault refl)
 
--- what a run wrote and reported for a task, to sinks with the rooms of a call
+-- the output and messages of a run for a task, in sinks with the room of a call's buffers
 module _ (task : Task) {left rest given text : List ℕ} {ends then_ends : ℕ} {outcome : Outcome}
     {output_before output_after messages_before messages_after : Counted}
     (runs : RunsAs (result_for task) (filter_for task) (gives left rest ends then_ends) given
@@ -94,7 +94,7 @@ module _ (task : Task) {left rest given text : List ℕ} {ends then_ends : ℕ} 
   abbrev whole : FilterResult
   whole = result_for task text
 
-  -- what was written by then is first in the whole output
+  -- the bytes written are a prefix of the whole output
   first-written : IsFrontPart (filter_for task) (gives left rest ends then_ends) given
       (collects output_before output_after)
       → (written : List ℕ) × Took output_before written output_after × Begins whole.output written

@@ -1,4 +1,4 @@
--- What was taken from a handle was kept before, and its run's state doesn't change by that.
+-- The texts taken from a handle were kept before, and taking them doesn't change the run's state.
 use Rattle.std.proofs.{lemmas.Grind.common_steps, Common.arith}
 use Rattle.rnxcmp_c.proofs.Words.{◌≡◌, inl, inr, ⊎_elim, ℕ, List, ◌++◌, Option, Some, None, sym, subst}
 use Rattle.rnxcmp_c.proofs.Words.{append_assoc, KeepsToLimit, Outcome, StandsBy, limit_for, BothTexts}

@@ -1,4 +1,4 @@
--- The output stays within its limit, or what a line made is let go of.
+-- The output stays within its limit, or the output of the line is dropped.
 use Rattle.std.proofs.{Common.{rules, Result, Ok, Err}, lemmas.Grind.common_steps, lemmas.Result.IfErr-at_err}
 use Rattle.rnxcmp_c.proofs.Words.{◌≡◌, ℕ, ◌+◌, ◌<◌, List, [], ◌++◌, length, take, refl, sym, ap, ◌∙◌, arith}
 use Rattle.rnxcmp_c.proofs.Words.{length-append, ◌⊎◌, inl, inr, ⊎_elim, append-nil, Bool, ◌||◌, Option, IfErr}
@@ -8,12 +8,12 @@ use Rattle.rnxcmp_c.proofs.Words.{waiting, HandleState, Stop, Fault, Limit, take
 use Rattle.rnxcmp_c.specs.{Going.LosesText, declared.handle_state.Mark.Mark}
 use Rattle.rnxcmp_c.specs.Holding.{AreCutTo, IsCounted, IsCutBack, StaysWithin, IsMark, IsMarkWithin}
 
--- a text that was cut back to where it was
+-- a text that was cut back to its earlier length
 cut-to : (old mid new more : List ℕ) (mark : ℕ) → mid ≡ old ++ more → mark ≡ length old → new ≡ take mark mid
     → new ≡ old
 cut-to old mid new more mark grew marked cut = cut ∙ ap (take mark) grew ∙ take_at old more mark (sym marked)
 
--- what of both texts was kept of a line, or of the end, that was taken or ended the run
+-- the parts kept of both texts of a line, or of the end, that was taken or ended the run
 pub record HasPart (before after : Course) (old mid : HandleState) : Type 0 where
   pub text : List ℕ
   pub told : List ℕ
@@ -66,7 +66,7 @@ module _ (number : ℕ) (memory : Option (List At)) (before after : Course) (old
     stops-over : HasPart before after old mid → IsCutBack mark mid new → PassesLimit before after old new
     stops-over part back = grind (arith, common_steps, length-append, ⊎_elim, cut-to)
 
--- whatever a step came to, its output was counted after a mark
+-- after any step its output was counted from a mark
 module _ (number : ℕ) (memory : Option (List At)) (before after : Course) (shown : Type 0)
     (old mid : HandleState) where
   abbrev pub Kept : Result Bool Halt → Type 0

@@ -1,4 +1,4 @@
--- The words in which these proofs speak: the definitions of this crate, of the crates below, and of std.
+-- The vocabulary of these proofs: the definitions of this crate, of the crates below, and of std.
 pub use Rattle.std.proofs.Common.{◌≡◌, inl, inr, ℕ, Bool, true, List, [], ◌∷◌, ◌++◌, take, drop, Option, Some}
 pub use Rattle.std.proofs.Common.{None, refl, sym, ap, ◌∙◌, append-nil, append_assoc, arith, length}
 pub use Rattle.std.proofs.Common.{length-append, ◌⊎◌, ⊎_elim, subst, ◌-◌, ◌<◌, false, is_some, length-take}

@@ -1,22 +1,23 @@
--- What a sink takes that keeps the first bytes and counts the others; and that it takes texts one after another.
+-- A sink that keeps the first bytes and counts all; and that it takes texts one after another.
 use Rattle.std.specs.Prelude.{◌≡◌, ◌⊎◌, ◌<◌, ℕ, ◌+◌, true, List, [], ◌∷◌, ◌++◌, length, min, take, vec_capacity}
 use Rattle.std.proofs.Common.{zero, suc, refl, sym, ap, ◌∙◌, arith, append-nil, append_assoc, length-append}
 use Rattle.std.proofs.lemmas.List.{take_all}
 use Rattle.rnxcmp_c.specs.declared.devices.Counted.{Counted}
 
--- some bytes were taken: all were counted, and as many kept as there is room for
+-- some bytes were taken: all were counted, and kept as far as there is room
 pub record Took (before : Counted) (bytes : List ℕ) (after : Counted) : Type 0 where
   pub room : after.room ≡ before.room
   pub most : after.most ≡ before.most
   pub count : after.count ≡ before.count + length bytes
   pub kept : after.bytes.items ≡ take before.room (before.bytes.items ++ bytes)
 
--- so many bytes were refused: some were before; it has as many as it may take; or its buffer was too small for what it keeps of them
+-- `count` bytes were refused: some were refused before; the sink has taken its most; or its buffer was too small to
+-- keep them
 abbrev pub CannotTake : Counted → ℕ → Type 0
 CannotTake s count = (s.lost ≡ true) ⊎ ((s.count ≡ s.most)
     ⊎ (vec_capacity s.bytes < min s.room (length s.bytes.items + count)))
 
--- what is taken of a text doesn't depend on what was cut off at the same place before
+-- cutting a text off first doesn't change its first `n` bytes
 pub take-of_taken : (n : ℕ) (xs ys : List ℕ) → take n (take n xs ++ ys) ≡ take n (xs ++ ys)
 take-of_taken zero xs ys = refl
 take-of_taken (suc n) [] ys = refl

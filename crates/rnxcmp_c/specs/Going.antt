@@ -29,13 +29,13 @@ use Rattle.rnxcmp_c.specs.declared.answer.TheConstants.{OUTPUT_LIMIT}
 use Rattle.rnxcmp_c.specs.declared.stop.Stop.{Stop}
 use Rattle.rnxcmp_c.specs.declared.stop.Stop.TheVariants.{Fault, Limit}
 
--- the line of some bytes, by whether an LF followed them
+-- the line of some bytes; `is_ended`: an LF followed them
 abbrev pub piece_line : List ℕ → Bool → InputLine
 piece_line bytes is_ended = line_of (record { bytes = bytes; is_ended = is_ended })
 
 -- ---- one line, or the end
 
--- a line was taken, or the end: what it adds was kept
+-- a line or the end was taken: the output and warnings it adds were kept
 pub record IsKept (before after : Course)
     (shown : Type 0) (output then_output messages then_messages : Pending) (warned : Bool) : Type 0 where
   pub is_shown : shown
@@ -50,13 +50,13 @@ pub record IsKept (before after : Course)
   pub messages_good : then_messages.failures ≡ messages.failures
   pub flag : warned ≡ are_some notices
 
--- the same of what is held between two calls
+-- the same for the state between two calls
 pub record MovesOn (before after : Course) (shown : Type 0) (old new : HandleState) : Type 0 where
   pub warned : Bool
   pub kept : IsKept before after shown old.output new.output old.messages new.messages warned
   pub flag : new.warned ≡ (old.warned || warned)
 
--- a fault ended the run there, after some warnings
+-- a fault ended the run, after some warnings
 pub record EndsThere (before after : Course) (output then_output messages then_messages : Pending)
     (at : At) : Type 0 where
   pub fault : after.fault ≡ Some at
@@ -66,11 +66,11 @@ pub record EndsThere (before after : Course) (output then_output messages then_m
   pub wrote : waiting then_output ≡ waiting output
   pub reported : waiting then_messages ≡ waiting messages ++ notices_text notices
 
--- memory ran out at a line of this number
+-- memory was refused at line `number`
 abbrev pub RanOutAt : ℕ → At → Type 0
 RanOutAt number at = (at.fault ≡ OutOfMemory) × (at.line ≡ number)
 
--- there was no memory for the line itself, once these of its warnings were reported
+-- memory for the line itself was refused, after these of its warnings were reported
 pub record LacksMemory (memory : Option (List At)) (before after : Course)
     (output then_output messages then_messages : Pending) : Type 0 where
   pub notices : List At
@@ -79,7 +79,7 @@ pub record LacksMemory (memory : Option (List At)) (before after : Course)
   pub wrote : waiting then_output ≡ waiting output
   pub reported : waiting then_messages ≡ waiting messages ++ notices_text notices
 
--- a text was to become longer by what is between two others, and it failed to take all of that
+-- a text had to grow from `before` to `after`, and failed to take all of that
 pub record FailsToTake (before after : List ℕ) (old new : Pending) : Type 0 where
   pub failed : new.failures ≡ one_more old.failures
   pub longer : length before < length after
@@ -90,7 +90,7 @@ FailsOneText before after output then_output messages then_messages =
     FailsToTake before.output after.output output then_output
     ⊎ FailsToTake (notices_text before.warnings) (notices_text after.warnings) messages then_messages
 
--- so both texts became longer by parts of that
+-- both texts grew by parts of that
 pub record LosesText (before after : Course)
     (output then_output messages then_messages : Pending) : Type 0 where
   pub text : List ℕ
@@ -100,14 +100,14 @@ pub record LosesText (before after : Course)
   pub reported : waiting then_messages ≡ waiting messages ++ told
   pub lost : FailsOneText before after output then_output messages then_messages
 
--- there was no memory for a line, or a fault ended the run
+-- memory for a line was refused, or a fault ended the run
 abbrev pub LineStops : ℕ → Option (List At) → Course → Course → Pending → Pending → Pending → Pending → At
     → Type 0
 LineStops number memory before after output then_output messages then_messages at =
     (RanOutAt number at × LacksMemory memory before after output then_output messages then_messages)
     ⊎ EndsThere before after output then_output messages then_messages at
 
--- what a line, or the end, left that ended the run
+-- the state after a line, or the end, that ended the run
 abbrev pub StopsBy : ℕ → Option (List At) → Course → Course → Pending → Pending → Pending → Pending → Halt
     → Type 0
 StopsBy number memory before after output then_output messages then_messages (Faulty at) =
@@ -117,8 +117,8 @@ StopsBy number memory before after output then_output messages then_messages Unw
 StopsBy number memory before after output then_output messages then_messages Unreported =
     LosesText before after output then_output messages then_messages
 
--- memory ran out at a line, or at the end: for itself, once these of its warnings were reported, or for one
--- of both texts, which are as before then
+-- memory was refused at a line or at the end: for the line itself, after these of its warnings were reported, or for
+-- one of the texts, which are then as before
 pub record StopsShort (memory : Option (List At)) (before after : Course) (old new : HandleState) : Type 0 where
   pub notices : List At
   pub asked : AsksMemory memory before after notices
@@ -130,13 +130,13 @@ pub record StopsShort (memory : Option (List At)) (before after : Course) (old n
 
 -- ---- the limit of the output
 
--- a line was taken, or the end, and the output stays within its limit
+-- a line or the end was taken, and the output stays within its limit
 pub record MovesWithin (before after : Course) (shown : Type 0) (old new : HandleState) : Type 0 where
   pub moved : MovesOn before after shown old new
   pub limit : new.limit ≡ old.limit
   pub left : 0 < old.limit → new.left + length after.output ≡ old.left + length before.output
 
--- the output would be longer than it may be: of the line, or of the end, nothing was kept
+-- the output would be longer than its limit: nothing of the line, or of the end, was kept
 pub record PassesLimit (before after : Course) (old new : HandleState) : Type 0 where
   pub limited : 0 < old.limit
   pub limit : new.limit ≡ old.limit
@@ -144,12 +144,12 @@ pub record PassesLimit (before after : Course) (old new : HandleState) : Type 0 
   pub output_is : waiting new.output ≡ waiting old.output
   pub messages_are : waiting new.messages ≡ waiting old.messages
 
--- what was kept of a line, or of the end, stays within what the output may still have
+-- the output kept of a line, or of the end, is within its limit
 pub record AddsWithin (old new : HandleState) : Type 0 where
   pub limit : new.limit ≡ old.limit
   pub left : 0 < old.limit → length (waiting new.output) ≤ old.left + length (waiting old.output)
 
--- what ended the run: a fault, or memory that ran out, and the output stays within its limit; or that limit
+-- the run ended by a fault or by refused memory, with its output within the limit; or by that limit
 abbrev pub StepStops : ℕ → Option (List At) → Course → Course → HandleState → HandleState → Stop → Type 0
 StepStops number memory before after old new (Fault at) =
     ((RanOutAt number at × StopsShort memory before after old new)
@@ -159,7 +159,8 @@ StepStops number memory before after old new Limit = PassesLimit before after ol
 
 -- ---- a run
 
--- of so many bytes some were taken: at least one where little enough waited, and not all only where much waits now
+-- `count` of `length` bytes were used: at least one if fewer than READY_LIMIT bytes waited, and all unless as many wait
+-- now
 pub record IsTaken (old new : HandleState) (length count : ℕ) : Type 0 where
   pub within : count ≤ length
   pub some : 0 < length → ready_in old < READY_LIMIT → 0 < count
@@ -168,7 +169,7 @@ pub record IsTaken (old new : HandleState) (length count : ℕ) : Type 0 where
 
 -- ---- one line, by the filter
 
--- a line that comes after some lines was given to an engine: it was taken, or it ended the run
+-- a line after some others was fed to an engine: it was taken, or it ended the run
 abbrev pub LineIsGiven : Result Bool Halt → Filter → (List InputLine → List Awaited → Type 0) → List InputLine
     → InputLine → Pending → Pending → Pending → Pending → Type 0
 LineIsGiven given filter shows lines line output then_output messages then_messages =
@@ -177,7 +178,7 @@ LineIsGiven given filter shows lines line output then_output messages then_messa
     × IfErr given (λ halt. StopsBy (length lines + 1) (filter.memory_after lines line) (filter.so_far lines)
     (filter.so_far (with_next lines line)) output then_output messages then_messages halt)
 
--- a line was taken so that the output stays within its limit, or it ended the run
+-- a line was taken and the output stays within its limit, or the line ended the run
 abbrev pub LineStaysWithin : Result Unit Stop → Filter → (List InputLine → List Awaited → Type 0) → List InputLine
     → InputLine → HandleState → HandleState → Type 0
 LineStaysWithin taken filter shows lines line old new =
@@ -186,18 +187,18 @@ LineStaysWithin taken filter shows lines line old new =
     × IfErr taken (λ stop. StepStops (length lines + 1) (filter.memory_after lines line) (filter.so_far lines)
     (filter.so_far (with_next lines line)) old new stop)
 
--- the end of the input was taken so, after some lines, or it ended the run
+-- the end of the input was taken in the same way after some lines, or it ended the run
 abbrev pub EndStaysWithin : Result Unit Stop → Filter → Type 0 → List InputLine → HandleState → HandleState → Type 0
 EndStaysWithin taken filter has_ended lines old new =
     OnOk taken (MovesWithin (filter.so_far lines) (filter.whole lines) has_ended old new)
     × IfErr taken (λ stop. StepStops old.number None (filter.so_far lines) (filter.whole lines) old new stop)
 
--- a text was written and reported: what was taken of it, and then what is kept
+-- the texts of a course are the texts taken, followed by the texts kept
 pub record IsText (course : Course) (held : HandleState) (taken : BothTexts) : Type 0 where
   pub wrote : course.output ≡ taken.output ++ waiting held.output
   pub reported : notices_text course.warnings ≡ taken.messages ++ waiting held.messages
 
--- some lines were taken, and no fault ended the run: what they make was taken by the caller or is kept
+-- some lines were taken, and no fault ended the run: their output and messages were taken by the caller or are kept
 pub record IsSoFar (run : TaskRun) (held : HandleState) (taken : BothTexts) (lines : List InputLine)
     : Type 0 where
   pub lawful : IsLawful run.filter
@@ -209,7 +210,8 @@ pub record IsSoFar (run : TaskRun) (held : HandleState) (taken : BothTexts) (lin
   pub left : 0 < run.limit → held.left + length (run.filter.so_far lines).output ≡ run.limit
   pub unfailed : AreUnfailed held
 
--- the lines whose LF was fed were taken, none is pending, and the bytes after them are kept, as far as a line may be long
+-- the lines whose LF was fed were taken, none is pending, and the bytes after them are kept, up to the length limit of
+-- a line
 pub record IsGoing (run : TaskRun) (ready : List (List ℕ)) (shows : List InputLine → List Awaited → Type 0)
     (held : HandleState) (fed : List ℕ) (taken : BothTexts) : Type 0 where
   pub drained : ready ≡ []
@@ -223,25 +225,25 @@ pub record IsGoing (run : TaskRun) (ready : List (List ℕ)) (shows : List Input
       → ended_lines_of (fed ++ more) ≡ ended_lines_of fed ++ ended_lines_of (tail ++ more)
   pub counted : held.number + length tail ≤ length fed
 
--- ---- what stops a run
+-- ---- the end of a run
 
--- the number of the line that comes after some lines; of the last of them where none does
+-- the number of the next line after some lines, or of the last of them if none follows
 abbrev pub line_reached : List InputLine → List InputLine → ℕ
 line_reached lines [] = length lines
 line_reached lines (line ∷ more) = length lines + 1
 
--- memory ran out at such a line, or at the end, which takes memory, or a write to one of the texts failed
+-- memory was refused at such a line or at the end, for the line itself or for one of the texts
 pub record RanOutOfMemory (is_line : ℕ → Type 0) (run : TaskRun) (input : List ℕ) (held : HandleState)
     (result : FilterResult) : Type 0 where
   pub stops : StopsForMemory is_line run input result
   pub lacking : IsMemoryLacking (is_some (memory_next run.filter stops.lines stops.others)) held
 
--- the output would be longer than it may be, or memory ran out
+-- the output would be longer than its limit, or memory was refused
 abbrev pub StopsEarly : (ℕ → Type 0) → TaskRun → List ℕ → HandleState → FilterResult → Type 0
 StopsEarly is_line run input held result =
     StopsAtLimit run input result ⊎ RanOutOfMemory is_line run input held result
 
--- a fault is in what the lines of an input make
+-- the lines of an input have a fault
 pub record FailsIn (filter : Filter) (input : List ℕ) (result : FilterResult) : Type 0 where
   pub at : At
   pub fault : (filter.whole (lines_of input)).fault ≡ Some at
@@ -256,7 +258,7 @@ abbrev pub fault_by : Stop → Option At
 fault_by (Fault at) = Some at
 fault_by Limit = None
 
--- a run was stopped as it ends with one of these results: all of it is there but the message of its fault
+-- a run was stopped with one of these results: everything of it is kept except the message of its fault
 pub record StopsAs (limit : ℕ) (is_one : FilterResult → Type 0) (held : HandleState) (taken : BothTexts)
     (stop : Stop) : Type 0 where
   pub result : FilterResult
@@ -272,7 +274,7 @@ abbrev pub RunIsStopped : (ℕ → Type 0) → TaskRun → List ℕ → HandleSt
 RunIsStopped is_line run input held taken stop = StopsAs run.limit
     (λ result. FailsIn run.filter input result ⊎ StopsEarly is_line run input held result) held taken stop
 
--- the number of a line whose line end is among the bytes that came after others
+-- the number of a line whose LF was fed after `before`
 abbrev pub IsLineEnded : List ℕ → List ℕ → ℕ → Type 0
 IsLineEnded before fed line = (length (ended_lines_of before) < line) × (line ≤ length (ended_lines_of fed))
 
@@ -280,8 +282,8 @@ IsLineEnded before fed line = (length (ended_lines_of before) < line) × (line �
 abbrev pub IsLastLine : List ℕ → ℕ → Type 0
 IsLastLine fed line = line ≡ length (lines_of fed)
 
--- of some bytes so many were taken, the last of them since little enough was ready, and the run goes on; or they ended
--- it, whatever follows
+-- the run continues: some of the bytes were used, the last one because fewer than READY_LIMIT bytes waited; or they
+-- ended the run, whatever follows
 abbrev pub GoesOnOrStops : Result ℕ Stop → TaskRun → (List ℕ → Type 0) → HandleState → List ℕ → BothTexts
     → List ℕ → Type 0
 GoesOnOrStops result run goes_on held fed taken bytes =
@@ -301,38 +303,38 @@ abbrev pub LastIsTaken : Result Unit Stop → TaskRun → Type 0 → HandleState
 LastIsTaken result run has_ended held fed taken = OnOk result (has_ended × IsAll run held fed taken)
     × IfErr result (RunIsStopped (IsLastLine fed) run fed held taken)
 
--- ---- any engine, with what is held beside it
+-- ---- any engine, with the state that is kept besides it
 
 module _ {E : Type 0} (e : Ghosts E) where
-  -- it takes a line, or the end: nothing that it made is left to be written
+  -- the engine can take a line or the end: no line is pending
   abbrev pub CanTake : E → Type 0
   CanTake engine = e.ready engine ≡ []
 
-  -- the same, once it has shown what some lines make
+  -- the same, after it has taken some lines
   abbrev pub HasShown : E → Type 0
   HasShown engine = CanTake engine × ((lines : List InputLine) × e.shows engine lines [])
 
-  -- a step keeps its filter, and where the run isn't over, it takes what comes next
+  -- a step keeps its filter and, unless the run has ended, the engine can take the next line
   abbrev pub KeepsItsRun : {A : Type 0} → E → E → Result A Stop → Type 0
   KeepsItsRun before after result = (e.filter after ≡ e.filter before) × OnOk result (CanTake after)
 
-  -- it is an engine of a run, which goes on
+  -- it is the engine of a run that continues
   abbrev pub IsRunning : TaskRun → E → HandleState → List ℕ → BothTexts → Type 0
   IsRunning run engine held fed taken =
       (run.filter ≡ e.filter engine) × IsGoing run (e.ready engine) (e.shows engine) held fed taken
 
-  -- and an input may have so many bytes more
+  -- and the input may have `count` more bytes
   abbrev pub CanBeFed : E → HandleState → ℕ → Type 0
   CanBeFed engine held count = (run : TaskRun) × (fed : List ℕ) × (taken : BothTexts)
       × IsRunning run engine held fed taken × (length fed + count ≤ INPUT_LIMIT)
 
-  -- what is kept of a line was taken as a line, which comes after some lines
+  -- the bytes kept of a line were taken as the line after some others
   abbrev pub LineIsTaken : E → E → HandleState → HandleState → Bool → Result Unit Stop → Type 0
   LineIsTaken before after old new is_ended result = (lines : List InputLine) (whole : List ℕ)
       → e.shows before lines [] → old.tail.bytes.items ≡ take LINE_ROOM whole
       → LineStaysWithin result (e.filter before) (e.shows after) lines (piece_line whole is_ended) old new
 
-  -- its run goes on with the first of these bytes, or they ended it
+  -- its run continues with the first of these bytes, or they ended it
   abbrev pub WasFed : E → E → HandleState → HandleState → List ℕ → Result ℕ Stop → Type 0
   WasFed before after old new bytes result = (run : TaskRun) (fed : List ℕ) (taken : BothTexts)
       → IsRunning run before old fed taken

@@ -66,36 +66,36 @@ has_ended_of (Compacting c) lines = ⊤
 has_ended_of (Expanding e) lines = ⊤
 has_ended_of (Checking c) lines = HasFound c.direction lines
 
--- an engine is of a task
+-- an engine of this task
 abbrev pub IsOf : Task → AnyEngine → Type 0
 IsOf (Compact choices limit) (Compacting c) = compaction_filter (compacting_state c).choices ≡ compaction_filter choices
 IsOf (Expand choices limit) (Expanding e) = expansion_filter e.options ≡ expansion_filter choices
 IsOf Check (Checking c) = ⊤
 IsOf task engine = ⊥
 
--- its run goes on between two calls
+-- its run continues between two calls
 abbrev pub EngineGoesOn : Task → AnyEngine → HandleState → List ℕ → BothTexts → Type 0
 EngineGoesOn task engine held fed taken =
     IsGoing (run_for task) (ready_of engine) (shows_of engine) held fed taken
 
--- and an input may have so many bytes more
+-- and the input may have `count` more bytes
 abbrev pub EngineCanBeFed : AnyEngine → HandleState → ℕ → Type 0
 EngineCanBeFed engine held count = (task : Task) × (fed : List ℕ) × (taken : BothTexts)
     × IsOf task engine × EngineGoesOn task engine held fed taken × (length fed + count ≤ INPUT_LIMIT)
 
--- it goes on with the first of these bytes, or they ended it
+-- its run continues with the first of these bytes, or they ended it
 abbrev pub EngineWasFed : AnyEngine → AnyEngine → HandleState → HandleState → List ℕ → Result ℕ Stop → Type 0
 EngineWasFed before after old new bytes result = (task : Task) (fed : List ℕ) (taken : BothTexts)
     → IsOf task before → EngineGoesOn task before old fed taken
     → GoesOnOrStops result (run_for task) (λ fed. EngineGoesOn task after new fed taken) new fed taken bytes
 
--- the end of its input was taken, or that ended it
+-- the end of its input was taken, or ended it early
 abbrev pub EngineHasEnded : AnyEngine → AnyEngine → HandleState → HandleState → Result Unit Stop → Type 0
 EngineHasEnded before after old new result = (task : Task) (fed : List ℕ) (taken : BothTexts)
     → IsOf task before → EngineGoesOn task before old fed taken
     → LastIsTaken result (run_for task) (has_ended_of after (lines_of fed)) new fed taken
 
--- the status after the end of the input where there is no fault
+-- the status after the end of the input without a fault
 abbrev pub status_at_end : AnyEngine → Bool → ℕ
 status_at_end (Compacting c) warned = good_status warned
 status_at_end (Expanding e) warned = good_status warned
@@ -103,33 +103,32 @@ status_at_end (Checking c) warned = report_status c.direction.noted.not_standard
 
 -- ---- a reader
 
--- the run goes on
+-- the run continues
 pub record ReaderRuns (task : Task) (reader : Reader) (fed : List ℕ) (taken : BothTexts) : Type 0 where
   pub is_of : IsOf task reader.engine
   pub going : EngineGoesOn task reader.engine reader.held fed taken
   pub counted : reader.fed ≡ length fed
   pub within : reader.fed ≤ INPUT_LIMIT
 
--- a run has ended with one of these results, or with all of it but the message of its fault: its texts are
--- what was taken, and then what is kept; and its output is within its limit
+-- a run has ended with one of these results, or with all of it except the message of its fault: its texts are the texts
+-- taken, followed by the texts kept; and its output is within its limit
 pub record EndsWithin (limit : ℕ) (is_one : FilterResult → Type 0) (held : HandleState) (taken : BothTexts)
     (outcome : Outcome) : Type 0 where
   pub ended : RunHasEnded is_one (joined_texts taken (texts_of_held held)) (texts_of_held held)
       (handle_answer outcome.status outcome.fault (texts_of_held held))
   pub few : KeepsToLimit limit (taken.output ++ waiting held.output)
 
--- the number of one of the lines of some bytes, or 0 where there is none
+-- the number of one of the lines of some bytes, or 0
 abbrev pub IsLineReached : List ℕ → ℕ → Type 0
 IsLineReached fed line = line ≤ length (lines_of fed)
 
--- a run has the result of the bytes that were fed, unless memory ran out, or the output or the input was too
--- long
+-- a run has the result of the bytes that were fed, unless memory was refused, or the output or the input was too long
 abbrev pub IsOverWith : Task → List ℕ → HandleState → FilterResult → Type 0
 IsOverWith task fed held result = (result ≡ result_for task fed)
     ⊎ (StopsEarly (IsLineReached fed) (run_for task) fed held result
     ⊎ StopsWhenFull (run_for task) fed result)
 
--- where it is: it goes on, or it has ended
+-- the state of a reader: its run continues, or has ended
 abbrev pub StandsBy : Task → Reader → List ℕ → BothTexts → Option Outcome → Type 0
 StandsBy task reader fed taken None = ReaderRuns task reader fed taken
 StandsBy task reader fed taken (Some outcome) =
@@ -138,7 +137,7 @@ StandsBy task reader fed taken (Some outcome) =
 abbrev pub ReaderStands : Task → Reader → List ℕ → BothTexts → Type 0
 ReaderStands task reader fed taken = StandsBy task reader fed taken reader.outcome
 
--- bytes that came after others have ended it, and so for every input that begins with them; the status of a
+-- the bytes fed after `before` have ended the run, for every input that begins with the bytes fed; the status of a
 -- fault is 1
 abbrev pub IsOverByBytes : List ℕ → Task → HandleState → List ℕ → BothTexts → Outcome → Type 0
 IsOverByBytes before task held fed taken outcome = (more : List ℕ) → EndsWithin (limit_for task)
@@ -158,18 +157,18 @@ HasEndedBy task is_one reader taken None = ⊥
 HasEndedBy task is_one reader taken (Some outcome) =
     EndsWithin (limit_for task) is_one reader.held taken outcome
 
--- by its end
+-- it has ended at the end of its input
 abbrev pub ReaderHasEnded : Task → Reader → List ℕ → BothTexts → Type 0
 ReaderHasEnded task reader fed taken = HasEndedBy task (λ result. (result ≡ result_for task fed)
     ⊎ StopsEarly (IsLastLine fed) (run_for task) fed reader.held result) reader taken reader.outcome
 
--- after a byte more than an input may have
+-- it has ended because its input is too long
 abbrev pub ReaderHasPassed : Task → Reader → List ℕ → BothTexts → Type 0
 ReaderHasPassed task reader fed taken =
     HasEndedBy task (StopsWhenFull (run_for task) fed) reader taken reader.outcome
 
--- a fault was put down, which is status 1: its message was kept; or that was refused, which is out of memory at
--- its line, and both texts are as they were
+-- the outcome of a fault, with status 1: its message was kept; or memory for the message was refused, at the same line,
+-- and both texts are as before
 pub record IsPut (old new : HandleState) (at : At) (outcome : Outcome) : Type 0 where
   pub status : outcome.status ≡ 1
   pub output : waiting new.output ≡ waiting old.output
@@ -180,12 +179,12 @@ pub record IsPut (old new : HandleState) (at : At) (outcome : Outcome) : Type 0 
       × (waiting new.messages ≡ waiting old.messages)
       × IsTextRefused old.messages (length (error_text (Some at))))
 
--- how a run has ended by what stopped it
+-- the outcome of a run, by its reason
 abbrev pub EndsRunBy : HandleState → HandleState → Outcome → Stop → Type 0
 EndsRunBy old new outcome (Fault at) = IsPut old new at outcome
 EndsRunBy old new outcome Limit = (outcome ≡ record { status = OUTPUT_LIMIT; fault = None }) × (new ≡ old)
 
--- ---- what a call answers
+-- ---- the answer of a call
 
 abbrev pub status_now : Option Outcome → ℕ
 status_now None = 0
@@ -195,13 +194,13 @@ abbrev pub fault_now : Option Outcome → Option At
 fault_now None = None
 fault_now (Some outcome) = outcome.fault
 
--- how the run is, and how many bytes are kept of the output and of the messages
+-- the run's status and fault, and the lengths of the output and messages kept
 abbrev pub answer_now : Reader → Answer
 answer_now reader =
     handle_answer (status_now reader.outcome) (fault_now reader.outcome) (texts_of_held reader.held)
 
--- so many more bytes were fed, a line's after another's, as long as little enough waited to be taken, and no more; or
--- there were some, and no more may be fed, which ends the run
+-- `used` of the bytes were fed, line after line, until READY_LIMIT bytes waited, and no more; or no byte may be fed any
+-- more, which ends the run
 pub record FeedsBytes (task : Task) (old new : Reader) (fed : List ℕ) (taken : BothTexts)
     (bytes : List ℕ) (used : ℕ) (answer : Answer) : Type 0 where
   pub answers : answer ≡ answer_now new
@@ -232,7 +231,7 @@ ReaderEndsBy task old new fed taken answer (Some outcome) = (answer ≡ bare_ans
 abbrev pub Ends : Task → Reader → Reader → List ℕ → BothTexts → Answer → Type 0
 Ends task old new fed taken answer = ReaderEndsBy task old new fed taken answer old.outcome
 
--- an engine of a task before its first line
+-- the engine of a task before its first line
 pub record IsFresh (task : Task) (engine : AnyEngine) : Type 0 where
   pub is_of : IsOf task engine
   pub drained : ready_of engine ≡ []

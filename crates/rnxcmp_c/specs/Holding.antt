@@ -1,4 +1,4 @@
--- What is held of a run between two calls, and how it is counted.
+-- The state of a run between two calls, and how its texts are counted.
 use Rattle.std.specs.Prelude.{◌≡◌, ◌≢◌, ◌⊎◌, ◌<◌, ◌≤◌, ℕ, ◌+◌, Bool, true, false, ◌||◌, [], length, take, Result, Ok, Err}
 use Rattle.crx_base.specs.declared.fault.Fault.TheVariants.{OutOfMemory}
 use Rattle.crx_runs.specs.declared.one_line.Halt.{Halt}
@@ -10,7 +10,7 @@ use Rattle.rnxcmp_c.specs.declared.handle_state.Mark.{Mark}
 use Rattle.rnxcmp_c.specs.declared.stop.Stop.{Stop}
 use Rattle.rnxcmp_c.specs.declared.stop.Stop.TheVariants.{Fault, Limit}
 
--- what waits of both texts to be taken
+-- both texts that wait to be taken
 abbrev pub texts_of_held : HandleState → BothTexts
 texts_of_held held = record { output = waiting held.output; messages = waiting held.messages }
 
@@ -23,11 +23,11 @@ pub record AreUnfailed (held : HandleState) : Type 0 where
   pub output : held.output.failures ≡ 0
   pub messages : held.messages.failures ≡ 0
 
--- a line takes memory, or a write to one of the texts failed
+-- a line needs memory, or a write to one of the texts failed
 abbrev pub IsMemoryLacking : Bool → HandleState → Type 0
 IsMemoryLacking takes held = (takes ≡ true) ⊎ ((held.output.failures ≢ 0) ⊎ (held.messages.failures ≢ 0))
 
--- nothing is held yet, and the output may have so many bytes
+-- the state before the first byte; `limit`: the most bytes of output
 pub record HoldsNothing (limit : ℕ) (held : HandleState) : Type 0 where
   pub tail : held.tail.bytes.items ≡ []
   pub number : held.number ≡ 0
@@ -38,7 +38,7 @@ pub record HoldsNothing (limit : ℕ) (held : HandleState) : Type 0 where
   pub messages : waiting held.messages ≡ []
   pub unfailed : AreUnfailed held
 
--- a mark is how much waits of both texts, or no more than that
+-- the lengths of both waiting texts, or at most these
 pub record IsMark (mark : Mark) (held : HandleState) : Type 0 where
   pub output : mark.output ≡ length (waiting held.output)
   pub messages : mark.messages ≡ length (waiting held.messages)
@@ -47,19 +47,19 @@ pub record IsMarkWithin (mark : Mark) (held : HandleState) : Type 0 where
   pub output : mark.output ≤ length (waiting held.output)
   pub messages : mark.messages ≤ length (waiting held.messages)
 
--- but for what the output may still have, which is less by what was added after so many bytes
+-- only the bytes left for the output changed, by the output added after `mark` bytes
 pub record StaysWithin (mark : ℕ) (old new : HandleState) : Type 0 where
   pub same : new ≡ record old { left = new.left }
   pub left : 0 < old.limit → new.left + length (waiting old.output) ≡ old.left + mark
 
--- a step was taken, whose output since a mark was counted, and so was whether there was a warning
+-- a step was taken: its output since `mark` was counted, and its warning was noted
 pub record IsCounted (taken : Result Bool Halt) (mark : Mark) (old new : HandleState) : Type 0 where
   pub warned : Bool
   pub is_taken : taken ≡ Ok warned
   pub same : new ≡ record old { left = new.left; warned = old.warned || warned }
   pub left : 0 < old.limit → new.left + length (waiting old.output) ≡ old.left + mark.output
 
--- what came of both texts since a mark was let go of
+-- everything added to both texts since a mark was dropped
 pub record AreCutTo (mark : Mark) (old new : HandleState) : Type 0 where
   pub limit : new.limit ≡ old.limit
   pub output_is : waiting new.output ≡ take mark.output (waiting old.output)
@@ -67,7 +67,7 @@ pub record AreCutTo (mark : Mark) (old new : HandleState) : Type 0 where
   pub output_good : new.output.failures ≡ old.output.failures
   pub messages_good : new.messages.failures ≡ old.messages.failures
 
--- more came of the output since a mark than it may have, and both texts were cut back to the mark
+-- more output was added since a mark than the limit allows, and both texts were cut back to the mark
 pub record IsCutBack (mark : Mark) (old new : HandleState) : Type 0 where
   pub limited : 0 < old.limit
   pub over : old.left + mark.output < length (waiting old.output)
@@ -77,8 +77,8 @@ pub record IsCutBack (mark : Mark) (old new : HandleState) : Type 0 where
 abbrev pub IsTextLost : {T : Type 0} → Result T Halt → Type 0
 IsTextLost taken = (taken ≡ Err Unwritten) ⊎ (taken ≡ Err Unreported)
 
--- what ended the run, once the output since a mark was counted: the fault of the step; one of both texts that
--- couldn't be kept, which is out of memory at a line of this number; or the limit of the output
+-- why the run ended, after the output since a mark was counted: the fault of the step; a text that couldn't be kept,
+-- which is refused memory at line `number`; or the limit of the output
 abbrev pub StopsCounted : {T : Type 0} → Result T Halt → Mark → ℕ → HandleState → HandleState → Stop → Type 0
 StopsCounted taken mark number old new (Fault at) =
     ((taken ≡ Err (Faulty at)) × StaysWithin mark.output old new)

@@ -1,5 +1,5 @@
--- All that a handle holds between two calls, part by part. By the law `handle_holds` one that takes over these parts of
--- another is that other; so there is no part beside them, in which a record of the past lines could grow.
+-- All parts of a handle between two calls. By the law `handle_holds` a reader that takes over these parts of another is
+-- the other; so it has no further part, in which a record of past lines could grow.
 use Rattle.std.specs.Prelude.{◌≤◌, ◌+◌, length}
 use Rattle.crx_filter.specs.Holdings.{checking_engine_with, compacting_engine_with, expanding_engine_with}
 use Rattle.rnxcmp_c.specs.Waiting.{waiting}
@@ -11,7 +11,7 @@ use Rattle.rnxcmp_c.specs.declared.pending.Pending.{Pending}
 use Rattle.rnxcmp_c.specs.declared.piece.Piece.{Piece}
 use Rattle.rnxcmp_c.specs.declared.reader.Reader.{Reader}
 
--- what is kept of a line, with the parts of another
+-- the bytes kept of a line, with the parts of another
 abbrev pub piece_with : Piece → Piece → Piece
 piece_with one other = record one { bytes = other.bytes; within = other.within; room = other.room }
 
@@ -27,7 +27,7 @@ pending_with one other = record one {
   bounded = other.bounded;
 }
 
--- what is held beside an engine, with the parts of another
+-- the state except the engine, with the parts of another
 abbrev pub held_with : HandleState → HandleState → HandleState
 held_with one other = record one {
   tail = piece_with one.tail other.tail;
@@ -56,8 +56,8 @@ reader_with one other = record one {
   outcome = other.outcome;
 }
 
--- how much is held beside the engine: of the last line what it may have, and of each text what waits, and no more than
--- that of what was taken
+-- the bounds of the state except the engine: of the last line at most LINE_ROOM bytes, and of each text the waiting
+-- bytes and at most as many that were taken
 pub record IsBounded (held : HandleState) : Type 0 where
   pub line : length held.tail.bytes.items ≤ LINE_ROOM
   pub output_waits : length (waiting held.output) ≤ WAITING_LIMIT

@@ -1,4 +1,4 @@
--- What a handle is, between two calls.
+-- A handle between two calls.
 use Rattle.std.specs.Prelude.{◌≡◌, ◌⊎◌, ℕ, Bool, true, false, List, [], ◌∷◌, length, drop}
 use Rattle.std.specs.Prelude.{Option, None, is_some}
 use Rattle.crx_base.specs.declared.fault.Fault.TheVariants.{OutOfMemory}
@@ -19,23 +19,23 @@ use Rattle.rnxcmp_c.specs.Waiting.{waiting}
 abbrev pub Holds : Handle → Reader → Type 0
 Holds handle reader = handle.place.held ≡ reader ∷ []
 
--- it is open, and holds a reader that is as what was fed and what was taken of both texts say
+-- the handle is open, and its reader is in the state given by the bytes fed and the texts taken
 pub record HandleStands (task : Task) (handle : Handle) (fed : List ℕ) (taken : BothTexts) : Type 0 where
   pub reader : Reader
   pub is_open : handle.is_open ≡ true
   pub holds : Holds handle reader
   pub stands : ReaderStands task reader fed taken
 
--- a handle that is closed, or as a call left it: what a C program owes
+-- a handle that is closed, or as a call left it: the obligation of a C program
 abbrev pub IsSoundHandle : Handle → Type 0
 IsSoundHandle handle = handle.is_open ≡ true
     → (task : Task) × (fed : List ℕ) × (taken : BothTexts) × HandleStands task handle fed taken
 
--- nothing was done to it
+-- the handle is unchanged
 abbrev pub IsUnchanged : Handle → Handle → Type 0
 IsUnchanged old new = new ≡ old
 
--- a handle that isn't open was misused, and nothing was done to it
+-- a handle that isn't open was misused, and is unchanged
 abbrev pub RefusesMisuse : Handle → Handle → Answer → Type 0
 RefusesMisuse old new answer = (answer ≡ bare_answer MISUSED 0 0) × IsUnchanged old new
 
@@ -59,7 +59,7 @@ run_in (reader ∷ more) = reader.outcome
 abbrev pub texts_kept : Handle → BothTexts
 texts_kept handle = texts_in handle.place.held
 
--- how the run of a handle has ended; nothing where it goes on
+-- how the run of a handle has ended; none if it continues
 abbrev pub run_state : Handle → Option Outcome
 run_state handle = run_in handle.place.held
 
@@ -67,8 +67,8 @@ run_state handle = run_in handle.place.held
 abbrev pub has_ended : Handle → Bool
 has_ended handle = is_some (run_state handle)
 
--- this is so for every task, and for all that was fed and taken, by which a handle is as it is; while its run
--- goes on; and once it has ended
+-- this is true for every task, and for all bytes fed and texts taken, that lead to this handle; while its run
+-- continues; and after its run has ended
 abbrev pub ByItsPast : Handle → (Task → List ℕ → BothTexts → Type 0) → Type 0
 ByItsPast handle IsSo = (task : Task) (fed : List ℕ) (taken : BothTexts)
     → HandleStands task handle fed taken → IsSo task fed taken
@@ -80,16 +80,16 @@ WhileItGoesOn handle IsSo =
 abbrev pub OnceItHasEnded : Handle → Type 0 → Type 0
 OnceItHasEnded handle IsSo = ByItsPast handle (λ task fed taken. has_ended handle ≡ true → IsSo)
 
--- a call to open a handle that answers no status 0 has done nothing to it, and one that is open stays as it is
+-- a call that should open a handle leaves it unchanged unless the status is 0; an open handle is misused
 pub record KeepsHandle (old new : Handle) (answer : Answer) : Type 0 where
   pub unchanged : (answer.status ≡ 0 → ⊥) → IsUnchanged old new
   pub misused : old.is_open ≡ true → answer ≡ bare_answer MISUSED 0 0
 
--- all went well, or there was no memory
+-- the handle was opened, or memory was refused
 abbrev pub AnswersOpening : Answer → Type 0
 AnswersOpening answer = (answer ≡ bare_answer 0 0 0) ⊎ (answer ≡ bare_answer 1 0 (code_of_fault OutOfMemory))
 
--- this is so of every expansion by which a handle is as it is, and of every check
+-- this is true of every expansion that leads to this handle, and of every check
 abbrev pub ForExpansions : Handle → (Choices → List ℕ → BothTexts → Type 0) → Type 0
 ForExpansions handle IsSo = (choices : Choices) (limit : ℕ) (fed : List ℕ) (taken : BothTexts)
     → HandleStands (Expand choices limit) handle fed taken → IsSo choices fed taken
@@ -97,16 +97,16 @@ ForExpansions handle IsSo = (choices : Choices) (limit : ℕ) (fed : List ℕ) (
 abbrev pub ForChecks : Handle → (List ℕ → Type 0) → Type 0
 ForChecks handle IsSo = (fed : List ℕ) (taken : BothTexts) → HandleStands Check handle fed taken → IsSo fed
 
--- this is so where neither memory nor the limit of the output ended a run
+-- this is true unless refused memory or the limit of the output ended the run
 abbrev pub WhereItEnded : Answer → Type 0 → Type 0
 WhereItEnded answer is_so = (HasNoMemory answer → ⊥) → (answer.status ≡ OUTPUT_LIMIT → ⊥) → is_so
 
--- all that was made of these bytes is as an expansion promises, some of it taken and the others kept
+-- all output and messages for these bytes, taken and kept, are as an expansion promises
 abbrev pub KeepsExpansion : Choices → List ℕ → BothTexts → Handle → Answer → Type 0
 KeepsExpansion choices fed taken handle answer =
     ExpansionPromises choices fed (joined_texts taken (texts_kept handle)) (texts_kept handle) answer
 
--- what became of a handle's run by some bytes
+-- the change of a handle's run by some bytes
 pub record FeedsHandle (task : Task) (old new : Handle) (fed : List ℕ) (taken : BothTexts) (bytes : List ℕ)
     (used : ℕ) (answer : Answer) : Type 0 where
   pub before : Reader
@@ -126,8 +126,8 @@ pub record EndsHandle (task : Task) (old new : Handle) (fed : List ℕ) (taken :
   pub is_open : new.is_open ≡ true
   pub ends : Ends task before after fed taken answer
 
--- what is kept of both texts was put into two rooms as far as it fits, and what is left of them is kept; how the
--- run is was answered, which is the same, and how much is left
+-- both texts kept were moved into two buffers as far as they fit, and the rest is kept; the answer has the run's state,
+-- which is unchanged, and how much is left
 pub record HandsOut (old new : List Reader) (before after : BothTexts) (answer : Answer) : Type 0 where
   pub output : after.output ≡ placed (output_kept old) before.output
   pub messages : after.messages ≡ placed (messages_kept old) before.messages

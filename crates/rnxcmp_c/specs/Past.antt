@@ -1,4 +1,4 @@
--- What a task makes of what comes next, where it asks for memory, and how many bytes a call takes.
+-- The next line or the end for a task: its memory, and how many bytes a call uses.
 use Rattle.std.specs.Prelude.{◌≡◌, ◌⊎◌, ◌<◌, ℕ, ◌+◌, ◌-◌, List, [], ◌∷◌, ◌++◌, length}
 use Rattle.std.specs.Prelude.{take, Option, Some, None}
 use Rattle.crx_base.specs.meaning.Lines.{InputLine}
@@ -20,21 +20,20 @@ result_for task = (run_for task).result
 abbrev pub filter_for : Task → Filter
 filter_for task = (run_for task).filter
 
--- the line that comes after some lines may take memory once these of its warnings are reported; the end takes
--- none
+-- the line after some lines may need memory after these of its warnings; the end needs none
 abbrev pub memory_next : Filter → List InputLine → List InputLine → Option (List At)
 memory_next filter lines [] = None
 memory_next filter lines (line ∷ more) = filter.memory_after lines line
 
--- a line, or the end, asks for memory once these of its warnings are reported: it takes memory itself after
--- these, or it adds to one of both texts, and then none is reported
+-- a line or the end needs memory after these of its warnings: for itself, or before any warning, to add to one of the
+-- texts
 abbrev pub AsksMemory : Option (List At) → Course → Course → List At → Type 0
 AsksMemory memory before after notices = (memory ≡ Some notices)
     ⊎ ((notices ≡ []) × ((length before.output < length after.output)
     ⊎ (length (notices_text before.warnings) < length (notices_text after.warnings))))
 
--- of these bytes so many were taken that without the last one less than READY_LIMIT was ready: what the lines
--- make whose line end was fed, but for what was taken of it
+-- `count` of these bytes were used; without the last one fewer than READY_LIMIT bytes waited: the output and messages
+-- of the lines whose LF was fed, minus the texts that were taken
 abbrev pub StopsSoon : TaskRun → List ℕ → BothTexts → List ℕ → ℕ → Type 0
 StopsSoon run fed taken bytes count =
     let less : Course = run.filter.so_far (ended_lines_of (fed ++ take (count - 1) bytes)) in

@@ -1,4 +1,4 @@
--- What a reader's box owns, as a handle holds it.
+-- The box of a reader in a handle, and what it owns.
 use Rattle.std.specs.Prelude.{List, [], ◌∷◌}
 use Rattle.std.specs.Coded.{coded_list}
 use base.Fml.{Fml, ftrue}

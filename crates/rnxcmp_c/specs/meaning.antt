@@ -1,4 +1,4 @@
--- What has to be believed: the definitions that the promises stand on. docs/READING.md gives their order.
+-- The definitions that have to be believed, because the promises rest on them. docs/READING.md gives their order.
 pub mod Answers
 pub mod Calls
 pub mod Ended

@@ -1,4 +1,4 @@
-//! What a call answers, and how its texts come into the caller's memory.
+//! The result of a call, and copying its texts into the caller's memory.
 
 ghost use Rattle.std.specs.Prelude.{◌≡◌};
 ghost use Rattle.crx_base.specs.meaning.Faults.{code_of_fault};
@@ -6,35 +6,35 @@ ghost use Rattle.rnxcmp_c.specs.meaning.Answers.{bare_answer, fault_code_in, lin
 
 use crx_base::{At, Fault};
 
-/// The status where the output doesn't fit into the caller's room.
+/// The status if the output doesn't fit into the caller's buffer.
 pub const NO_ROOM: u32 = 3;
 
-/// The status where the date is refused.
+/// The status if the date is refused.
 pub const BAD_DATE: u32 = 4;
 
-/// The status where a handle isn't open, or its run has ended.
+/// The status if a handle isn't open, or its run has ended.
 pub const MISUSED: u32 = 6;
 
-/// The status where the output has more bytes than it may have.
+/// The status if the output is longer than its limit.
 pub const OUTPUT_LIMIT: u32 = 7;
 
-/// What a call answers.
+/// The result of a call.
 #[repr(C)]
 #[derive(Clone, Copy, Debug, PartialEq, Eq)]
 pub struct Answer {
-    /// The line of the fault that ended the run, from 1; 0 where no line was read, or no fault ended it.
+    /// The line of the fault that ended the run, from 1; 0 if no line was read or no fault ended it.
     pub line: u64,
-    /// How many bytes the whole output has.
+    /// The length of the whole output, in bytes.
     pub output_length: usize,
-    /// How many bytes all messages have.
+    /// The length of all messages, in bytes.
     pub messages_length: usize,
-    /// 0, 1 or 2, as the exit status of the program; or one of the statuses above.
+    /// 0, 1 or 2, like the exit status of the program; or one of the statuses above.
     pub status: u32,
-    /// The number of the fault that ended the run; 0 where none did.
+    /// The number of the fault that ended the run, 0 if none did.
     pub code: u32,
 }
 
-/// An answer without texts.
+/// Returns an answer without texts.
 pub(crate) fn bare(status: u32, line: u64, code: u32) -> Answer
     ensures { result ≡ bare_answer status line code }
 {
@@ -47,15 +47,14 @@ pub(crate) fn bare(status: u32, line: u64, code: u32) -> Answer
     }
 }
 
-/// The answer of a run that a fault ended at this line, without texts.
+/// Returns the answer of a run that a fault ended at `line`, without texts.
 pub(crate) fn failed(line: u64, fault: Fault) -> Answer
     ensures { result ≡ bare_answer 1 line (code_of_fault fault) }
 {
     bare(1, line, u32::from(fault.code()))
 }
 
-/// Returns the fault of a run whose output or messages couldn't be kept: a write into memory failed at this
-/// line, because the system refused memory.
+/// Returns the fault of a run whose output or messages couldn't be kept at `line`, because the system refused memory.
 pub(crate) fn no_memory_at(line: u64) -> At
     ensures { result ≡ record { line = line; fault = Fault.OutOfMemory } }
 {
@@ -65,7 +64,7 @@ pub(crate) fn no_memory_at(line: u64) -> At
     }
 }
 
-/// The line and the number of the fault that ended a run; 0 for both where none did.
+/// Returns the line and the number of the fault that ended a run, both 0 if none did.
 pub(crate) fn line_and_code(fault: Option<At>) -> (u64, u32)
     ensures line { result.0 ≡ line_in fault }
     ensures code { result.1 ≡ fault_code_in fault }
@@ -76,7 +75,7 @@ pub(crate) fn line_and_code(fault: Option<At>) -> (u64, u32)
     }
 }
 
-/// Puts a text at the front of the caller's room, as far as it fits.
+/// Copies a text to the front of the caller's buffer, as far as it fits.
 pub(crate) fn place(text: &[u8], room: &mut [u8])
     ensures { room.new ≡ placed text.now room.old }
 {

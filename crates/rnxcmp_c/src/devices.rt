@@ -1,5 +1,4 @@
-//! The devices of a run over memory: what gives the caller's input, and what collects the output or the
-//! messages.
+//! The devices of a run over memory: the source of the caller's input, and sinks for the output and the messages.
 
 ghost use Rattle.std.specs.Prelude.{⊤, ◌≡◌, ◌≢◌, ◌<◌, ◌≤◌, ◌+◌, ◌-◌, ◌++◌, ℕ, [], Ok, Some, false, length, min, take, true, vec_capacity, IfOk, OnErr, OnOk};
 ghost use Rattle.crx_lines.specs.meaning.Devices.{ends_after, one_more};
@@ -8,7 +7,7 @@ ghost use Rattle.std.proofs.KnownBytes.{Consumes-nil, Consumes-trans};
 use crx_lines::{ReadFailed, Sink, Source, WriteFailed};
 use std::alloc::Global;
 
-/// Gives the bytes that it was made with. It never fails.
+/// A source of bytes in memory. It never fails.
 #[derive(Drop)]
 pub struct Given<'a> {
     left: &'a [u8],
@@ -16,7 +15,7 @@ pub struct Given<'a> {
 }
 
 impl<'a> Given<'a> {
-    /// A source of these bytes.
+    /// Makes a source of these bytes.
     pub(crate) fn new(bytes: &'a [u8]) -> Self
         ensures { result.left.now ≡ bytes.now }
     {
@@ -68,23 +67,23 @@ impl Source for Given<'_> {
     ghost gave_both = { λ a b c xs ys p q. Consumes-trans (Some a.left.now) (Some b.left.now) (Some c.left.now) xs ys p q };
 }
 
-/// Collects the first bytes that are written, as many as a room has place for, and counts the others. It
-/// fails where memory runs out, and once it has as many as it may take.
+/// A sink that keeps the first bytes, as far as there is room, and counts all. A write fails if memory is refused, or
+/// if no more bytes may be taken.
 #[derive(Drop)]
 pub struct Counted {
-    /// What is kept.
+    /// The bytes kept.
     pub(crate) bytes: Vec<u8>,
-    /// How many are kept at most.
+    /// The most bytes to keep.
     room: usize,
-    /// How many were taken in all.
+    /// How many bytes were taken.
     pub(crate) count: usize,
-    /// How many are taken at most.
+    /// The most bytes to take.
     most: usize,
     /// How many writes failed.
     pub(crate) failures: u64,
     flushes: u64,
     flushed: bool,
-    /// Whether memory ran out.
+    /// Whether memory was refused.
     lost: bool,
     ghost fits: { length bytes.items ≤ room },
     ghost within: { count ≤ most },
@@ -96,8 +95,8 @@ impl Counted {
     ghost use Rattle.rnxcmp_c.specs.Collecting.{IsEmpty, taken_of};
     ghost use Rattle.rnxcmp_c.specs.Counting.{Took};
 
-    /// A sink that took no byte yet, with this much room, for a text that may have so many bytes; 0: no
-    /// limit. It takes one more, by which a text that is longer shows; and no more than a number can say.
+    /// Makes an empty sink that keeps up to `room` bytes of a text of at most `limit` bytes; 0: no limit. It takes one
+    /// byte more than `limit`, so that a longer text is noticed.
     pub(crate) fn new(alloc: Global, room: usize, limit: u64) -> Self
         ensures { IsEmpty room (taken_of limit) result }
     {
@@ -152,7 +151,7 @@ impl Sink for Counted {
         let some = bytes.len().min(self.most - self.count);
         if some > 0 || bytes.is_empty() {
             let kept = some.min(self.room - self.bytes.len());
-            // What was lost once stays so: the bytes that are kept are the first ones.
+            // After memory was refused nothing more is kept, because the bytes kept are the first ones.
             if !self.lost && self.bytes.reserve(kept).is_ok() {
                 match self.bytes.extend_from_slice(&bytes[..kept]) {
                     Ok(()) => {}

@@ -1,4 +1,4 @@
-//! The engines of the three tasks, as one type.
+//! The engines of the three tasks as one type.
 
 ghost use Rattle.std.specs.Prelude.{◌≡◌, ◌<◌, length, OnErr, IfOk};
 ghost use Rattle.rnxcmp_c.specs.Going.{IsTaken};
@@ -18,15 +18,16 @@ use crx_filter::expansion::Expansion;
 /// The engine of a run.
 #[derive(Drop)]
 pub enum AnyEngine {
-    /// It compacts.
+    /// For a compaction.
     Compacting(LineEngine<Compaction>),
-    /// It expands.
+    /// For an expansion.
     Expanding(LineEngine<Expansion>),
-    /// It checks.
+    /// For a check.
     Checking(LineEngine<Checking>),
 }
 
-/// Feeds some bytes to the engine of a run, as long as little enough waits to be taken, and answers how many.
+/// Feeds `bytes` to the engine of a run until [`READY_LIMIT`](crate::limits::READY_LIMIT) bytes wait to be taken.
+/// Returns how many bytes were used, or why the run ended.
 pub(crate) fn feed_engine(
     engine: &mut AnyEngine,
     held: &mut HandleState,
@@ -45,7 +46,7 @@ pub(crate) fn feed_engine(
     }
 }
 
-/// Gives the end of the input to the engine of a run.
+/// Passes the end of the input to the engine of a run. An error is the reason why the run ended early.
 pub(crate) fn end_engine(engine: &mut AnyEngine, held: &mut HandleState) -> Result<(), Stop>
     requires { EngineCanBeFed engine.old held.old 0 }
     ensures keeps { (task : Task) → IsOf task engine.old → IsOf task engine.new }
@@ -58,7 +59,7 @@ pub(crate) fn end_engine(engine: &mut AnyEngine, held: &mut HandleState) -> Resu
     }
 }
 
-/// The status after the end of an input where there is no fault.
+/// Returns the status after the end of an input without a fault.
 pub(crate) fn status_at_end(engine: &AnyEngine, warned: bool) -> u8
     ensures { result ≡ status_at_end engine.now warned }
 {

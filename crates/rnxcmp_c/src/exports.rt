@@ -1,10 +1,10 @@
-//! What a C program calls. A slice is a pointer and then its length, which may be 0; `alloc` takes no
-//! argument in C.
+//! The calls over a whole input, for C programs. A slice is a pointer and then its length, which may be 0; `alloc` is
+//! no argument in C.
 //!
-//! Where memory didn't run out, the input has at most [`INPUT_LIMIT`] bytes and the date isn't refused,
-//! output, messages, status, fault and lengths are those of the defined result of the input, for every choice
-//! of options. A text that doesn't fit is in its room as far as it does. Else, and where the output is longer
-//! than it may be, nothing in the caller's rooms is changed.
+//! If memory isn't refused, the input has at most [`INPUT_LIMIT`] bytes and the date isn't refused, then the output,
+//! messages, status, fault and lengths are the defined result of the input, for any options. A text that is longer than
+//! its buffer is copied as far as it fits. In all other cases, and if the output is longer than its limit, the caller's
+//! buffers aren't changed.
 
 ghost use Rattle.std.specs.Prelude.{◌≡◌, ◌≤◌, length, Some, true, false};
 ghost use Rattle.crx_filter.specs.meaning.ByResults.{CompactionKeeps, ExpansionKeeps};
@@ -29,9 +29,9 @@ use crx_base::limits::INPUT_LIMIT;
 use crx_filter::{Options, check, compact, expand};
 use std::alloc::Global;
 
-/// Compacts RINEX 3.0x: an epoch in full at each that `every` divides (0: only where one must be), with a
-/// warning for an epoch with a fault where `skip` says so, the date of the second line, and at most
-/// `max_output` bytes of output (0: no limit).
+/// Compacts RINEX 3.0x. `every`: each epoch whose index it divides is full (0: only the necessary ones); `skip`: an
+/// epoch with a fault is skipped with a warning; `date`: the date in the second line; `max_output`: the most bytes of
+/// output (0: no limit). The status is `BAD_DATE` if the date is refused.
 #[unsafe(no_mangle)]
 pub extern "C" fn rnxcmp_c_compact(
     alloc: Global,
@@ -68,8 +68,8 @@ pub extern "C" fn rnxcmp_c_compact(
     answer_of(outcome, written, reported, max_output, output, messages)
 }
 
-/// Expands Compact RINEX 3.0, with a warning for an epoch with a fault where `skip` says so, and at most
-/// `max_output` bytes of output (0: no limit).
+/// Expands Compact RINEX 3.0. `skip`: an epoch with a fault is skipped with a warning; `max_output`: the most bytes of
+/// output (0: no limit).
 #[unsafe(no_mangle)]
 pub extern "C" fn rnxcmp_c_expand(
     alloc: Global,
@@ -103,7 +103,7 @@ pub extern "C" fn rnxcmp_c_expand(
     if input.len() as u64 > INPUT_LIMIT {
         return failed(0, Fault::InputTooLong);
     }
-    // An expansion uses alone whether faults are skipped.
+    // An expansion uses no other option.
     let Ok(options) = Options::new(None, skip, b"") else {
         unreachable!()
     };

@@ -1,9 +1,9 @@
-//! Handles that a C program holds, and what it calls with them: a run goes on from call to call.
+//! Handles, for C programs: a run that continues from call to call.
 //!
-//! A handle is closed where it is all zeros. From the call that opens it to the one that closes it only these
-//! calls touch it, one at a time. The bytes that were fed in all have a defined result. What was taken in
-//! all, and then what is kept, is what the lines make that were fed, a prefix of the result's texts, while
-//! the run goes on; and after its end the whole of them, unless memory or a limit ended it.
+//! A closed handle is all zeros. From the call that opens a handle to the call that closes it, only these calls touch
+//! it, one at a time. All bytes fed have a defined result. While the run continues, the texts taken and the texts kept
+//! are together the output and messages of the lines fed, which are prefixes of the result's; after its end they are
+//! the whole result, unless memory or a limit ended the run.
 
 ghost use Rattle.std.specs.Prelude.{◌≡◌, ◌⊎◌, ◌++◌, ℕ, List, [], drop, length, take, Some, true, false};
 ghost use Rattle.crx_base.specs.meaning.Choices.{Choices, choices_of, is_date};
@@ -35,7 +35,7 @@ use crx_filter::expansion::Expansion;
 use std::alloc::Global;
 use std::mem::replace;
 
-/// A handle. Zeros make a closed one.
+/// A handle. A closed one is all zeros.
 #[repr(C)]
 #[derive(Drop)]
 pub struct Handle {
@@ -43,7 +43,7 @@ pub struct Handle {
     is_open: bool,
 }
 
-/// Takes the reader out of a handle, which is closed then.
+/// Closes a handle and returns its reader.
 fn take_out(handle: &mut Handle, alloc: Global) -> Box<Reader>
     requires { (reader : Reader) × Holds handle.old reader }
     ensures reader { Holds handle.old result.value }
@@ -58,7 +58,7 @@ fn take_out(handle: &mut Handle, alloc: Global) -> Box<Reader>
     held.place.into_loose(alloc).into_box()
 }
 
-/// Puts a reader into a handle, which is open then.
+/// Opens a handle for this reader.
 fn put_in(handle: &mut Handle, reader: Box<Reader>)
     ensures reader { Holds handle.new reader.value }
     ensures opened { handle.new.is_open ≡ true }
@@ -69,7 +69,8 @@ fn put_in(handle: &mut Handle, reader: Box<Reader>)
     };
 }
 
-/// Opens a closed handle for a run of this engine, whose output may have so many bytes.
+/// Opens a closed handle for a run of `engine`. `max_output`: the most bytes of output (0: no limit). If memory is
+/// refused, the status is 1 and the handle stays closed.
 fn open(alloc: Global, handle: &mut Handle, engine: AnyEngine, max_output: u64) -> Answer
     ensures opened { (task : Task) → IsFresh task engine → (run_for task).limit ≡ max_output
         → result.status ≡ 0 → HandleStands task handle.new [] (rooms [] []) }
@@ -96,8 +97,8 @@ fn open(alloc: Global, handle: &mut Handle, engine: AnyEngine, max_output: u64) 
     }
 }
 
-/// Opens a closed handle for a compaction: with what [`rnxcmp_c_compact`](crate::exports::rnxcmp_c_compact)
-/// takes.
+/// Opens a closed handle for a compaction, with the options of [`rnxcmp_c_compact`](crate::exports::rnxcmp_c_compact).
+/// The status is `MISUSED` if the handle is open, `BAD_DATE` if the date is refused, and 1 if memory is refused.
 #[unsafe(no_mangle)]
 pub extern "C" fn rnxcmp_c_open_compact(
     alloc: Global,
@@ -127,7 +128,7 @@ pub extern "C" fn rnxcmp_c_open_compact(
     }
 }
 
-/// Opens a closed handle for an expansion.
+/// Opens a closed handle for an expansion. The status is `MISUSED` if the handle is open, and 1 if memory is refused.
 #[unsafe(no_mangle)]
 pub extern "C" fn rnxcmp_c_open_expand(
     alloc: Global,
@@ -153,7 +154,7 @@ pub extern "C" fn rnxcmp_c_open_expand(
     }
 }
 
-/// Opens a closed handle for a check.
+/// Opens a closed handle for a check. The status is `MISUSED` if the handle is open, and 1 if memory is refused.
 #[unsafe(no_mangle)]
 pub extern "C" fn rnxcmp_c_open_check(alloc: Global, handle: &mut Handle) -> Answer
     ensures opened { result.status ≡ 0 → HandleStands Task.Check handle.new [] (rooms [] []) }
@@ -170,8 +171,9 @@ pub extern "C" fn rnxcmp_c_open_check(alloc: Global, handle: &mut Handle) -> Ans
     }
 }
 
-/// Takes bytes of the input, which may end anywhere, as long as little enough waits to be taken; `used`
-/// becomes how many.
+/// Feeds bytes of the input, which may end anywhere, until [`READY_LIMIT`](crate::limits::READY_LIMIT) bytes wait to be
+/// taken. Sets `used` to the number of bytes used. The status is `MISUSED` if the handle isn't open or its run has
+/// ended.
 #[unsafe(no_mangle)]
 pub extern "C" fn rnxcmp_c_feed(
     alloc: Global,
@@ -208,7 +210,7 @@ pub extern "C" fn rnxcmp_c_feed(
     answer
 }
 
-/// Takes the end of the input.
+/// Ends the input. The status is `MISUSED` if the handle isn't open or its run has ended.
 #[unsafe(no_mangle)]
 pub extern "C" fn rnxcmp_c_end(alloc: Global, handle: &mut Handle) -> Answer
     requires sound { IsSoundHandle handle.old }
@@ -242,8 +244,8 @@ pub extern "C" fn rnxcmp_c_end(alloc: Global, handle: &mut Handle) -> Answer
     answer
 }
 
-/// Moves what is kept of the output and of the messages into two rooms, as far as it fits, and answers the
-/// run's state and how much is left.
+/// Moves the waiting output and messages into two buffers, as far as they fit. Returns the run's status and fault and
+/// how many bytes still wait; the status is `MISUSED` if the handle isn't open.
 #[unsafe(no_mangle)]
 pub extern "C" fn rnxcmp_c_take(
     alloc: Global,
@@ -291,7 +293,7 @@ pub extern "C" fn rnxcmp_c_take(
     answer
 }
 
-/// Closes a handle, and frees what it holds.
+/// Closes a handle and frees its memory.
 #[unsafe(no_mangle)]
 pub extern "C" fn rnxcmp_c_close(alloc: Global, handle: &mut Handle)
     requires sound { IsSoundHandle handle.old }

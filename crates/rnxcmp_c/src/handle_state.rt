@@ -1,4 +1,4 @@
-//! What is held of a run between two calls, beside its engine.
+//! The state of a run between two calls, except its engine.
 
 use crate::limits::READY_LIMIT;
 use crate::pending::Pending;
@@ -7,33 +7,33 @@ use crx_base::memory::boxed;
 use crx_base::{PaddedCopy, Refused};
 use std::alloc::Global;
 
-/// What is held between two calls.
+/// The state of a run between two calls.
 #[derive(Drop)]
 pub struct HandleState {
     /// The bytes after the last LF, as far as they are kept.
     pub(crate) tail: Piece,
-    /// Where a line is copied to that is taken, since nothing is behind the bytes that are fed.
+    /// A copy of the line, followed by a blank and more bytes, which the bytes fed don't have after them.
     pub(crate) copy: Box<PaddedCopy>,
-    /// The number of the last line that was taken, 0 before the first.
+    /// The number of the last line taken, 0 before the first.
     pub(crate) number: u64,
     /// Whether a warning was reported.
     pub(crate) warned: bool,
-    /// The most bytes that the output may have; 0: no limit.
+    /// The most bytes of output; 0: no limit.
     pub(crate) limit: u64,
-    /// How many of these it may still have.
+    /// How many bytes the output may still have.
     pub(crate) left: u64,
-    /// The output that wasn't handed out yet.
+    /// The output that waits to be taken.
     pub(crate) output: Pending,
-    /// The messages that weren't handed out yet.
+    /// The messages that wait to be taken.
     pub(crate) messages: Pending,
 }
 
-/// How many bytes of both texts waited at some moment.
+/// The lengths of both waiting texts at some moment.
 #[derive(Clone, Copy)]
 pub(crate) struct Mark {
-    /// Of the output.
+    /// The length of the output.
     pub(crate) output: usize,
-    /// Of the messages.
+    /// The length of the messages.
     pub(crate) messages: usize,
 }
 
@@ -42,7 +42,8 @@ impl HandleState {
     ghost use Rattle.rnxcmp_c.specs.Holding.{AreCutTo, HoldsNothing, IsMark, IsMarkWithin, ready_in};
     ghost use Rattle.rnxcmp_c.specs.declared.limits.TheConstants.{READY_LIMIT};
 
-    /// What is held before the first byte.
+    /// Returns the state before the first byte. `limit`: the most bytes of output (0: no limit). Fails if memory is
+    /// refused.
     pub(crate) fn new(alloc: Global, limit: u64) -> Result<HandleState, Refused>
         ensures { IfOk result (HoldsNothing limit) }
     {
@@ -60,7 +61,7 @@ impl HandleState {
         })
     }
 
-    /// Whether little enough waits for a line to be taken.
+    /// Returns whether fewer than `READY_LIMIT` bytes wait, so that a line may be taken.
     pub(crate) fn is_low(&self) -> bool
         ensures low { result ≡ true → ready_in self.now < READY_LIMIT }
         ensures high { result ≡ false → READY_LIMIT ≤ ready_in self.now }
@@ -69,7 +70,7 @@ impl HandleState {
         output < READY_LIMIT && messages < READY_LIMIT - output
     }
 
-    /// How much waits now.
+    /// Returns the lengths of both waiting texts.
     pub(crate) fn mark(&self) -> Mark
         ensures { IsMark result self.now }
     {
@@ -79,7 +80,7 @@ impl HandleState {
         }
     }
 
-    /// Lets go of what came of both texts since a mark.
+    /// Drops everything that was added to both texts after `mark`.
     pub(crate) fn cut_back(&mut self, mark: Mark)
         requires { IsMarkWithin mark self.old }
         ensures { AreCutTo mark self.old self.new }

@@ -1,4 +1,4 @@
-//! Laws over the definitions of this crate: each is the contract of a function that does nothing.
+//! Laws of the definitions of this crate. Each is the contract of a function with an empty body.
 
 ghost use Rattle.std.specs.Prelude.{◌≡◌, ◌⊎◌, ◌≤◌, ℕ, List, [], ◌++◌, length};
 ghost use Rattle.crx_base.specs.declared.fault.At.{At};
@@ -16,20 +16,18 @@ ghost use Rattle.rnxcmp_c.specs.declared.reader.Reader.{Reader};
 ghost use Rattle.rnxcmp_c.specs.meaning.Answers.{AnswersAlone, AnswersWithin, BothTexts, ExceedsLimit, KeepsToLimit, placed};
 ghost use Rattle.rnxcmp_c.specs.meaning.Handles.{RunHasEnded, RunHasResult, StopsAtLimit, StopsWhenFull, Task, run_for, with_one_more};
 
-/// What a handle holds, in full, and how much that is beside its engine, whatever was fed: one that takes
-/// over these parts of another is that other. So there is no part beside them, in which a record of the past
-/// lines could grow.
+/// Names all parts of a handle, and bounds all of them except the engine, whatever was fed: a reader that takes over
+/// these parts of another is the other. So it has no further part, in which a record of past lines could grow.
 pub fn handle_holds()
     ensures parts { (one other : Reader) → reader_with one other ≡ other }
     ensures bounded { (held : HandleState) → IsBounded held }
 {}
 
-/// A handle answers as a call over the whole input: where its run has ended with its result, such a call with
-/// room enough answers the same status, code and line, and puts into its rooms all that the handle made; and
-/// where the output is longer than its limit, both say so. For every input whose output is within the limit
-/// there are such answers. Of an input that is too long both say the same status, and the same code unless
-/// memory ran out; but a call says so before it reads, at line 0 and without texts, and a handle at the line
-/// of the byte too much.
+/// A handle agrees with a call over the whole input. If its run has ended with its result, such a call with large
+/// enough buffers returns the same status, code and line, and the same texts. If the output is longer than its limit,
+/// both say so. For every input whose output is within the limit there are such answers. For an input that is too long
+/// both have the same status, and the same code unless memory is refused; but the call says so before it reads, at line
+/// 0 and without texts, and the handle at the line of the first byte above the limit.
 pub fn a_handle_answers_as_a_call()
     ensures same { (task : Task) (fed : List ℕ) (made kept : BothTexts) (answer call : Answer)
         (before after : BothTexts)
@@ -64,9 +62,9 @@ pub fn a_handle_answers_as_a_call()
         × (length ((run_for task).result fed).output ≤ length before.output) }
 {}
 
-/// What some of the first lines make comes first in both texts of the result of all: their output, and their
-/// warnings, and after these the first of those that the next line has, or the end. The lines whose line end
-/// was fed are such lines, whatever follows.
+/// The output of some first lines is a prefix of the result's output. Their messages, followed by the first messages of
+/// the next line or of the end, are a prefix of the result's messages. The lines whose line end was fed are such lines,
+/// whatever follows.
 pub fn what_lines_make_comes_first()
     ensures begun { (task : Task) (input : List ℕ) (lines others : List InputLine) (notices : List At)
         → lines_of input ≡ lines ++ others

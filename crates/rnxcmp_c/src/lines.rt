@@ -1,4 +1,4 @@
-//! Lines out of the bytes that are fed, through an engine.
+//! The lines of the bytes that are fed, through an engine.
 
 ghost use Rattle.std.specs.Prelude.{◌≡◌, ◌≤◌, ◌<◌, ◌+◌, ◌-◌, ℕ, List, [], length, take, false, true, OnOk, OnErr, IfOk, IfErr};
 ghost use Rattle.crx_base.specs.declared.limits.TheConstants.{INPUT_LIMIT};
@@ -20,7 +20,7 @@ use crx_lines::feed::feed_from;
 use crx_runs::Engine;
 use crx_runs::one_line::{Halt, take_end, take_line, take_overlong};
 
-/// A line's bytes without the CR that may end them, and whether one does.
+/// Returns a line's bytes without a CR at their end, and whether there was one.
 fn content_of(bytes: &[u8]) -> (&[u8], bool)
     ensures content { result.0.now ≡ without_return bytes.now }
     ensures has_return { result.1 ≡ ends_with_return bytes.now }
@@ -37,9 +37,9 @@ fn content_of(bytes: &[u8]) -> (&[u8], bool)
     }
 }
 
-/// Counts the output since a mark, whatever the step of a line came to: where it is more than there may be,
-/// that ends the run. Keeps in mind whether there was a warning. Where one of the texts couldn't be kept,
-/// memory ran out at the line of this number, and what came of both since the mark is let go of.
+/// Counts the output added since `mark`, and notes a warning. Returns `Stop::Limit` if the output would be longer than
+/// its limit, and the fault of the step, if it has one. If one of the texts couldn't be kept, the fault is
+/// `OutOfMemory` at line `number`. Unless the step has a fault of its own, both texts are cut back to `mark`.
 fn counted(
     held: &mut HandleState,
     mark: Mark,
@@ -70,9 +70,8 @@ fn counted(
     }
 }
 
-/// Gives what is kept of a line to an engine as a line, and lets go of it, if the output stays within its
-/// limit, also where memory ran out while it was written. The line is copied to where a blank and more bytes
-/// are behind it.
+/// Feeds the bytes kept of a line to an engine and clears them. `is_ended`: an LF followed the line. The line is copied
+/// first, because a blank and more bytes have to follow it. Returns why the run ended, if it did.
 fn take_within<E: Engine>(
     engine: &mut E,
     held: &mut HandleState,
@@ -101,8 +100,8 @@ fn take_within<E: Engine>(
     counted(held, mark, number, taken)
 }
 
-/// Takes the first of some bytes, up to an LF, with which a line is taken, and answers how many; all, where
-/// no LF is among them.
+/// Uses the first of some bytes, up to an LF, which ends a line that is then taken; all bytes if there is no LF.
+/// Returns how many were used, or why the run ended.
 fn take_to_line_end<E: Engine>(
     engine: &mut E,
     held: &mut HandleState,
@@ -127,8 +126,8 @@ fn take_to_line_end<E: Engine>(
     }
 }
 
-/// Takes some bytes, a line's after another's, as long as little enough waits to be taken, and answers how
-/// many.
+/// Takes the lines of some bytes, one after another, until `READY_LIMIT` bytes wait to be taken. Returns how many bytes
+/// were used, or why the run ended.
 pub(crate) fn take_bytes<E: Engine>(
     engine: &mut E,
     held: &mut HandleState,
@@ -148,8 +147,7 @@ pub(crate) fn take_bytes<E: Engine>(
     Ok(bytes.len() - left.len())
 }
 
-/// Gives the end of the input to an engine, and before it the last line, where no LF ended it, if the output
-/// stays within its limit.
+/// Takes the last line, if no LF ended it, and then the end of the input. Returns why the run ended early, if it did.
 pub(crate) fn take_last<E: Engine>(engine: &mut E, held: &mut HandleState) -> Result<(), Stop>
     requires going { CanBeFed E.Engine engine.old held.old 0 }
     ensures filter { E.filter engine.new ≡ E.filter engine.old }

@@ -1,4 +1,4 @@
-//! A text of a handle that its caller takes piece by piece.
+//! A text that the caller of a handle takes piece by piece.
 
 ghost use Rattle.std.specs.Prelude.{⊤, ◌≡◌, ◌<◌, ◌≤◌, ◌+◌, ◌++◌, [], Some, drop, false, length, take, true, IfOk, OnErr, OnOk};
 ghost use Rattle.std.proofs.KnownBytes.{Appends-nil, Appends-trans};
@@ -11,12 +11,12 @@ use crate::limits::WAITING_LIMIT;
 use crx_lines::{Sink, WriteFailed};
 use std::alloc::Global;
 
-/// The bytes that were made and not handed out yet, behind some that were. At most half of all were handed
-/// out: so moving the rest to the front costs no more than handing out did.
+/// A text whose first bytes may have been taken already. At most half of the buffer is such bytes, so moving the rest
+/// to the front costs no more than taking did.
 #[derive(Drop)]
 pub struct Pending {
     bytes: Vec<u8>,
-    /// How many were handed out.
+    /// How many bytes of the buffer were taken.
     passed: usize,
     failures: u64,
     flushes: u64,
@@ -28,7 +28,7 @@ pub struct Pending {
 impl Pending {
     ghost use Rattle.rnxcmp_c.specs.Waiting.{CountsAlike, IsTextRefused, handed_with, waiting};
 
-    /// No bytes.
+    /// Makes an empty text.
     pub(crate) fn new(alloc: Global) -> Pending
         ensures none { waiting result ≡ [] }
         ensures unfailed { result.failures ≡ 0 }
@@ -42,15 +42,14 @@ impl Pending {
         }
     }
 
-    /// How many bytes wait.
+    /// Returns how many bytes wait.
     pub(crate) fn count(&self) -> usize
         ensures { result ≡ length (waiting self.now) }
     {
         self.bytes.len() - self.passed
     }
 
-    /// Takes a text at its end; `false` says that there was no memory for it, or that more than
-    /// [`WAITING_LIMIT`] bytes would wait.
+    /// Appends a text. Returns `false` if memory for it is refused, or if more than [`WAITING_LIMIT`] bytes would wait.
     pub(crate) fn add(&mut self, text: &[u8]) -> bool
         ensures taken { result ≡ true → waiting self.new ≡ waiting self.old ++ text.now }
         ensures unchanged { result ≡ false → waiting self.new ≡ waiting self.old }
@@ -63,12 +62,12 @@ impl Pending {
         self.bytes.extend_from_slice(text).is_ok()
     }
 
-    /// Moves its first bytes to the front of the room, as many as fit.
+    /// Moves the first waiting bytes to the front of `room`, as many as fit.
     pub(crate) fn hand_out(&mut self, room: &mut [u8])
         ensures room { room.new ≡ placed (waiting self.old) room.old }
         ensures left { waiting self.new ≡ drop (length room.old) (waiting self.old) }
         ensures counts { CountsAlike self.old self.new }
-        // What waits is moved only where more than half was handed out.
+        // The waiting bytes are moved only if more than half of the buffer was taken.
         ensures unmoved { handed_with self.old (length room.old) + handed_with self.old (length room.old)
             ≤ length self.old.bytes.items → self.new.bytes.items ≡ self.old.bytes.items }
     {
@@ -85,7 +84,7 @@ impl Pending {
         self.passed = 0;
     }
 
-    /// Keeps the first bytes that wait, and lets go of those after them.
+    /// Keeps the first `count` waiting bytes, and drops the rest.
     pub(crate) fn cut(&mut self, count: usize)
         requires { count ≤ length (waiting self.old) }
         ensures first { waiting self.new ≡ take count (waiting self.old) }
@@ -115,7 +114,7 @@ impl Sink for Pending {
 
     ghost is_broken = { λ s. false };
 
-    /// It fails only where the text is refused, and counts that.
+    /// Appends the bytes. Fails only if they are refused, and counts that.
     fn write(&mut self, bytes: &[u8]) -> Result<usize, WriteFailed>
         ensures all { IfOk result (λ n. n ≡ length bytes.now) }
         ensures taken { OnOk result (waiting self.new ≡ waiting self.old ++ bytes.now) }

@@ -1,4 +1,4 @@
-//! What is kept of a line whose LF wasn't fed yet.
+//! The bytes kept of a line before its LF is fed.
 
 ghost use Rattle.std.specs.Prelude.{◌≡◌, ◌≤◌, ◌++◌, [], length, take, IfOk, vec_capacity};
 ghost use Rattle.rnxcmp_c.specs.declared.limits.TheConstants.{LINE_ROOM};
@@ -8,7 +8,7 @@ use crx_base::Refused;
 use crx_base::memory::reserve_exact;
 use std::alloc::Global;
 
-/// The first bytes of a line, at most [`LINE_ROOM`]. Its memory is taken at the beginning, and never more.
+/// The first bytes of a line, at most [`LINE_ROOM`]. Memory is reserved once, at the beginning.
 #[derive(Drop)]
 pub struct Piece {
     pub(crate) bytes: Vec<u8>,
@@ -17,7 +17,7 @@ pub struct Piece {
 }
 
 impl Piece {
-    /// No bytes.
+    /// Returns an empty piece, or fails if memory is refused.
     pub(crate) fn new(alloc: Global) -> Result<Piece, Refused>
         ensures none { IfOk result (λ piece. piece.bytes.items ≡ []) }
         ensures room { IfOk result (λ piece. vec_capacity piece.bytes ≡ LINE_ROOM) }
@@ -27,7 +27,7 @@ impl Piece {
         Ok(Piece { bytes })
     }
 
-    /// Takes more of the line, as far as there is room.
+    /// Adds more bytes of the line, as far as there is room.
     pub(crate) fn add(&mut self, bytes: &[u8])
         ensures { self.new.bytes.items ≡ take LINE_ROOM (self.old.bytes.items ++ bytes.now) }
     {

@@ -1,4 +1,4 @@
-//! A run that goes on from call to call.
+//! A run that continues from call to call.
 
 ghost use Rattle.std.specs.Prelude.{◌≡◌, ℕ, List, [], ◌∷◌, length, take};
 ghost use Rattle.rnxcmp_c.specs.Handles.{Ends, EndsRunBy, Feeds, ReaderStands, answer_now};
@@ -19,18 +19,18 @@ use crx_runs::message::{Severity, message};
 /// A run between two calls.
 #[derive(Drop)]
 pub struct Reader {
-    /// What takes the lines.
+    /// The engine that takes the lines.
     pub(crate) engine: AnyEngine,
-    /// What is held beside it.
+    /// The state except the engine.
     pub(crate) held: HandleState,
     /// How many bytes were fed.
     pub(crate) fed: u64,
-    /// How the run ended; `None` where it goes on.
+    /// How the run ended, `None` while it continues.
     pub(crate) outcome: Option<Outcome>,
 }
 
-/// How a run ends by what stopped it. The message of a fault is put down; where it can't be kept, memory ran
-/// out at its line.
+/// Returns the outcome of a run that `stop` ended, and adds the message of its fault. If that message can't be kept,
+/// the fault is `OutOfMemory` at the same line.
 fn outcome_of(held: &mut HandleState, stop: Stop) -> Outcome
     ensures { EndsRunBy held.old held.new result stop }
 {
@@ -53,7 +53,7 @@ fn outcome_of(held: &mut HandleState, stop: Stop) -> Outcome
 }
 
 impl Reader {
-    /// Its state.
+    /// Returns the run's status and fault, and how many bytes wait.
     fn answer(&self) -> Answer
         ensures { result ≡ answer_now self.now }
     {
@@ -71,8 +71,8 @@ impl Reader {
         }
     }
 
-    /// Takes some bytes of the input, if its run goes on, as long as little enough waits to be taken, and
-    /// answers how many.
+    /// Feeds bytes of the input, if the run continues, until `READY_LIMIT` bytes wait to be taken. Returns how many
+    /// bytes were used, and the run's state; `MISUSED` if the run has ended.
     pub(crate) fn take_in(&mut self, bytes: &[u8]) -> (usize, Answer)
         requires { (task : Task) × (fed : List ℕ) × (taken : BothTexts)
             × ReaderStands task self.old fed taken }
@@ -82,7 +82,7 @@ impl Reader {
         if self.outcome.is_some() {
             return (0, bare(MISUSED, 0, 0));
         }
-        // As many as the input may still have.
+        // The bytes that the input may still have.
         let count = (bytes.len() as u64).min(INPUT_LIMIT - self.fed) as usize;
         let allowed = &bytes[..count];
         if allowed.is_empty() && !bytes.is_empty() {
@@ -105,7 +105,7 @@ impl Reader {
         }
     }
 
-    /// Takes the end of the input, if its run goes on.
+    /// Ends the input, if the run continues, and returns the run's state; `MISUSED` if the run has ended.
     pub(crate) fn take_end(&mut self) -> Answer
         requires { (task : Task) × (fed : List ℕ) × (taken : BothTexts)
             × ReaderStands task self.old fed taken }
@@ -130,7 +130,8 @@ impl Reader {
         }
     }
 
-    /// Moves what waits of the output and of the messages to the front of two rooms, as far as it fits.
+    /// Moves the waiting output and messages to the front of two buffers, as far as they fit, and returns the run's
+    /// state.
     pub(crate) fn hand_out(&mut self, output: &mut [u8], messages: &mut [u8]) -> Answer
         ensures taken { HandsOut (self.old ∷ []) (self.new ∷ []) (rooms output.old messages.old)
             (rooms output.new messages.new) result }

@@ -1,4 +1,4 @@
-//! A box that a C program holds.
+//! A reader's box in the memory of a C program.
 
 ghost use Rattle.std.specs.Prelude.{◌≡◌, List, [], ◌∷◌};
 ghost use Rattle.rnxcmp_c.specs.ReaderBoxes.{reader_box_owns, held_coded};
@@ -9,7 +9,7 @@ use crate::reader::Reader;
 use std::alloc::Global;
 use std::marker::Model;
 
-/// Where a box lies, or nothing.
+/// The address of a box, or null.
 #[repr(C)]
 #[derive(Drop)]
 pub struct ReaderBox {
@@ -22,7 +22,7 @@ impl Model for ReaderBox {
 }
 
 impl ReaderBox {
-    /// Nothing is held.
+    /// Holds nothing.
     pub(crate) fn empty() -> ReaderBox
         ensures { result.held ≡ [] }
     {
@@ -39,7 +39,7 @@ impl ReaderBox {
         ReaderBox { at: at as *mut u8 }
     }
 
-    /// The box that is held, apart.
+    /// Returns the box that is held, taken apart.
     pub(crate) fn into_loose(self, alloc: Global) -> Loose<Reader, Global>
         requires { (value : Reader) × (self.held ≡ value ∷ []) }
         ensures { self.held ≡ result.value ∷ [] }

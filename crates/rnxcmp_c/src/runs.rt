@@ -1,5 +1,4 @@
-//! What a call over a whole input answers: by the run's outcome, and by what was collected of its texts as
-//! far as the caller's rooms go.
+//! The result of a call over a whole input.
 
 ghost use Rattle.rnxcmp_c.specs.meaning.Answers.{rooms};
 ghost use Rattle.rnxcmp_c.specs.Collecting.{AnswersRun, TakeEnough};
@@ -10,9 +9,9 @@ use crate::answer::{
 use crate::devices::Counted;
 use crx_runs::Outcome;
 
-/// Answers what a run came to, and puts what was collected of both texts into the caller's rooms. Where the
-/// output is longer than it may be, or memory ran out in the run or in collecting, the rooms stay as they
-/// are.
+/// Returns the answer of a finished run, and copies the collected texts into the caller's buffers. If the output is
+/// longer than `most` (0: no limit), the status is `OUTPUT_LIMIT`; if memory was refused in the run or for a text, the
+/// fault is `OutOfMemory`. In both cases the buffers stay as they are.
 pub(crate) fn answer_of(
     outcome: Outcome,
     output: Counted,

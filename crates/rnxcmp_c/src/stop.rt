@@ -1,12 +1,12 @@
-//! What ends the run of a handle.
+//! The reason why the run of a handle ended early.
 
 use crx_base::At;
 
-/// What ended a run.
+/// Why a run ended early.
 #[derive(Clone, Copy, Debug, PartialEq, Eq)]
 pub enum Stop {
-    /// A fault of the input, or memory that ran out.
+    /// A fault of the input, or refused memory.
     Fault(At),
-    /// The output would have more bytes than it may have.
+    /// The output would be longer than its limit.
     Limit,
 }

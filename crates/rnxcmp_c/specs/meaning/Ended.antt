@@ -1,5 +1,4 @@
--- What a handle promises of the files that the text was made of which it was fed, once its run has ended with
--- its result.
+-- The promises of a handle whose run has ended with its result, for the files from which the text fed to it was made.
 use Rattle.std.specs.Prelude.{◌≡◌, ℕ, List, true}
 use Rattle.crx_filter.specs.meaning.CompactText.{IsCompactText, ReadsAnyText}
 use Rattle.crx_filter.specs.meaning.Lossless.{SaysThatItComesBack}
@@ -12,9 +11,9 @@ use Rattle.rnxcmp_c.specs.meaning.Promises.{CallBringsBackWhatWasCompacted, Call
 use Rattle.rnxcmp_c.specs.meaning.Promises.{CallSavesAllElse}
 use Rattle.rnxcmp_c.specs.meaning.Stretches.{CallKeepsUndamaged, CallWritesWholeUnits}
 
--- an expansion: what passes a check comes back; compact text is read as what it means, whoever wrote it, and no other text ends with
--- status 0; what was compacted comes back; and where faults are skipped, all
--- but what is damaged is there, or all that is whole before a cut
+-- an expansion: a file that passes a check returns; compact text is read with its meaning, whoever wrote it, and no
+-- other text ends with status 0; compacted files return; if faults are skipped, everything except the damaged parts is
+-- written; and everything that is whole before a cut is written
 pub record ExpansionPromises (choices : Choices) (fed : List ℕ) (made kept : BothTexts) (answer : Answer)
     : Type 0 where
   pub lossless : CallBringsBackWhatPasses (λ whole. RunHasResult whole made kept answer) fed
@@ -26,7 +25,7 @@ pub record ExpansionPromises (choices : Choices) (fed : List ℕ) (made kept : B
       (λ whole. RunHasResult whole made kept answer) fed
   pub whole_units : CallWritesWholeUnits (λ whole. RunHasResult whole made kept answer) fed
 
--- a check: a file with status 0 comes back, and these are the standard ones
+-- a check: a file with status 0 returns, and these are the standard files
 pub record CheckPromises (fed : List ℕ) (answer : Answer) : Type 0 where
   pub lossless : SaysThatItComesBack answer.status fed
   pub standard : CallJudgesStandard answer.status fed

@@ -1,5 +1,5 @@
--- What the calls with a handle promise: by all that was fed to it and taken from it, by what it keeps, and by
--- what a call answers. What was made is what was taken, and then what is kept.
+-- The promises of the calls with a handle, by all bytes fed to it, by the texts taken from it and kept in it, and by
+-- the answer of a call. The texts made are the texts taken, followed by the texts kept.
 use Rattle.std.specs.Prelude.{◌≡◌, ◌⊎◌, ◌<◌, ◌≤◌, ℕ, ◌+◌, ◌-◌, Bool, true, false, List, [], ◌∷◌, ◌++◌, length}
 use Rattle.std.specs.Prelude.{take, Option, Some, None, is_some}
 use Rattle.crx_base.specs.meaning.Lines.{InputLine, lines_of}
@@ -24,14 +24,14 @@ use Rattle.rnxcmp_c.specs.meaning.Answers.{BothTexts, fault_code_in, line_in}
 
 -- ---- a run
 
--- A task is what was chosen for a run, and how many bytes its output may have; 0 is no limit.
+-- A task is the choices for a run, and the most bytes of its output; 0 is no limit.
 pub data Task : Type 0 where
   Compact : Choices → ℕ → Task
   Expand : Choices → ℕ → Task
   Check : Task
 
--- This is what a run writes, reports and answers for its whole input; what it writes and reports for some of
--- the first lines, and for all; and how many bytes its output may have, where 0 is no limit.
+-- This is the result of a run for its whole input; its output and warnings for some of the first lines and for all; and
+-- the most bytes of its output, 0 for no limit.
 pub record TaskRun : Type 0 where
   pub result : List ℕ → FilterResult
   pub filter : Filter
@@ -51,14 +51,14 @@ run_for (Expand choices most) = record {
 }
 run_for Check = record { result = checked; filter = check_filter; limit = 0 }
 
--- These are both texts, each followed by that which comes after it.
+-- These are two texts, each continued by the second pair.
 abbrev pub joined_texts : BothTexts → BothTexts → BothTexts
 joined_texts first then = record {
   output = first.output ++ then.output;
   messages = first.messages ++ then.messages;
 }
 
--- This answer has a status, the line and the number of a fault, and how many bytes of both texts are kept.
+-- This answer has a status, the line and the number of a fault, and the lengths of both texts kept.
 abbrev pub handle_answer : ℕ → Option At → BothTexts → Answer
 handle_answer status fault kept = record {
   line = line_in fault;
@@ -70,14 +70,14 @@ handle_answer status fault kept = record {
 
 -- ---- a run that has ended
 
--- The run has this result: its texts are what was made, and its status and fault are answered.
+-- The run has this result: its texts are the texts made, and its status and fault are in the answer.
 pub record RunHasResult (result : FilterResult) (made kept : BothTexts) (answer : Answer) : Type 0 where
   pub answered : answer ≡ handle_answer result.status result.fault kept
   pub output : result.output ≡ made.output
   pub messages : result.messages ≡ made.messages
 
--- Memory ran out for the message of the fault that a result has: both texts are there but for this message,
--- and the answer has code 22 at the line of the fault.
+-- Memory for the message of the result's fault was refused: both texts are complete except for this message, and the
+-- answer has code 22 at the line of the fault.
 pub record LacksLastMessage (result : FilterResult) (made kept : BothTexts) (answer : Answer) : Type 0 where
   pub at : At
   pub faulty : result.fault ≡ Some at
@@ -85,7 +85,7 @@ pub record LacksLastMessage (result : FilterResult) (made kept : BothTexts) (ans
   pub output : result.output ≡ made.output
   pub messages : result.messages ≡ made.messages ++ error_text (Some at)
 
--- The run has ended with one of these results, or with all of it but the message of its fault.
+-- The run has ended with one of these results, or with all of it except the message of its fault.
 pub record RunHasEnded (is_one : FilterResult → Type 0) (made kept : BothTexts) (answer : Answer)
     : Type 0 where
   pub result : FilterResult
@@ -94,13 +94,13 @@ pub record RunHasEnded (is_one : FilterResult → Type 0) (made kept : BothTexts
 
 -- ---- a run that ends before its input does
 
--- This is what some lines make with the first of those that follow, or with the end where none does.
+-- This is the course of some lines and the next one, or the end if none follows.
 abbrev pub with_one_more : Filter → List InputLine → List InputLine → Course
 with_one_more filter lines [] = filter.whole lines
 with_one_more filter lines (line ∷ more) = filter.so_far (with_next lines line)
 
--- The output of some of the first lines is within its limit, and with one line more, or with the end, it
--- isn't: the result is what those first lines make, in which no fault is.
+-- The output of some of the first lines is within its limit, but with one more line, or with the end, it isn't: the
+-- result is the output and warnings of those first lines, which have no fault.
 pub record StopsAtLimit (run : TaskRun) (input : List ℕ) (result : FilterResult) : Type 0 where
   pub lines : List InputLine
   pub others : List InputLine
@@ -120,10 +120,10 @@ pub record StopsAtLimit (run : TaskRun) (input : List ℕ) (result : FilterResul
     fault = None;
   }
 
--- Memory ran out at such a line, the next one after some of the first, or at the end after them. The line
--- itself may take memory once these of its warnings are reported; or, before any of them is, it adds to one
--- of both texts. The result is what those first lines make, in which no fault is, these warnings, and the
--- message of this.
+-- Memory was refused at such a line, the next one after some of the first, or at the end after them. The line itself
+-- may need memory after these of its warnings; or, before any warning, it adds to one of both texts. The result is the
+-- output and warnings of those first lines, which have no fault, followed by these warnings and the message of the
+-- refusal.
 pub record StopsForMemory (is_line : ℕ → Type 0) (run : TaskRun) (input : List ℕ) (result : FilterResult)
     : Type 0 where
   pub lines : List InputLine
@@ -149,8 +149,8 @@ pub record StopsForMemory (is_line : ℕ → Type 0) (run : TaskRun) (input : Li
     fault = Some (record { line = line; fault = OutOfMemory });
   })
 
--- As many bytes were fed as an input may have, and there is one more, at the line after the last line end:
--- the result is what the lines make whose line end was fed, in which no fault is, and the message of this.
+-- The input has one byte more than its limit, in the line after the last LF. The result is the output and warnings of
+-- the lines whose LF was fed, which have no fault, and the message of this fault.
 pub record StopsWhenFull (run : TaskRun) (fed : List ℕ) (result : FilterResult) : Type 0 where
   pub full : length fed ≡ INPUT_LIMIT
   pub good : (run.filter.so_far (ended_lines_of fed)).fault ≡ None
@@ -160,11 +160,11 @@ pub record StopsWhenFull (run : TaskRun) (fed : List ℕ) (result : FilterResult
     fault = Some (record { line = length (ended_lines_of fed) + 1; fault = InputTooLong });
   })
 
--- ---- what the calls promise
+-- ---- the promises of the calls
 
--- Bytes have ended the run. Whatever follows, it has the result of the input, by a fault; or the one at the
--- limit of the output, or where memory ran out, at a line whose line end came after what was fed before. Or
--- no byte was taken, and bytes are left of which an input may have none.
+-- Bytes have ended the run. Whatever follows, it has the result of the input, by a fault; or it has stopped at the
+-- limit of the output, or because memory was refused, at a line whose LF was fed after `before`. Or no byte was used,
+-- because the input may have no more.
 abbrev pub RunWasEnded : TaskRun → List ℕ → List ℕ → List ℕ → BothTexts → BothTexts → Answer → Type 0
 RunWasEnded run before fed left made kept answer =
     ((more : List ℕ) → RunHasEnded
@@ -174,10 +174,10 @@ RunWasEnded run before fed left made kept answer =
     run (fed ++ more) result)) made kept answer)
     ⊎ ((0 < length left) × (fed ≡ before) × RunHasEnded (StopsWhenFull run fed) made kept answer)
 
--- While the run goes on, what was made is all that the lines make whose line end was fed, in which no fault
--- is, and the answer has status 0 and no fault. Once it has ended, each call answers its status and its
--- fault. It has the result of what was fed; or it has stopped at the limit of the output, for want of memory
--- at one of the lines, or since its input is too long. The output is never longer than it may be.
+-- While the run continues, the texts made are the output and messages of all lines whose LF was fed, which have no
+-- fault, and the answer has status 0 and no fault. After the run has ended, each call returns its status and its fault:
+-- it has the result of the bytes fed; or it has stopped at the limit of the output, because memory was refused at one
+-- of the lines, or because its input is too long. The output is always within its limit.
 pub record HandlePromise (state : Option Outcome) (run : TaskRun) (fed : List ℕ) (made kept : BothTexts)
     (answer : Answer) : Type 0 where
   pub goes_on : state ≡ None → ((run.filter.so_far (ended_lines_of fed)).fault ≡ None)
@@ -195,10 +195,10 @@ pub record HandlePromise (state : Option Outcome) (run : TaskRun) (fed : List �
       ⊎ StopsWhenFull run fed result))) made kept answer
   pub within : 0 < run.limit → length made.output ≤ run.limit
 
--- Of the bytes that an input may still have (`allowed`) so many were used: at least one where less than
--- READY_LIMIT was ready, all unless the run goes on and so much is, none where it was. While the run goes on,
--- without the last byte less was ready: what the lines make whose line end was fed, but for what was taken of
--- it. Where bytes come and none is allowed, that ends the run.
+-- `allowed` are the bytes that the input may still have, and `used` of them were used: at least one if fewer than
+-- READY_LIMIT bytes waited, all unless the run continues and that many wait now, and none if that many waited before.
+-- While the run continues, fewer waited without the last byte: the output and messages of the lines whose LF was fed,
+-- minus the texts taken. If there are bytes but none is allowed, that ends the run.
 pub record TakesBytes (run : TaskRun) (fed : List ℕ) (taken : BothTexts) (bytes : List ℕ) (used : ℕ)
     (before after : BothTexts) (has_ended : Bool) : Type 0 where
   pub allowed : List ℕ

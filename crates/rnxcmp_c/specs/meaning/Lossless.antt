@@ -1,5 +1,5 @@
--- What passes a check comes back, in the caller's memory. `holds result` says that a call answered this result, and put
--- its texts into the caller's rooms.
+-- A file that passes a check returns, in the caller's memory. `holds result` says that a call returned this result, and
+-- copied its texts into the caller's buffers.
 use Rattle.std.specs.Prelude.{◌≡◌, ℕ, List, true}
 use Rattle.crx_base.specs.meaning.Choices.{Choices, is_date}
 use Rattle.crx_filter.specs.meaning.Compacted.{compacted}
@@ -7,7 +7,7 @@ use Rattle.crx_filter.specs.meaning.Standard.{checked}
 use Rattle.crx_filter.specs.meaning.WayBack.{written_well}
 use Rattle.crx_runs.specs.meaning.Results.{FilterResult}
 
--- the expansion of the compact text of a file that a check passes is the file, with no message and status 0
+-- the expansion of the compact text of a file that passes a check is the file, with no message and status 0
 abbrev pub CallBringsBackWhatPasses : (FilterResult → Type 0) → List ℕ → Type 0
 CallBringsBackWhatPasses holds text =
     (file : List ℕ) (compacting : Choices)

@@ -1,5 +1,5 @@
--- What the expansion and the check promise of the files that they were made of, in the caller's memory.
--- `holds result` says that a call answered this result, and put its texts into the caller's rooms.
+-- The promises of the expansion and the check for files, in the caller's memory. `holds result` says that a call
+-- returned this result, and copied its texts into the caller's buffers.
 use Rattle.std.specs.Prelude.{◌≡◌, ◌↔◌, ℕ, List, map, None, true}
 use Rattle.crx_base.specs.meaning.Lines.{lines_of}
 use Rattle.crx_base.specs.meaning.AsRead.{as_read}
@@ -17,13 +17,13 @@ use Rattle.crx_filter.specs.meaning.Standard.{IsStandard, normal_form, printed_i
 
 -- ---- the way back
 
--- of what was compacted of a file, whatever was chosen for that, an expansion brings the file back
+-- the expansion of a file's compact text, compacted with any options, returns the file
 pub record CallBringsBack (holds : FilterResult → Type 0) (file : List ℕ) (compacting : Choices) : Type 0 where
   -- a standard file byte for byte, with no message and status 0
   pub standard : IsStandard file → holds (written_well file)
-  -- any other that is read to its good end in its normal form, unless a copied line ends in CR
+  -- any other file that is read to its good end in its normal form, unless a copied line ends in CR
   pub normal : HasNormalForm file → holds (written_well (normal_form file))
-  -- where faults were skipped, all units that were accepted, as RINEX prints them
+  -- if faults were skipped, all units that were accepted, as RINEX prints them
   pub accepted :
       let whole : WholeReading Epoch = whole_rinex compacting.skip (map as_read (lines_of file)) in
       whole.fault ≡ None → HaveNoReturns whole.items → holds (written_well (lines_text (printed_items whole.items)))
@@ -35,7 +35,7 @@ CallBringsBackWhatWasCompacted holds text =
 
 -- ---- damage
 
--- an expansion that skips faults saves all but the block that is damaged, whoever wrote the text
+-- an expansion that skips faults saves everything except the damaged block, whoever wrote the text
 abbrev pub CallSavesAllElse : (FilterResult → Type 0) → List ℕ → Type 0
 CallSavesAllElse holds damaged =
     (before : List (FileUnit Epoch)) (s : Stretch) (damage : IsDamaged before s damaged)
@@ -43,6 +43,6 @@ CallSavesAllElse holds damaged =
 
 -- ---- standard files
 
--- where a file is read to its good end, the status of its check is 0 exactly where it is standard
+-- if a file is read to its good end, the status of its check is 0 if and only if it is standard
 abbrev pub CallJudgesStandard : ℕ → List ℕ → Type 0
 CallJudgesStandard status file = (whole_of file).fault ≡ None → (status ≡ 0) ↔ IsStandard file

@@ -1,5 +1,5 @@
--- What the expansion promises of damaged text and of text that is cut off, in the caller's memory.
--- `holds result` says that a call answered this result, and put its texts into the caller's rooms.
+-- The promises of the expansion for text that is damaged or cut off, in the caller's memory. `holds result` says that a
+-- call returned this result, and copied its texts into the caller's buffers.
 use Rattle.std.specs.Prelude.{ℕ, List}
 use Rattle.crx_rinex.specs.meaning.Observations.{Epoch}
 use Rattle.crx_rinex.specs.meaning.Units.{Unit as FileUnit}
@@ -14,7 +14,7 @@ CallKeepsUndamaged holds damaged =
     (before : List (FileUnit Epoch)) (stretches : List Stretch) → HasStretches before stretches damaged
     → (saved : FilterResult) × KeepsTheRest before stretches saved × holds saved
 
--- an expansion writes all units that are whole at the beginning of its text, whatever comes after them
+-- an expansion writes all units that are whole at the beginning of its text, whatever follows them
 abbrev pub CallWritesWholeUnits : (FilterResult → Type 0) → List ℕ → Type 0
 CallWritesWholeUnits holds text =
     (units : List (FileUnit Epoch)) → AreUnitsInPlace units → BeginsWithUnits units text

@@ -10,7 +10,7 @@ use Rattle.rnxcmp_c.proofs.{exports.rnxcmp_c_expand.Goals.After-answer_of}
 use Rattle.crx_filter.specs.meaning.{ByResults.ExpansionKeeps, Expanded.expanded_unit, Written.result_of}
 use Rattle.rnxcmp_c.proofs.exports.rnxcmp_c_expand.Goals as goal
 
--- the call answered this result, and put its texts into the caller's rooms
+-- the call returned this result, and copied its texts into the caller's buffers
 abbrev Has : After-answer_of → FilterResult → Type 0
 Has c whole = AnswersWithin c.args.max_output whole c.answer_of.result
     (rooms c.args.output.now c.args.messages.now) (rooms c.answer_of.new.output_room
@@ -30,7 +30,7 @@ answer_of-requires c = take-enough (Expand c.in-Ok.options 0) c.expand-outcome.e
     c.new-written.ensures
     c.new-reported.ensures refl refl
 
--- of the choices alone whether faults are skipped counts
+-- of the options only `skip` matters
 pub returns : goal.returns
 returns c =
     let a = (goal.at.returns c).After-answer_of in

@@ -2,7 +2,7 @@ use Rattle.rnxcmp_c.proofs.Words.{◌≡◌, refl, ap, AnyEngine, Compacting, Ex
 use Rattle.rnxcmp_c.specs.Holdings.{engine_with}
 use Rattle.rnxcmp_c.proofs.laws.handle_holds.Goals as goal
 
--- an engine with all parts of another is that other
+-- an engine with all parts of another is the other
 engine-is : (one other : AnyEngine) → engine_with one other ≡ other
 engine-is (Compacting one) (Compacting other) = refl
 engine-is (Expanding one) (Expanding other) = refl

@@ -8,7 +8,7 @@ use Rattle.rnxcmp_c.specs.Past.{StopsSoon}
 use Rattle.rnxcmp_c.proofs.lines.take_bytes.Goals as goal
 use Rattle.std.proofs.lemmas.Grind.{common_steps}
 
--- of the bytes that are left so many more were taken
+-- more of the remaining bytes were used
 soon-then : (run : TaskRun) (fed : List ℕ) (taken : BothTexts) (bytes done left : List ℕ) (n : ℕ)
     → bytes ≡ done ++ left → 0 < n → StopsSoon run (fed ++ done) taken left n
     → StopsSoon run fed taken bytes (length done + n)

@@ -7,7 +7,7 @@ use Rattle.rnxcmp_c.proofs.Words.{take_all, err_from_is_err_and, HasNoFeed}
 use Rattle.rnxcmp_c.proofs.lines.take_to_line_end.{Given.Over, Goals.In-Some}
 use Rattle.rnxcmp_c.proofs.lines.take_to_line_end.Goals as goal
 
--- before the LF there is none
+-- there is no LF before the first one
 none-before : (g : Over) (c : In-Some g) → HasNoFeed (take c.in-Some.end c.args.bytes.now)
 none-before g c = search (rules, no_feed-before, c.in-Some.ensures.within.1, c.in-Some.ensures.first)
 

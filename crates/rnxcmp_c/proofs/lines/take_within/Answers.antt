@@ -11,7 +11,7 @@ use Rattle.rnxcmp_c.proofs.lines.take_within.Goals.{else-is_ended, then-content-
 use Rattle.rnxcmp_c.proofs.lines.take_within.Goals.{else-content-gt-LINE_LIMIT}
 use Rattle.rnxcmp_c.proofs.lines.take_within.Goals as goal
 
--- the engine was given the line, too long or not, and what is held beside the texts stayed
+-- the engine was fed the line, too long or not, and the state besides the texts is unchanged
 given : (g : Over) (c : Joined-content-gt-LINE_LIMIT g) (lines : List InputLine) (whole : List ℕ)
     → g.E.Engine.shows c.args.engine.now lines [] → c.args.held.now.tail.bytes.items ≡ take LINE_ROOM whole
     → LineIsGiven c.if-content-gt-LINE_LIMIT.taken (g.E.Engine.filter c.args.engine.now)

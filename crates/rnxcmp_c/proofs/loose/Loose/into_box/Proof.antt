@@ -1,4 +1,4 @@
--- `into_box` makes the box again.
+-- `into_box` puts the box together again.
 use Rattle.rnxcmp_c.proofs.{LooseValues.{both, Loose, loose_good, loose_out}, RawWords.{◌≡◌, List, [], ◌∷◌}}
 use Rattle.rnxcmp_c.proofs.RawWords.{◌++◌, refl, sym, ap, subst, a_type, dcons, dnil, Val, vptr, inst_fn}
 use Rattle.rnxcmp_c.proofs.RawWords.{SProp, id⊢, ftrue, flft, WpFn, ‵, raw, ◌⊛◌, some, later, ◌$◌, ◌∵◌}

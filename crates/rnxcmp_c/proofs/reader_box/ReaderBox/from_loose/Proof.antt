@@ -1,4 +1,4 @@
--- `from_loose` moves the pointer, and what the parts owned goes with it.
+-- `from_loose` moves the pointer, together with everything that the parts owned.
 use Rattle.std.proofs.{Common.arith, lemmas.Grind.common_steps}
 use Rattle.rnxcmp_c.proofs.{LooseValues.{both, Loose, loose_good, loose_out}}
 use Rattle.rnxcmp_c.proofs.{ReaderBoxValues.{word, place_in}}

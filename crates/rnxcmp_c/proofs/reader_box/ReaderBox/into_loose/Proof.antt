@@ -1,4 +1,4 @@
--- `into_loose` moves the pointer, and what the box owned goes with it.
+-- `into_loose` moves the pointer, together with everything that the box owned.
 use Rattle.rnxcmp_c.proofs.LooseValues.{al, both, loose_good, loose_in}
 use Rattle.rnxcmp_c.proofs.{ReaderBoxValues.word, RawWords.{◌≡◌, List}}
 use Rattle.rnxcmp_c.proofs.RawWords.{[], ◌∷◌, ◌++◌, refl, ap, ◌∙◌, Val, vptr, vstruct, of_list}
