@@ -15,8 +15,8 @@ use std::fs::OpenOptions;
 use std::io::BufWriter;
 use std::marker::{Model, PhantomData};
 
-/// The size of the output's buffer, in bytes, because a system call per line would cost more than all other work. The
-/// reader of lines reads pieces of the same size.
+/// The size of the output's buffer, in bytes, which avoids a system call per line. The reader of lines reads pieces of
+/// the same size.
 pub const OUTPUT_BUFFER: usize = 65536;
 
 /// Bytes, and the calls that opened files or failed to, in order. Only contracts read them: the log needs no memory,

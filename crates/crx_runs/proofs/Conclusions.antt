@@ -26,7 +26,7 @@ module _ {input : Input} {now : ReaderState} {lines : List InputLine}
       lines
   all-lines = grind (arith, common_steps, append-nil)
 
-  -- the lines that were read are the first lines of every input that begins with the bytes given
+  -- the lines that were read are the first lines of every input that begins with the bytes read
   first-lines : (now.phase ≡ Open) ⊎ (now.phase ≡ Ended) → (rest : List ℕ) → (input.at_end → rest ≡ [])
       → (more : List InputLine) × (lines_of (h.given ++ rest) ≡ lines ++ more)
   first-lines (inl e) rest none = (lines_of (now.rest ++ rest), (is-open h e).first rest)
@@ -103,7 +103,8 @@ module _ (filter : Filter) (lawful : IsLawful filter) (input : Input)
         input writer messages has_ended status fault
     interrupted = grind arith
 
-    -- the next item ended the run: its fault is the same in every longer input that begins with the bytes given
+    -- the next line or the end ended the run: its fault is the same in every longer input that begins with the bytes
+    -- read
     same-whole : {lines : List InputLine} (next : Option InputLine) (e : EndsBy filter input writer1 messages1
         now lines next halt) (rest : List ℕ) → (input.at_end → rest ≡ []) → (at : At)
         → (course_with filter lines next).fault ≡ Some at

@@ -22,7 +22,7 @@ use Rattle.crx_runs.specs.meaning.Spans.{Device, TookAll, TookPart, AreNext, IsP
 
 module _ (filter : Filter) {E : Type 0} (engine : EngineGhosts E) (then : E) (ready : List (List ℕ))
     (lines : List InputLine) where
-  -- what a line, or the end, adds if it isn't fed again
+  -- the output and warnings that a line, or the end, adds if it isn't fed again
   answers-add : (notices : List Awaited) (next : Option InputLine) (step : Step) → Stays step
       → IsDrainedAfter step ready → EngineAnswers filter (engine.shows then) (engine.has_ended then) ready
       lines notices next (Ok step)

@@ -65,7 +65,7 @@ module _ (filter : Filter) (lawful : IsLawful filter) (input : Input)
 
   -- ---- a line, or the end
 
-  -- a fault of the last item is a fault of lines
+  -- a fault of the last line or of the end is a fault of lines
   found-with : (lines : List InputLine) (next : Option InputLine) (at : At)
       → (course_with filter lines next).fault ≡ Some at → is_of_lines at.fault ≡ true
   found-with lines (Some line) at bad = lawful.found _ at bad

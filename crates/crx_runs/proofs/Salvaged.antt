@@ -59,7 +59,7 @@ module _ {input : Input} {now : ReaderState} {lines : List InputLine}
   pub asked-once : (now.phase ≡ Open) ⊎ (now.phase ≡ Ended) → AskedOnce input
   asked-once = grind arith
 
--- the last item taken of an input that was read up to it
+-- the last line or the end that was taken of an input
 pub turn-read : {input : Input} {now : ReaderState} (lines : List InputLine) (next : Option InputLine)
     (h : HasRead input.gave input.at_end input.start input.counted now (lines_with lines next))
     → (now.phase ≡ Open) ⊎ (now.phase ≡ Ended) → (next ≡ None → now.phase ≡ Ended)
@@ -100,7 +100,7 @@ module _ {filter : Filter} (lawful : IsLawful filter) (input : Input) (given : L
         ∙ sym t.same) (lawful.goes_on lines [])) begins,
   )
 
-  -- the output after an item is a prefix, and so is the output before it
+  -- the output after a line or the end is a prefix, and so is the output before it
   pub first-after-turn : (lines : List InputLine) (next : Option InputLine) (written : List ℕ)
       → IsTurn input given lines next → Begins (course_with filter lines next).output written → IsFirst
       written

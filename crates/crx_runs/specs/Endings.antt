@@ -94,7 +94,7 @@ pub record ReaderStopped (input : Input)
   pub stopped : now.phase ≡ Stopped at
   pub out : IsAllOut writer messages course
 
--- the item after these lines ended the run: a line, or the end of the input
+-- the next line after these, or the end of the input, ended the run
 pub record EndsBy (filter : Filter) (input : Input) (writer messages : Device) (now : ReaderState)
     (lines : List InputLine) (next : Option InputLine) (halt : Halt) : Type 0 where
   pub read : HasRead input.gave input.at_end input.start input.counted now (lines_with lines next)

@@ -93,20 +93,20 @@ pub record KeepsAllElse (before after : Filter) (took takes : List InputLine →
   pub shows : (lines : List InputLine) (notices : List Awaited) → took lines notices → takes lines notices
   pub ended : (lines : List InputLine) → had_ended lines → has_ended lines
 
--- the state of an engine after the next item: one line more, or the end
+-- the state of an engine after the next line or the end
 abbrev pub shown_with : (List InputLine → List Awaited → Type 0) → (List InputLine → Type 0) → List InputLine
     → Option InputLine → Type 0
 shown_with shows has_ended lines (Some line) = shows (with_next lines line) []
 shown_with shows has_ended lines None = has_ended lines
 
--- or the line is fed again, after this warning; the end never is
+-- or the engine waits for the line again, after this warning; it never waits for the end
 abbrev pub awaits : (List InputLine → List Awaited → Type 0) → List InputLine → Option InputLine → At → Type 0
 awaits shows lines (Some line) notice = shows lines (record { notice = notice; line = line } ∷ [])
 awaits shows lines None notice = ⊥
 
--- an engine's answer to the item after some lines: a line, or the end of the input. `notices` has the warning of the
--- first time if a line is fed again. The answer is no output, pending lines, a warning with the line, a warning before
--- the line is fed again, refused memory at a line that may need some, or a fault
+-- an engine's answer to the line after some lines, or to the end of the input. `notices` has the warning of the first
+-- time if the line is fed again. The answer is no output, pending lines, a warning with the line, a warning before the
+-- line is fed again, refused memory at a line that may need some, or a fault
 abbrev pub EngineAnswers : Filter → (List InputLine → List Awaited → Type 0) → (List InputLine → Type 0)
     → List (List ℕ) → List InputLine → List Awaited → Option InputLine → Result Step At → Type 0
 EngineAnswers filter shows has_ended ready lines notices next (Ok Quiet) =

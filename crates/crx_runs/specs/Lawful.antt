@@ -1,4 +1,4 @@
--- What a filter has to satisfy, so that its runs over any input have their defined results.
+-- Filters whose runs over any input have their defined results.
 use Rattle.std.specs.Prelude.{◌≡◌, Bool, true, false, List, [], ◌++◌, Some, None}
 use Rattle.crx_base.specs.meaning.Lines.{InputLine}
 use Rattle.crx_base.specs.declared.fault.At.{At}

@@ -36,7 +36,7 @@ pub record HoldsAnswer {E : Type 0} (engine : EngineGhosts E) (now : E) (content
       × (engine.taken now ≡ taken_after step count) × (number ≡ count + 1))
   pub within : number ≤ INPUT_LIMIT
 
--- an engine holds its answer to the item after some lines, which is this line
+-- an engine holds its answer to this line, which follows some lines
 abbrev pub WasAnswered : {E : Type 0} → EngineGhosts E → E → InputLine → List InputLine → Option InputLine → Type 0
 WasAnswered engine now line lines next = EngineAnswers (engine.filter now) (engine.shows now)
     (engine.has_ended now) (engine.ready now) lines [] next (engine.answer now) × (next ≡ Some line)
@@ -86,7 +86,7 @@ IsSettled writer messages made (Err halt) =
 
 -- ---- one line
 
--- a line or the end was taken: what it adds was written and reported
+-- a line or the end was taken: its output and warnings were written and reported
 pub record IsDone (before after : Course) (shown : Type 0) (writer messages : Device) (warned : Bool) : Type 0 where
   pub is_shown : shown
   pub text : List ℕ
@@ -96,7 +96,7 @@ pub record IsDone (before after : Course) (shown : Type 0) (writer messages : De
   pub reported : TookAll messages (notices_text notices)
   pub flag : warned ≡ are_some notices
 
--- the next item of the input was taken; or it ended the run, perhaps because memory was refused at line `number`
+-- the next line or the end was taken; or it ended the run, perhaps because memory was refused at line `number`
 abbrev pub Becomes : Option (List At) → ℕ → Course → Course → Type 0 → Device → Device → Result Bool Halt →
     Type 0
 Becomes memory number before after shown writer messages (Ok warned) =
@@ -104,7 +104,7 @@ Becomes memory number before after shown writer messages (Ok warned) =
 Becomes memory number before after shown writer messages (Err halt) =
     EndsFrom memory number writer messages before after halt
 
--- an engine took the next item, whichever it is of those that `comes` allows: a line, or the end
+-- an engine took a line or the end, any that `comes` allows
 pub record TakesNext {E : Type 0} (engine : EngineGhosts E) (before now : E)
     (comes : List InputLine → Option InputLine → Type 0)
     (writer messages : Device) (result : Result Bool Halt) : Type 0 where

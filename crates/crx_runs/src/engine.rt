@@ -84,7 +84,8 @@ pub trait Engine {
     fn answer(&self) -> Result<Step, At>
         ensures value { result ≡ answer self.now };
 
-    /// Takes a line above the length limit, line `number`. It is never fed again.
+    /// Takes a line above the length limit, line `number`. It is never fed again. An error is the fault that ends the
+    /// run.
     fn overlong(&mut self, number: u64) -> Result<Step, At>
         requires next { IsNextLine (ready self.old) (taken self.old) number }
         ensures stepped { HasStepped (filter self.old) (filter self.new) (ready self.new) result }

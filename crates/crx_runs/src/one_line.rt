@@ -82,9 +82,9 @@ fn write_step<E: Engine, W: Sink, M: Sink>(
     }
 }
 
-/// Feeds `line` to the engine and writes the lines that follow from it. Returns `false`, without a write, if the answer
-/// is in [`Engine::answer`]. `_messages` is only in the contract: nothing is reported. Returns `WriteFailed` if the
-/// writer fails.
+/// Feeds `line` to the engine and writes its output. Returns `false`, without a write, if the engine has an answer
+/// instead ([`Engine::answer`]), and `WriteFailed` if the writer fails. `_messages` is only in the contract: nothing is
+/// reported.
 #[inline(always)]
 pub(crate) fn hand_out<E: Engine, W: Sink, M: Sink>(
     engine: &mut E,

@@ -16,8 +16,9 @@ use crate::stepwise::Run;
 use crx_lines::phase::Phase;
 use crx_lines::{Sink, Source};
 
-/// Takes `begun` from before its first line to its end: reads the input, writes the engine's output, reports its
-/// warnings, flushes, and reports the fault. The caller keeps the run, so that it can look at the engine.
+/// Takes `begun` from before its first line to its end and returns the outcome: reads the input, writes the engine's
+/// output, reports its warnings, flushes, and reports the fault. The caller keeps the run, so that it can look at the
+/// engine.
 pub fn run<E: Engine + Drop, R: Source, W: Sink, M: Sink>(
     begun: &mut Run<E>,
     reader: &mut R,

@@ -17,8 +17,8 @@ use crx_base::Refused;
 use crx_lines::{LineReader, Sink, Source};
 use std::alloc::Global;
 
-/// Runs `engine` over an input. If there is no engine, or no memory for the reader of lines, the run ends with
-/// `OutOfMemory` at line 0.
+/// Runs `engine` over an input and returns the outcome. If memory for the engine or for the reader of lines is refused,
+/// the run ends with `OutOfMemory` at line 0.
 pub fn start<E: Engine + Drop, R: Source, W: Sink, M: Sink>(
     alloc: Global,
     engine: Result<E, Refused>,

@@ -139,9 +139,10 @@ impl<E: Engine + Drop> Run<E> {
         self.ended
     }
 
-    /// Takes the next line: writes its output and reports its warnings. Before it reads on, the output and warnings of
-    /// all earlier lines are written, in the order of the lines. The writer passes all output on before a read that may
-    /// have to wait and, if output is awaited, before a warning.
+    /// Takes the next line: writes its output and reports its warnings. The run ends at a fault, a failed read or
+    /// write, or refused memory. Before it reads on, the output and warnings of all earlier lines are written, in the
+    /// order of the lines. The writer passes all output on before a read that may have to wait and, if output is
+    /// awaited, before a warning.
     #[inline(always)]
     pub fn step<R: Source, W: Sink, M: Sink>(
         &mut self,
@@ -260,7 +261,8 @@ impl<E: Engine + Drop> Run<E> {
         take_end(&mut self.engine, writer, messages)
     }
 
-    /// Takes all lines of the input and its end; returns whether a warning was reported.
+    /// Takes all lines of the input and its end, unless the run ends before, which [`Run::ended`] says. Returns whether
+    /// a warning was reported.
     #[inline(never)]
     pub(crate) fn take_all<R: Source, W: Sink, M: Sink>(
         &mut self,

@@ -17,8 +17,8 @@ pub record Filter : Type 0 where
 abbrev pub with_next : List InputLine → InputLine → List InputLine
 with_next lines line = lines ++ line ∷ []
 
--- the next item after some lines: a line, or the end of the input if there is none. The lines including it; the output
--- and warnings due after it; and after which of its warnings memory may be refused at it
+-- the next line after some lines, or the end of the input if there is none: the lines including it; the output and
+-- warnings due after it; and after which of its warnings memory may be refused at it
 abbrev pub lines_with : List InputLine → Option InputLine → List InputLine
 lines_with lines (Some line) = with_next lines line
 lines_with lines None = lines

@@ -36,7 +36,7 @@ AreAllSoFar input given lines =
     ((complete_lines given ≡ lines) × ((length given ≤ INPUT_LIMIT) × (input.counted ≡ input.start)))
     ⊎ AreAll input given lines
 
--- the last item taken followed these lines: a line, or the end of the input
+-- the last line or end that was taken followed these lines
 abbrev pub IsTurn : Input → List ℕ → List InputLine → Option InputLine → Type 0
 IsTurn input given lines (Some line) = AreTaken input given (with_next lines line)
 IsTurn input given lines None = AreAll input given lines
@@ -60,9 +60,9 @@ IsHeldBack writer text = writer.took text × (writer.after ≡ with_failed_flush
 
 -- ---- by the fault that ended the run
 
--- the state after a run, as one row of a table. `taken`: the items taken by then; `number`: the line at which the run
--- stopped; `due`: the course of these items; `found`: its fault; `wrote`: how its output was written and flushed;
--- `told`: how its warnings were reported
+-- the state after a run, as one row of a table. `taken`: the last line or end that was taken; `number`: the line at
+-- which the run stopped; `due`: the course up to there; `found`: its fault; `wrote`: how its output was written and
+-- flushed; `told`: how its warnings were reported
 pub record Stopped (taken : Type 0) (number : ℕ) (due : Course) (found : Option At) (wrote : List ℕ → Type 0)
     (told : List At → Type 0) (at : At) : Type 0 where
   pub turn : taken
@@ -94,8 +94,8 @@ Stands filter input given writer messages at OutOfMemory =
     (length lines + 1)
     (record (filter.so_far lines) { warnings = (filter.so_far lines).warnings ++ notices; fault = None }) None
     (IsWritten writer) (AreReported messages at) at)
--- the writer failed in the output of the last item; or the messages failed in one of its warnings: all earlier output
--- was written, and nothing more was tried
+-- the writer failed in the output of the last line or the end; or the messages failed in one of its warnings: all
+-- earlier output was written, and nothing more was tried
 Stands filter input given writer messages at WriteFailed =
     ((lines : List InputLine) × (next : Option InputLine) × Stopped (IsTurn input given lines next)
     (length (lines_with lines next)) (course_with filter lines next) None
@@ -110,7 +110,7 @@ Stands filter input given writer messages at WriteFailed =
     (filter.whole (lines_of given)) None (IsHeldBack writer) (AreReported messages at) at
     ⊎ ((lines : List InputLine) × Stopped (AreAllSoFar input given lines) (length lines)
     (filter.so_far lines) None (IsHeldBack writer) (AreReported messages at) at)))
--- the filter found a fault in the last item
+-- the filter found a fault in the last line or at the end
 Stands filter input given writer messages at _ =
     (lines : List InputLine) × (next : Option InputLine) × Stopped (IsTurn input given lines next) at.line
     (course_with filter lines next) (Some at) (IsWritten writer) (AreReported messages at) at

@@ -1,4 +1,4 @@
--- A reader and a writer between two moments: the bytes that passed through them, and what was counted.
+-- A reader and a writer between two moments: the bytes that passed through them, and their counts.
 use Rattle.std.specs.Prelude.{◌≡◌, ◌<◌, ◌≤◌, ℕ, List, ◌++◌, length, take}
 use Rattle.crx_lines.specs.meaning.Devices.{Tally, tally_of, with_failed_write, SinkTally}
 use Rattle.crx_lines.specs.declared.device.Source.{Ghosts}
