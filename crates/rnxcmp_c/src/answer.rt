@@ -12,7 +12,7 @@ pub const NO_ROOM: u32 = 3;
 /// The status if the date is refused.
 pub const BAD_DATE: u32 = 4;
 
-/// The status if a handle isn't open, or its run has ended.
+/// The status if a handle is open before it is opened, isn't open, or its run has ended.
 pub const MISUSED: u32 = 6;
 
 /// The status if the output is longer than its limit.

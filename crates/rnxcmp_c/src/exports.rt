@@ -29,7 +29,7 @@ use crx_base::limits::INPUT_LIMIT;
 use crx_filter::{Options, check, compact, expand};
 use std::alloc::Global;
 
-/// Compacts RINEX 3.0x. `every`: each epoch whose index it divides is full (0: only the necessary ones); `skip`: an
+/// Compacts RINEX 3.0x. `every`: an epoch is full if `every` divides its index (0: only if it must be); `skip`: an
 /// epoch with a fault is skipped with a warning; `date`: the date in the second line; `max_output`: the most bytes of
 /// output (0: no limit). The status is `BAD_DATE` if the date is refused.
 #[unsafe(no_mangle)]

@@ -172,7 +172,8 @@ pub extern "C" fn rnxcmp_c_open_check(alloc: Global, handle: &mut Handle) -> Ans
 }
 
 /// Feeds bytes of the input, which may end anywhere, until [`READY_LIMIT`](crate::limits::READY_LIMIT) bytes wait to be
-/// taken. Sets `used` to the number of bytes used. The status is `MISUSED` if the handle isn't open or its run has
+/// taken, and sets `used` to the number of bytes used. A fault, refused memory, a byte above the input's limit and the
+/// limit of the output end the run. The status is the run's, or `MISUSED` if the handle isn't open or its run had
 /// ended.
 #[unsafe(no_mangle)]
 pub extern "C" fn rnxcmp_c_feed(
@@ -210,7 +211,7 @@ pub extern "C" fn rnxcmp_c_feed(
     answer
 }
 
-/// Ends the input. The status is `MISUSED` if the handle isn't open or its run has ended.
+/// Ends the input. The status is the run's, or `MISUSED` if the handle isn't open or its run had ended.
 #[unsafe(no_mangle)]
 pub extern "C" fn rnxcmp_c_end(alloc: Global, handle: &mut Handle) -> Answer
     requires sound { IsSoundHandle handle.old }

@@ -12,7 +12,7 @@ use std::alloc::Global;
 pub struct HandleState {
     /// The bytes after the last LF, as far as they are kept.
     pub(crate) tail: Piece,
-    /// A copy of the line, followed by a blank and more bytes, which the bytes fed don't have after them.
+    /// A copy of a line, followed by a blank and more bytes, because fed bytes have nothing after them.
     pub(crate) copy: Box<PaddedCopy>,
     /// The number of the last line taken, 0 before the first.
     pub(crate) number: u64,

@@ -37,9 +37,9 @@ fn content_of(bytes: &[u8]) -> (&[u8], bool)
     }
 }
 
-/// Counts the output added since `mark`, and notes a warning. Returns `Stop::Limit` if the output would be longer than
-/// its limit, and the fault of the step, if it has one. If one of the texts couldn't be kept, the fault is
-/// `OutOfMemory` at line `number`. Unless the step has a fault of its own, both texts are cut back to `mark`.
+/// Counts the output added since `mark`, and stores whether there was a warning. Returns `Stop::Limit` if the output
+/// would be longer than its limit, `OutOfMemory` at line `number` if one of the texts couldn't be kept, and otherwise
+/// the step's fault, if it has one. In the first two cases both texts are cut back to `mark`.
 fn counted(
     held: &mut HandleState,
     mark: Mark,

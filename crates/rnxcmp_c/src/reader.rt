@@ -71,8 +71,9 @@ impl Reader {
         }
     }
 
-    /// Feeds bytes of the input, if the run continues, until `READY_LIMIT` bytes wait to be taken. Returns how many
-    /// bytes were used, and the run's state; `MISUSED` if the run has ended.
+    /// Feeds bytes of the input, if the run continues, until `READY_LIMIT` bytes wait to be taken. A byte above
+    /// `INPUT_LIMIT` ends the run. Returns how many bytes were used, and the run's state; `MISUSED` if the run has
+    /// ended.
     pub(crate) fn take_in(&mut self, bytes: &[u8]) -> (usize, Answer)
         requires { (task : Task) × (fed : List ℕ) × (taken : BothTexts)
             × ReaderStands task self.old fed taken }
