@@ -18,11 +18,11 @@ ghost use Rattle.crx_filter.specs.meaning.Expanded.{expanded};
 ghost use Rattle.crx_filter.specs.meaning.Standard.{printed_items};
 ghost use Rattle.crx_filter.specs.meaning.WayBack.{written_well};
 
-/// Blocks can be expanded separately. Two compact texts, each of whole lines and expanded without a fault, leave the
-/// same observation types in force; for example, a file up to some block and only its header, if the types don't
-/// change. Then lines that begin with a full epoch, or with an event and then a full epoch, are expanded to the same
-/// lines after both texts, with the same fault or none. So a file can be cut before a full epoch, and each piece can be
-/// expanded separately after the header.
+/// Blocks can be expanded separately. If two compact texts, each of whole lines and expanded without a fault, leave the
+/// same observation types in force, then lines that begin with a full epoch, or with an event and a full epoch, are
+/// expanded to the same lines after both, with the same fault or none. Such texts are, for example, a file up to some
+/// block and only its header, if the types don't change. So a file can be cut before a full epoch, and each piece can
+/// be expanded separately after the header.
 pub fn blocks_stand_alone()
     ensures law { (more one other : List ℕ) (choices : Choices) → StandAlone more one other choices }
 {}

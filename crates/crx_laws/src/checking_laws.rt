@@ -28,7 +28,7 @@ pub fn standard_files_are_named()
 {}
 
 /// A file that is read to its good end is reported as standard, with status 0, if and only if the expansion of its
-/// compaction returns it byte for byte. The options of both don't matter.
+/// compaction restores it byte for byte. The options of both don't matter.
 pub fn standard_exactly_where_same()
     ensures law { (input : List ℕ) (compacting expanding : Choices)
         → IsStandardExactlyWhereSame input compacting expanding }

@@ -43,8 +43,8 @@ pub fn compaction_goes_on()
         → IsWrittenFirst compacted_so_far (λ input (c : Choices). (compacted input c).output) choices lines }
 {}
 
-/// A compaction works line by line: after each line its findings, output and messages are those for all lines so far,
-/// computed from the line and the state before it, with or without `-s`.
+/// A compaction works line by line: its state, output and messages after each line are those for all lines so far,
+/// computed only from the line and the state before it, with or without `-s`.
 pub fn compaction_by_line()
     ensures law { (choices : Choices) (lines : List ReadLine) (line : ReadLine)
         → IsCompactedOn choices lines line }

@@ -1,4 +1,4 @@
--- A file that passes a check returns, in the caller's memory, by the law.
+-- A file that passes a check is restored, in the caller's memory, by the law.
 use Rattle.std.proofs.lemmas.Grind.{common_steps}
 use Rattle.rnxcmp_c.proofs.Words.{ℕ, List, arith, Choices, expanded, FilterResult, what-passes}
 use Rattle.rnxcmp_c.proofs.Words.{CallBringsBackWhatPasses}

@@ -11,9 +11,9 @@ use Rattle.rnxcmp_c.specs.meaning.Promises.{CallBringsBackWhatWasCompacted, Call
 use Rattle.rnxcmp_c.specs.meaning.Promises.{CallSavesAllElse}
 use Rattle.rnxcmp_c.specs.meaning.Stretches.{CallKeepsUndamaged, CallWritesWholeUnits}
 
--- an expansion: a file that passes a check returns; compact text is read with its meaning, whoever wrote it, and no
--- other text ends with status 0; compacted files return; if faults are skipped, everything except the damaged parts is
--- written; and everything that is whole before a cut is written
+-- an expansion: a file that passes a check is restored; compact text is read with its meaning, whoever wrote it, and no
+-- other text ends with status 0; compacted files are restored; if faults are skipped, everything except the damaged
+-- parts is written; and everything that is whole before a cut is written
 pub record ExpansionPromises (choices : Choices) (fed : List ℕ) (made kept : BothTexts) (answer : Answer)
     : Type 0 where
   pub lossless : CallBringsBackWhatPasses (λ whole. RunHasResult whole made kept answer) fed
@@ -25,7 +25,7 @@ pub record ExpansionPromises (choices : Choices) (fed : List ℕ) (made kept : B
       (λ whole. RunHasResult whole made kept answer) fed
   pub whole_units : CallWritesWholeUnits (λ whole. RunHasResult whole made kept answer) fed
 
--- a check: a file with status 0 returns, and these are the standard files
+-- a check: a file with status 0 can be restored, and these are the standard files
 pub record CheckPromises (fed : List ℕ) (answer : Answer) : Type 0 where
   pub lossless : SaysThatItComesBack answer.status fed
   pub standard : CallJudgesStandard answer.status fed

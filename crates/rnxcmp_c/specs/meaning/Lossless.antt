@@ -1,5 +1,5 @@
--- A file that passes a check returns, in the caller's memory. `holds result` says that a call returned this result, and
--- copied its texts into the caller's buffers.
+-- A file that passes a check is restored, in the caller's memory. `holds result` says that a call returned this result,
+-- and copied its texts into the caller's buffers.
 use Rattle.std.specs.Prelude.{◌≡◌, ℕ, List, true}
 use Rattle.crx_base.specs.meaning.Choices.{Choices, is_date}
 use Rattle.crx_filter.specs.meaning.Compacted.{compacted}

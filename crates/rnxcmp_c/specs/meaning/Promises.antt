@@ -17,7 +17,7 @@ use Rattle.crx_filter.specs.meaning.Standard.{IsStandard, normal_form, printed_i
 
 -- ---- the way back
 
--- the expansion of a file's compact text, compacted with any options, returns the file
+-- the expansion of a file's compact text, compacted with any options, restores the file
 pub record CallBringsBack (holds : FilterResult → Type 0) (file : List ℕ) (compacting : Choices) : Type 0 where
   -- a standard file byte for byte, with no message and status 0
   pub standard : IsStandard file → holds (written_well file)
