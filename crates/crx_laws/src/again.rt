@@ -35,8 +35,8 @@ pub fn hours_make_a_day()
         (compacting expanding : Choices) → MakeADay first second header later rest compacting expanding }
 {}
 
-/// Shows that the premises of these laws can be met: by a date, by a file of five epochs, by a text with arcs of other
-/// orders, and by that file after one with an event.
+/// Shows that the premises can be met: by a date, by a file of five epochs, by a text with arcs of other orders, and by
+/// that file after one with an event.
 pub fn premises()
     ensures date { is_date plain_choices.date ≡ true }
     ensures file { HasNormalForm (lines_text (file_of_five [])) }

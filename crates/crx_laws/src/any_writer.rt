@@ -52,8 +52,8 @@ pub fn first_units_are_written()
     ensures law { WritesFirstUnits }
 {}
 
-/// Shows that the premises of these laws can be met: by a small file, and a compact text of it with arcs of order 9, 18
-/// digits, marks without a change, an epoch with differences after an event, and a line that ends with CR LF.
+/// Shows that the premises can be met: by a small file, and a compact text of it with arcs of order 9, 18 digits, marks
+/// without a change, an epoch with differences after an event, and a line that ends with CR LF.
 pub fn premises()
     ensures met { AreWholeFile wild_units }
     ensures text { IsCompactTextOf wild_units wild_text }

@@ -190,8 +190,8 @@ pub fn a_fault_empties()
         (Content (codes "                    1")) ≡ Faulty NotAnEpoch }
 {}
 
-/// Shows that the premises of the laws can be met: two epochs of one satellite are whole by the counts of types in
-/// force, and their lines, as they are read, are one for each satellite, with printable marks.
+/// Shows that the premises can be met: two epochs of one satellite are whole by the counts of types in force, and their
+/// lines, as they are read, are one for each satellite, with printable marks.
 pub fn premises_can_be_met()
     ensures counts { AreCounts one_type }
     ensures whole { AreWholeByTypes two_typed }

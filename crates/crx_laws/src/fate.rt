@@ -57,8 +57,8 @@ pub fn a_cut_is_noticed()
         → IsNoticed (read_of_text text choices) (read_of_text cut choices) (length (lines_of cut)) }
 {}
 
-/// Shows that the premises of these laws can be met: by a file and a text that are cut off in their second epochs,
-/// where each cut is a fault.
+/// Shows that the premises can be met: by a file and a text that are cut off in their second epochs, where each cut is
+/// a fault.
 pub fn premises()
     ensures skips_nothing { plain_choices.skip ≡ false }
     ensures file { (compacted (lines_text (file_of_five [])) plain_choices).fault ≡ None }

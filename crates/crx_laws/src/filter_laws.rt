@@ -30,8 +30,7 @@ pub fn resumed_rinex()
     ensures resumed { IsResumed rinex_place }
 {}
 
-/// The unit at a line of compact text, from the third line on, is certain when its last line is read; so reading more
-/// lines continues from the place where reading the first lines stopped.
+/// The same holds for compact text, from its third line on.
 pub fn resumed_compact()
     ensures forward { IsReadForward compact_place }
     ensures resumed { IsResumed compact_place }
@@ -50,7 +49,7 @@ pub fn compaction_by_line()
         → IsCompactedOn choices lines line }
 {}
 
-/// The output of an expansion for some lines is a prefix of its output for every input that begins with these lines.
+/// The same holds for the output of an expansion.
 pub fn expansion_goes_on()
     ensures law { (choices : Choices) (lines : List ReadLine)
         → IsWrittenFirst expanded_so_far (λ input (c : Choices). (expanded input c).output) choices lines }
@@ -68,8 +67,7 @@ pub fn compaction_ends()
     ensures law { (choices : Choices) (lines : List ReadLine) → IsCompactionEnded choices lines }
 {}
 
-/// The end of the input, after any lines, ends the expansion of all of them: nothing more is written, and the fault or
-/// the warning is the whole reading's.
+/// The end of the input ends an expansion in the same way.
 pub fn expansion_ends()
     ensures law { (choices : Choices) (lines : List ReadLine) → IsExpansionEnded choices lines }
 {}

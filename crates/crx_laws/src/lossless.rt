@@ -13,7 +13,7 @@ pub fn what_passes_comes_back()
     ensures law { WhatPassesComesBack }
 {}
 
-/// Shows that the premises of this law can be met: by a date, and by a file that a check passes.
+/// Shows that the premises can be met: by a date, and by a file that a check passes.
 pub fn premises()
     ensures date { is_date plain_choices.date ≡ true }
     ensures passed { (checked (lines_text

@@ -26,8 +26,8 @@ pub fn the_normal_form_stays()
     ensures law { (input : List ℕ) → IsNormalForGood input }
 {}
 
-/// Shows that the premises of these laws can be met, also by a file that isn't standard: its number has a superfluous
-/// zero before the point, which its normal form doesn't have.
+/// Shows that the premises can be met, also by a file that isn't standard: its number has a superfluous zero before the
+/// point, which its normal form doesn't have.
 pub fn premises()
     ensures met { HasNormalForm (lines_text (header ++ epoch_line_at 0 1 ∷ codes "G01        01.000" ∷ [])) }
     ensures changed { normal_form (lines_text (header ++ epoch_line_at 0 1 ∷ codes "G01        01.000" ∷ []))

@@ -33,8 +33,7 @@ pub fn an_epoch_is_read_back()
         ≡ Done (Observation epoch) (length epoch.rows + 1) }
 {}
 
-/// Shows that the premises of these laws can be met: by a row of one value with an indicator, and by an epoch of two
-/// satellites.
+/// Shows that the premises can be met: by a row of one value with an indicator, and by an epoch of two satellites.
 pub fn premises()
     ensures row { IsSoundRow g02 }
     ensures types { HasItsTypes one_type g02 }

@@ -37,11 +37,11 @@ pub fn undamaged_text_is_the_compaction()
         (damage : IsOwnDamaged input compacting damaged) → IsOfCompaction input compacting damaged damage }
 {}
 
-/// Shows that the premises of these laws can be met: by a date; by an expansion that skips faults; and by a block of
-/// two epochs of which a line that is no clock, no line, or the rest of its first epoch is left. In the last case the
-/// lines are those of the block's first epoch. They can also be met if other epochs can be read instead of the block's,
-/// if an event follows the block, and if the block is the last one and ends without LF. And by a text with an arc of
-/// order 9, which no known writer writes, whose second epoch has lost a line.
+/// Shows that the premises can be met: by a date; by an expansion that skips faults; and by a block of two epochs of
+/// which a line that is no clock, no line, or the rest of its first epoch is left. In the last case the lines are those
+/// of the block's first epoch. They can also be met if other epochs can be read instead of the block's, if an event
+/// follows the block, and if the block is the last one and ends without LF. And by a text with an arc of order 9, which
+/// no known writer writes, whose second epoch has lost a line.
 pub fn premises()
     ensures wild { IsDamaged wild_before wild_block wild_shortened }
     ensures date { is_date in_full_every_second.date ≡ true }

@@ -29,8 +29,8 @@ pub fn blocks_are_short()
     ensures law { (choices : Choices) (file : List ℕ) → HasShortBlocks choices file (compacted file choices) }
 {}
 
-/// Shows that the premises of these laws can be met: by a file and a text of which an epoch is dropped with a warning;
-/// by another file that has the lines which no warning drops; and by a block of two epochs if every second one is full.
+/// Shows that the premises can be met: by a file and a text of which an epoch is dropped with a warning; by another
+/// file that has the lines which no warning drops; and by a block of two epochs if every second one is full.
 pub fn premises()
     ensures file { (compacted (lines_text (header ++ epoch_line_at 0 2 ∷ observed (codes "1.000")
         ∷ observed (codes "1.000") ∷ [])) with_skip).fault ≡ None }

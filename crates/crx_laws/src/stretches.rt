@@ -43,10 +43,10 @@ pub fn whole_units_are_written()
         → Begins (expanded text expanding).output (lines_text (printed_items whole.before)) }
 {}
 
-/// Shows that the premises of these laws can be met: by two stretches of one file, the first with a line that begins
-/// with `>`, the second from the first line of the last block to the end; by an event that is lost with its block, or
-/// because its count is damaged; and by a text that is cut off inside a line. And by a text with arcs of order 9 and 7
-/// and an event after the stretch, which no known writer writes.
+/// Shows that the premises can be met: by two stretches of one file, the first with a line that begins with `>`, the
+/// second from the first line of the last block to the end; by an event that is lost with its block, or because its
+/// count is damaged; and by a text that is cut off inside a line. And by a text with arcs of order 9 and 7 and an event
+/// after the stretch, which no known writer writes.
 pub fn premises()
     ensures wild { HasStretches wild_before (wild_stretch ∷ []) wild_damaged }
     ensures twice { HasOwnStretches (lines_text (file_of_five [])) in_full_every_second damaged_twice }

@@ -20,8 +20,8 @@ pub fn standard_files_are_units()
     ensures law { (file : List ℕ) → IsStandardByUnits file }
 {}
 
-/// Shows that the premises of these laws can be met: by a header, two epochs, an event with a record, and one more
-/// epoch; and shows the two texts of these units.
+/// Shows that the premises can be met: by a header, two epochs, an event with a record, and one more epoch; and shows
+/// the two texts of these units.
 pub fn premises()
     ensures met { MakeAFile units_with_event }
     ensures rinex { rinex_text units_with_event ≡ lines_text with_event }

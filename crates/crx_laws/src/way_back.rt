@@ -40,8 +40,8 @@ pub fn what_comes_back_is_standard()
         → IsStandardWhereSame input compacting expanding }
 {}
 
-/// Shows that the premises of these laws can be met: by a date; by a standard file; and, if faults are skipped, by a
-/// file with two warnings, an event and no line that ends in CR.
+/// Shows that the premises can be met: by a date; by a standard file; and, if faults are skipped, by a file with two
+/// warnings, an event and no line that ends in CR.
 pub fn premises()
     ensures date { is_date (plain_choices.date) ≡ true }
     ensures standard { IsStandard (lines_text (header ++ epoch_line_at 0 1 ∷ observed (codes "1.000") ∷ [])) }

@@ -12,8 +12,8 @@ pub fn what_is_expanded_is_standard()
     ensures law { (text : List ℕ) (choices : Choices) → WhatIsExpandedIsStandard text choices }
 {}
 
-/// Shows that the premises of this law can be met: by a damaged text if faults are skipped, and by a text with arcs of
-/// the orders 1 and 0. For a text with a copied line that ends in CR, a line of the output ends in CR.
+/// Shows that the premises can be met: by a damaged text if faults are skipped, and by a text with arcs of the orders 1
+/// and 0. For a text with a copied line that ends in CR, a line of the output ends in CR.
 pub fn premises()
     ensures damaged { (expanded (damaged_by (codes "xyz" ∷ [])) with_skip).fault ≡ None }
     ensures damaged_plain { has_plain_lines
