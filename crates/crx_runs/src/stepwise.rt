@@ -116,7 +116,7 @@ impl<E: Engine + Drop> Run<E> {
 
     /// Returns a run before the first line of `input`.
     pub fn over(engine: E, input: LineReader) -> Run<E>
-        ensures { result ≡ record { engine = engine; input = input; ended = None } }
+        ensures begun { result ≡ record { engine = engine; input = input; ended = None } }
     {
         Run {
             engine,
