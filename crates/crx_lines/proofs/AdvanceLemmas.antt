@@ -1,4 +1,4 @@
--- What the search for a line's end found, as the first line of the input.
+-- The search for a line's end found the first line of the input.
 use Rattle.std.proofs.Common.{rules, eqb, ltb, ◌||◌, ◌≡◌, ◌≢◌, ℕ, ◌+◌, ◌-◌, ◌<◌, ◌≤◌, Bool, true, false, not}
 use Rattle.std.proofs.Common.{◌&&◌, cond, List, ◌++◌, ◌⊎◌, length, take, drop, slice_index, IsTrue}
 use Rattle.std.proofs.Common.{MatchBool, ap, ◌∙◌, arith, ⊎_elim}
@@ -27,7 +27,7 @@ searched-no_feed held n within none =
 abbrev pub piece_at : List ℕ → List ℕ → ℕ → Bool → Piece
 piece_at front held len is_ended = record { bytes = front ++ take len held; is_ended = is_ended }
 
--- where the line's end was found
+-- the place of the line's end
 abbrev pub EndIs : List ℕ → ℕ → Bool → Type 0 → Type 0
 EndIs held len is_ended at_end =
     MatchBool is_ended ((len < length held) × (slice_index held len ≡ 10)) ((len ≡ length held) × at_end)
@@ -35,11 +35,11 @@ EndIs held len is_ended at_end =
 module _ (gave : List ℕ → Type 0) (old held : List ℕ) (before room passed len n : ℕ) (at_end : Type 0)
     (is_ended : Bool) (s : Seeking gave old held before room passed len)
     (end : EndIs held len is_ended at_end) (count : n ≡ len + cond is_ended 1 0) where
-  -- how many of the bytes that are held are the line's, with its LF
+  -- how many of the held bytes are the line's, with its LF
   held-within : n ≤ length held
   held-within = grind arith
 
-  -- what was passed with the line, and what is held after it, is within the limit
+  -- the bytes passed with the line, and those held after it, are within the limit
   pub passed-within : (before + (passed + n)) + (length held - n) ≤ INPUT_LIMIT
   passed-within = omega (arith, Seeking-sum gave old held before room passed len s, held-within)
 
@@ -63,7 +63,7 @@ module _ (gave : List ℕ → Type 0) (old held : List ℕ) (before room passed 
       phase = phase;
     }
 
-  -- where nothing was discarded, the line is in what is held
+  -- if nothing was discarded, the whole line is held
   pub whole-piece : passed ≡ 0 → s.front ++ take len held ≡ take len held
   whole-piece none = ap (λ l. l ++ take len held) (nil_from_length s.front (s.passed_is ∙ none))
 
@@ -72,7 +72,7 @@ module _ (gave : List ℕ → Type 0) (old held : List ℕ) (before room passed 
       → IsTrue (is_long (line_of (piece_at s.front held len is_ended)))
   content-long = search (rules, length-append, lt-ltb, ⊎_elim, length-without_return, whole-piece)
 
--- what ended the search is answered
+-- the fault that ended the search is returned
 pub fault-answers : (given : List ℕ) (at_end : Type 0) (tally counted : Tally) (was after : ReaderState)
     (at : At) (fault : Fault) → EndsSearch fault was.passed was.rest given tally counted → Stops was at after
     → AnswersFault was given at_end tally counted at fault after
@@ -80,7 +80,7 @@ fault-answers given at_end tally counted was after at InputTooLong end stops = (
 fault-answers given at_end tally counted was after at ReadFailed end stops = (end.0, end.1, stops, end.2)
 fault-answers given at_end tally counted was after at _ end stops = absurd end
 
--- ---- what the tests of a line that was read say
+-- ---- the tests of a line that was read
 
 pub some-read : (passed len : ℕ) (is_ended : Bool)
     → eqb passed 0 && eqb len 0 && not is_ended ≡ false → (0 < passed + len) ⊎ (is_ended ≡ true)

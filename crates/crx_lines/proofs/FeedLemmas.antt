@@ -1,4 +1,4 @@
--- The lanes before the first one that is LF, by a mask's lowest bit.
+-- The lanes before the first one that is LF, from a mask's lowest bit.
 use Rattle.std.proofs.Common.{◌≡◌, ℕ, suc, ◌+◌, ◌*◌, ◌%◌, ◌^◌, ◌<◌, ◌≤◌, Bool, cond, eqb, not}
 use Rattle.std.proofs.Common.{List, [], ◌∷◌, map, length, replicate, w8, arith, sym, ◌∙◌}
 use Rattle.std.proofs.lemmas.{Grind.common_steps, Simd.{bitmask_splat, leading_from_mask_l, length-chunk}}

@@ -9,7 +9,7 @@ use Rattle.crx_lines.specs.Reading.{HasNoFeed}
 abbrev pub NoFeed : ℕ → Type 0
 NoFeed b = b ≢ 10
 
--- an input's first piece, where an LF ends it
+-- the first piece of an input, if an LF ends it
 pub pieces-first : (piece rest : List ℕ) → HasNoFeed piece
     → pieces_of (piece ++ 10 ∷ rest) ≡ record { bytes = piece; is_ended = true } ∷ pieces_of rest
 pieces-first [] rest none = refl
@@ -34,9 +34,8 @@ abbrev pub EachEnded : List Piece → Type 0
 EachEnded [] = Unit {0}
 EachEnded (p ∷ ps) = (p.is_ended ≡ true) × EachEnded ps
 
--- the pieces of an input whose first bytes are given: those ended there, then those of a rest without LF and
--- what comes
--- after
+-- the pieces of an input whose first bytes are known: those that end there, then those of a rest without LF and
+-- of the bytes after it
 abbrev pub Splits : (List ℕ → List Piece) → List Piece → Type 0
 Splits pieces before = (rest : List ℕ)
     × HasNoFeed rest × ((more : List ℕ) → pieces more ≡ before ++ pieces_of (rest ++ more))

@@ -1,4 +1,4 @@
--- From one answer of a reader of lines to the next: the lines so far, and the bytes that were given.
+-- From one answer of a reader of lines to the next: the lines so far, and the bytes that were read.
 use Rattle.std.proofs.{lemmas.{Grind.common_steps, List.{length_push}}, Math.Seq.take-append-add}
 use Rattle.std.proofs.{lemmas.List.take_all, Common.{◌≡◌, ◌⊎◌, ℕ, ◌+◌, ◌-◌, ◌<◌, ◌≤◌, Bool, true}}
 use Rattle.std.proofs.Common.{false, Option, Some, None, Result, Ok, Err, List, [], ◌∷◌, ◌++◌, length, take}
@@ -30,7 +30,7 @@ pub ended_lines-first : (piece rest : List ℕ) → HasNoFeed piece → ended_li
     ≡ line_of (ended_piece piece) ∷ ended_lines_of rest
 ended_lines-first piece rest none = ap (λ ps. map line_of (ended_pieces ps)) (pieces-first piece rest none)
 
--- an input that no LF ends
+-- an input without LF
 pub lines-last : (piece : List ℕ)
     → HasNoFeed piece → 0 < length piece → lines_of piece ≡ line_of (last_piece piece) ∷ []
 lines-last piece none some = ap (map line_of) (pieces-last piece none some)
@@ -138,7 +138,7 @@ module _ (gave gives step : List ℕ → Type 0)
       )
   at-fault _ at is e more lead a = absurd a
 
-  -- an answer where lines may come
+  -- an answer while more lines may follow
   pub HasRead-next : old.phase ≡ Open → (more : List ℕ)
       → step more → (r : Result (Option Line) At) → ReaderAnswers old more at_end' counted counted' r new
       → (then : List InputLine) × AtAnswer r old new lines then
@@ -152,12 +152,12 @@ module _ (gave gives step : List ℕ → Type 0)
       )
   HasRead-next e more lead (Err at) a = at-fault at.fault at refl e more lead a
 
--- the lines whose LF was given come first, whatever follows
+-- the lines whose LF was read are the first ones, whatever follows
 pub ended_lines-come_first : (given : List ℕ) → (rest : List ℕ) × HasNoFeed rest
     × ((more : List ℕ) → lines_of (given ++ more) ≡ ended_lines_of given ++ lines_of (rest ++ more))
 ended_lines-come_first given = grind (arith, common_steps, pieces-split given)
 
--- what is at the end, and at a fault
+-- at the end, and at a fault
 module _ (gave : List ℕ → Type 0) (at_end : Type 0) (start counted : Tally)
     (now : ReaderState) (lines : List InputLine) (h : HasRead gave at_end start counted now lines) where
   pub HasRead-ended : now.phase ≡ Ended → IsOver at_end start counted h.given lines

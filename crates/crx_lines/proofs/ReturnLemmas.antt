@@ -13,7 +13,7 @@ pub length-without_return : (xs : List ℕ)
 length-without_return (x ∷ y ∷ ys) = grind (arith, common_steps, length-without_return (y ∷ ys))
 length-without_return xs = grind (arith, common_steps)
 
--- the last byte tells
+-- the last byte decides
 ends_with_return-last : (x : ℕ) (xs : List ℕ) (d : ℕ)
     → ends_with_return (x ∷ xs) ≡ (get_or (x ∷ xs) (length xs) d == 13)
 ends_with_return-last x [] d = refl
@@ -27,14 +27,14 @@ returned-within : (xs : List ℕ) → bool_byte (ends_with_return xs) ≤ length
 returned-within (x ∷ y ∷ ys) = omega (arith, returned-within (y ∷ ys))
 returned-within xs = grind (arith, common_steps)
 
--- what is left is in front
+-- the bytes left are those in front
 pub without_return-front : (xs : List ℕ) (n : ℕ)
     → length xs ≡ n + bool_byte (ends_with_return xs) → without_return xs ≡ take n xs
 without_return-front (x ∷ y ∷ ys) (suc n) long =
     ap (λ l. x ∷ l) (without_return-front (y ∷ ys) n (omega (arith, long)))
 without_return-front xs n long = grind (arith, common_steps)
 
--- the first bytes of a part of the window, where it holds them
+-- the first bytes of a part of the window, if it holds them
 module _ (xs : List ℕ) (start end n : ℕ) (inside : start + n ≤ end) (within : end ≤ length xs) where
   abbrev first : List ℕ
   first = take n (slice_range xs start end)
@@ -42,12 +42,12 @@ module _ (xs : List ℕ) (start end n : ℕ) (inside : start + n ≤ end) (withi
   len : length first ≡ n
   len = grind (arith, common_steps, length-take, slice_range, length-drop)
 
-  -- they end with CR where the last of them is one
+  -- they end with CR if the last of them is one
   pub last-byte : (d : ℕ) → 0 < n → ends_with_return (take n (slice_range xs start end))
       ≡ (get_or xs (start + n - 1) d == 13)
   last-byte d some = grind (arith, common_steps, get_or-take, get_or-drop, returned-last first (n - 1) d)
 
-  -- as a line, where a blank was put behind its content
+  -- as a line, after a blank was put behind its content
   pub cut-line : (place : ℕ) (has_return is_ended : Bool)
       → has_return ≡ ends_with_return (take n (slice_range xs start end))
       → place ≡ start + n - bool_byte has_return → ◌≡◌ {A = InputLine}

@@ -28,7 +28,7 @@ module _ (gave : List ℕ → Type 0) (old held : List ℕ) (before room passed 
       × (before + (passed + length held) + room ≡ INPUT_LIMIT)
   Seeking-sum searched s = grind (arith, common_steps, length-append)
 
-  -- all that is held was searched, so that no LF is in what was discarded and held
+  -- all that is held was searched, so the discarded and the held bytes have no LF
   module _ (s : Seeking gave old held before room passed (length held)) where
     pub Seeking-none : HasNoFeed (old ++ s.given)
     Seeking-none =
@@ -41,7 +41,7 @@ module _ (gave : List ℕ → Type 0) (old held : List ℕ) (before room passed 
     Seeking-passed : LINE_LIMIT + 1 < length held → Seeking gave old [] before room (passed + length held) 0
     Seeking-passed long = grind (arith, common_steps, length-append, Seeking-none)
 
-    -- more was given and is held
+    -- more was read and is held
     pub Seeking-filled : (then : List ℕ → Type 0) (after more : List ℕ) (n m : ℕ)
         → ((given : List ℕ) → gave given → then (given ++ more)) → length more ≡ n → n ≤ room
         → after ≡ held ++ more → m ≡ length held → Seeking then old after before (room - n) passed m
@@ -64,7 +64,7 @@ module _ (gave : List ℕ → Type 0) (old held : List ℕ) (before room passed 
     )
     Seeking-ends step then goes tally counted _ end = absurd end
 
--- what is held was searched without finding an LF; it is discarded where it is too long for a line
+-- the held bytes were searched without finding an LF, and are discarded if they are too long for a line
 pub Seeking-step : (gave : List ℕ → Type 0) (old held shown after : List ℕ)
     (before room passed searched n : ℕ) → Seeking gave old held before room passed searched → shown ≡ held
     → ((k : ℕ) → searched ≤ k → k < length shown → slice_index shown k ≢ 10)

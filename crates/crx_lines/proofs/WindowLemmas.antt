@@ -22,7 +22,7 @@ passed xs start end count inside =
     let parts : end - start ≡ count + (end - (start + count)) = omega arith in
     grind (arith, common_steps, parts, drop-take, drop-drop)
 
--- a byte that is put in front of a part, or behind it, isn't of that part
+-- a byte that is put in front of a part, or after it, isn't in that part
 pub untouched : (xs : List ℕ) (start end place b : ℕ) → start ≤ end → (place < start) ⊎ (end ≤ place)
     → slice_range (slice_set xs place b) start end ≡ slice_range xs start end
 untouched (x ∷ xs) (suc start) (suc end) (suc place) b ordered apart =

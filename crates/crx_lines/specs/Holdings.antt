@@ -1,6 +1,6 @@
--- All that a reader of lines holds between two lines of an input, part by part. By the law `line_reader_holds` one that
--- takes over these parts of another is that other; so there is no part beside them, in which a record of the past lines
--- could grow.
+-- Everything that a reader of lines holds between two lines of an input, part by part. By the law
+-- `line_reader_holds` a reader that takes over these parts of another is that other; so no further part exists
+-- in which a record of the past lines could grow.
 use Rattle.crx_lines.specs.declared.line.LineReader.{LineReader}
 use Rattle.crx_lines.specs.declared.window.Window.{Window}
 

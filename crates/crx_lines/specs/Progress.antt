@@ -1,4 +1,4 @@
--- How far the reading of an input is, from its first byte on: the lines so far, and the bytes that were given.
+-- How far the reading of an input is, from its first byte on: the lines so far, and the bytes that were read.
 use Rattle.std.specs.Prelude.{◌≡◌, ℕ, ◌+◌, ◌<◌, ◌≤◌, List, [], ◌∷◌, ◌++◌, IsTrue, Option, Some, None, Result, Ok, Err}
 use Rattle.std.specs.Prelude.{length, take}
 use Rattle.crx_lines.specs.meaning.Devices.{Tally, with_failure}
@@ -14,8 +14,8 @@ use Rattle.crx_lines.specs.declared.line.Line.{Line}
 use Rattle.crx_lines.specs.declared.phase.Phase.{Phase}
 use Rattle.crx_lines.specs.declared.phase.Phase.TheVariants.{Open, Ended, Stopped}
 
--- while lines may come: whatever comes after the bytes that were given, the lines so far are the first, and an
--- LF ended each of them; no read failed or reported the end
+-- while more lines may follow: whatever follows the bytes read, the lines so far are the first, and an LF ended
+-- each of them; no read failed or reported the end
 pub record IsOpen (start counted : Tally) (given : List ℕ) (now : ReaderState) (lines : List InputLine) : Type 0 where
   pub bytes : length given ≡ now.passed + length now.rest
   pub within : length given ≤ INPUT_LIMIT
@@ -23,14 +23,14 @@ pub record IsOpen (start counted : Tally) (given : List ℕ) (now : ReaderState)
   pub ended : (more : List ℕ) → ended_lines_of (given ++ more) ≡ lines ++ ended_lines_of (now.rest ++ more)
   pub counts : counted ≡ start
 
--- after the end: it was reported once, no read failed, and the lines are all of the bytes that were given
+-- after the end: it was reported once, no read failed, and the lines are all those of the bytes read
 pub record IsOver (at_end : Type 0) (start counted : Tally) (given : List ℕ) (lines : List InputLine) : Type 0 where
   pub reported : at_end
   pub within : length given ≤ INPUT_LIMIT
   pub all : lines ≡ lines_of given
   pub counts : counted ≡ with_end start
 
--- after a byte past the limit of an input, or a failed read: the lines are those whose LF was given before
+-- after a byte past the limit of an input, or a failed read: the lines are those whose LF was read before
 abbrev pub IsStopped : Fault → Tally → Tally → List ℕ → List InputLine → Type 0
 IsStopped InputTooLong start counted given lines =
     (INPUT_LIMIT < length given) × (lines ≡ ended_lines_of (take INPUT_LIMIT given)) × (counted ≡ start)
@@ -44,7 +44,7 @@ StandsAt Ended at_end start counted given now lines = IsOver at_end start counte
 StandsAt (Stopped at) at_end start counted given now lines = IsStopped at.fault start counted given lines
     × (at.line ≡ length lines + 1)
 
--- these lines were read of the bytes that a source gave since the first call, out of this tally of the source
+-- these lines were read from the bytes that a source returned after the first call, when its tally was `start`
 pub record HasRead (gave : List ℕ
     → Type 0) (at_end : Type 0) (start counted : Tally) (now : ReaderState) (lines : List InputLine) : Type 0 where
   pub given : List ℕ
@@ -52,7 +52,7 @@ pub record HasRead (gave : List ℕ
   pub number : now.number ≡ length lines
   pub stands : StandsAt now.phase at_end start counted given now lines
 
--- one line more than before: it was read out of some bytes of the input, and its number is its place
+-- one line more than before: it was read from at least one byte of the input, and its number is its place
 pub record IsOneMore (old new : ReaderState)
     (lines then : List InputLine) (line : InputLine) (number : ℕ) : Type 0 where
   pub lines_are : then ≡ lines ++ line ∷ []
@@ -60,7 +60,7 @@ pub record IsOneMore (old new : ReaderState)
   pub some : old.passed < new.passed
   pub within : new.passed ≤ INPUT_LIMIT
 
--- what a fault says of the lines before it and those after it
+-- how a fault relates the lines before it to those after it
 abbrev pub AtFault : Fault → At → ReaderState → ReaderState → List InputLine → List InputLine → Type 0
 AtFault LineTooLong at old new lines then = (line : InputLine)
     × IsTrue (is_long line) × IsOneMore old new lines then line at.line
@@ -68,7 +68,7 @@ AtFault InputTooLong at old new lines then = (then ≡ lines) × (new.phase ≡ 
 AtFault ReadFailed at old new lines then = (then ≡ lines) × (new.phase ≡ Stopped at)
 AtFault _ at old new lines then = ⊥
 
--- what an answer says of the lines before it and those after it
+-- how an answer relates the lines before it to those after it
 abbrev pub AtAnswer : Result (Option Line) At → ReaderState → ReaderState → List InputLine → List InputLine → Type 0
 AtAnswer (Ok (Some line)) old new lines then = IsOneMore old new lines then (line_shown line) (line_number line)
 AtAnswer (Ok None) old new lines then = (then ≡ lines) × (new.phase ≡ Ended)

@@ -1,4 +1,4 @@
--- What a clause reads of a reader of lines.
+-- How a clause reads a reader of lines.
 use Rattle.std.specs.Prelude.{◌≤◌, ◌-◌, ℕ, List, Option, Result}
 use Rattle.crx_base.specs.declared.fault.At.{At}
 use Rattle.crx_base.specs.declared.limits.TheConstants.{LINE_LIMIT}
@@ -13,11 +13,12 @@ use Rattle.crx_lines.specs.declared.window.Cut.{Cut}
 abbrev pub reading : LineReader → ReaderState
 reading r = record { rest = kept r.window.value; passed = r.passed; number = r.number; phase = r.phase }
 
--- a line that was taken is in the window, a blank is behind it, and it isn't too long
+-- a taken line is in the window with a blank after it, and isn't too long
 abbrev pub CanBeLent : List ℕ → Cut → Type 0
 CanBeLent bytes cut = IsCut bytes cut × (cut.to - cut.from ≤ LINE_LIMIT)
 
--- the next line was taken out of what was kept and what its source gave after that, and is in the window
+-- the next line was taken from the pending bytes and those that the source returned after them, and is in the
+-- window
 abbrev pub TakesNextLine : {R : Type 0}
     → Ghosts R → LineReader → LineReader → R → R → Result (Option Cut) At → Type 0
 TakesNextLine source old new before after result = (given : List ℕ) × source.gave before given after

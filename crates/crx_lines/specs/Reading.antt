@@ -1,4 +1,4 @@
--- Reading an input line by line, out of what a reader gives bit by bit.
+-- Reading an input line by line, from the bytes that a reader returns part by part.
 use Rattle.std.specs.Prelude.{◌≡◌, ℕ, ◌+◌, ◌-◌, ◌<◌, ◌≤◌, List, [], ◌∷◌, ◌++◌, MatchBool, IsTrue, length, take}
 use Rattle.std.specs.Prelude.{if◌then◌else◌, Option, Some, None, Result, Ok, Err, ◌≢◌, All, true}
 use Rattle.crx_lines.specs.meaning.Devices.{Tally, with_failure}
@@ -13,11 +13,11 @@ use Rattle.crx_lines.specs.declared.line.Line.{Line}
 use Rattle.crx_lines.specs.declared.phase.Phase.{Phase}
 use Rattle.crx_lines.specs.declared.phase.Phase.TheVariants.{Open, Ended, Stopped}
 
--- no LF is among some bytes
+-- no LF is among these bytes
 abbrev pub HasNoFeed : List ℕ → Type 0
 HasNoFeed bytes = All (λ b. b ≢ 10) bytes
 
--- what a line shows: its content, and whether LF alone ends it
+-- a line as an `InputLine`: its content, and whether only an LF ends it
 abbrev pub line_shown : Line → InputLine
 line_shown l = record { content = line_in l.content; is_plain = l.is_plain }
 
@@ -27,22 +27,23 @@ line_number l = l.number
 
 -- how far the reading of an input is
 pub record ReaderState : Type 0 where
-  -- the bytes that were given and are of no line yet
+  -- the bytes that were read and are of no line yet
   pub rest : List ℕ
-  -- how many bytes the lines so far had, with their ends, those of refused lines too
+  -- how many bytes the lines so far had, with their ends and with refused lines
   pub passed : ℕ
   -- the number of the last line, 0 before the first
   pub number : ℕ
-  -- whether lines may come, the end was reported with no line pending, or a fault is repeated
+  -- whether more lines may follow, the end was reported and no line is pending, or a fault is repeated
   pub phase : Phase
 
--- the input begins with this piece, and has this rest; a piece without LF is the last, once the end was reported
+-- the input begins with this piece and continues with `rest`; only the last piece, once the end was reported,
+-- has no LF
 pub record BeginsWith (input : List ℕ) (at_end : Type 0) (p : Piece) (rest : List ℕ) : Type 0 where
   pub cut : MatchBool p.is_ended (input ≡ p.bytes ++ 10 ∷ rest) ((input ≡ p.bytes)
       × (rest ≡ []) × (0 < length p.bytes) × at_end)
   pub no_feed : HasNoFeed p.bytes
 
--- the first line of the old rest and the given bytes was taken
+-- the first line of the old rest and the bytes read after it was taken
 pub record TakesPiece (old : ReaderState)
     (given : List ℕ) (at_end : Type 0) (p : Piece) (new : ReaderState) : Type 0 where
   pub first : BeginsWith (old.rest ++ given) at_end p new.rest
@@ -57,8 +58,8 @@ pub record Stops (old : ReaderState) (at : At) (new : ReaderState) : Type 0 wher
   pub number : new.number ≡ old.number
   pub phase : new.phase ≡ Stopped at
 
--- when a fault is answered: a line over its limit, an input over its limit with no LF within it, or a
--- failed read after bytes without LF; and what was counted of the source
+-- when a fault is returned: at a line over its limit, at an input over its limit without an LF within it, or at
+-- a failed read after bytes without LF; and the source's tally then
 abbrev pub AnswersFault : ReaderState → List ℕ → Type 0 → Tally → Tally → At → Fault → ReaderState → Type 0
 AnswersFault old given at_end before after at LineTooLong new =
     (p : Piece) × TakesPiece old given at_end p new
@@ -71,9 +72,9 @@ AnswersFault old given at_end before after at ReadFailed new =
     × HasNoFeed (old.rest ++ given) × Stops old at new × (after ≡ with_failure before)
 AnswersFault old given at_end before after at _ new = ⊥
 
--- what is answered where lines may come, out of the old rest and the bytes that the reader gave:
--- the next line, as it is shown and numbered; or none, at the end; or a fault. A read that failed is
--- counted, and so is a report of the end: where it ended the last line, or was the answer.
+-- the answer while more lines may follow, from the old rest and the bytes read after it: the next line, as it
+-- is shown and numbered, none at the end, or a fault. A failed read is counted, and so is a report of the end
+-- if it ended the last line or was the answer.
 abbrev pub AnswersAs : {X : Type 0} → (X → InputLine)
     → (X → ℕ) → ReaderState → List ℕ → Type 0 → Tally → Tally → Result (Option X) At → ReaderState → Type 0
 AnswersAs shown numbered old given at_end before after (Ok (Some x)) new =
@@ -84,13 +85,13 @@ AnswersAs shown numbered old given at_end before after (Ok None) new =
 AnswersAs shown numbered old given at_end before after (Err at) new =
     AnswersFault old given at_end before after at at.fault new
 
--- what a reader answers, as `AnswersAs` says, of a line that is borrowed
+-- a reader's answer by `AnswersAs`, with a borrowed line
 abbrev pub ReaderAnswers : ReaderState
     → List ℕ → Type 0 → Tally → Tally → Result (Option Line) At → ReaderState → Type 0
 ReaderAnswers old given at_end before after r new = AnswersAs line_shown line_number old given at_end before after r new
 
--- what is answered out of the bytes that are held, with no reader: the next line, or that it is too long; or none, where
--- nothing has changed
+-- the answer from pending bytes only, without a read: the next line, or that it is too long, or none if nothing
+-- has changed
 abbrev pub AnswersHeld : {X : Type 0} → (X → InputLine)
     → (X → ℕ) → ReaderState → Result (Option X) At → ReaderState → Type 0
 AnswersHeld shown numbered old (Ok (Some x)) new =

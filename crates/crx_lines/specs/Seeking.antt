@@ -6,8 +6,8 @@ use Rattle.crx_base.specs.declared.fault.Fault.{Fault}
 use Rattle.crx_base.specs.declared.fault.Fault.TheVariants.{InputTooLong, ReadFailed}
 use Rattle.crx_base.specs.declared.limits.TheConstants.{INPUT_LIMIT, LINE_LIMIT}
 
--- the old bytes and the given ones are those that were discarded, without LF, and those that are held;
--- the first of these were searched, without finding an LF; and so many may still come within the limit
+-- the old bytes and the bytes read are the discarded ones, without LF, and then the `held` ones; the first
+-- `searched` of these have no LF; and `room` more bytes are within the limit
 pub record Seeking (gave : List ℕ → Type 0) (old held : List ℕ) (before room passed searched : ℕ) : Type 0
   where
     pub given : List ℕ
@@ -21,8 +21,8 @@ pub record Seeking (gave : List ℕ → Type 0) (old held : List ℕ) (before ro
     pub none_searched : (k : ℕ) → k < searched → slice_index held k ≢ 10
     pub searched_within : searched ≤ length held
 
--- what ended the search: the given bytes go past the limit, with no LF within it, or no LF came before a read that
--- failed; and what was counted of the source
+-- the end of the search: the bytes read go past the limit without an LF within it, or a read failed after bytes
+-- without LF; and the source's tally then
 abbrev pub EndsSearch : Fault → ℕ → List ℕ → List ℕ → Tally → Tally → Type 0
 EndsSearch InputTooLong before old given tally counted = (INPUT_LIMIT < before + length (old ++ given))
     × HasNoFeed (take (INPUT_LIMIT - before) (old ++ given)) × (counted ≡ tally)

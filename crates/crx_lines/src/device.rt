@@ -1,6 +1,6 @@
-//! The devices that bytes come from and go to. Each one counts its failures, so that a contract
-//! can say of a run that none happened, and what became of the bytes where one did. A source also
-//! counts how often it reported its end, so that a read after that shows.
+//! The devices that bytes are read from and written to. Each one counts its failures, so that a contract can
+//! say that a run had none, and what became of the bytes if it had one. A source also counts how often it
+//! reported its end, so that a read after that shows.
 ghost use Rattle.std.specs.Prelude.{◌≡◌, ℕ, List, [], ◌++◌, ◌<◌, ◌≤◌, length, take, is_ok, true, false, not, Bool, IfOk, Ok, OnOk, OnErr};
 ghost use Rattle.std.specs.Fs.{IsFile, file_type};
 ghost use Rattle.std.specs.Io.KnownBytes.{Appends, Consumes, IsAtEnd};
@@ -15,19 +15,20 @@ use std::rt::Files;
 use std::{fs, io};
 use thiserror::Error;
 
-/// A read failed, an interrupted one too. It gave no byte.
+/// The error of a read that failed or was interrupted, and that returned no byte.
 #[derive(Clone, Copy, Debug, PartialEq, Eq, Error)]
 #[error("the read failed")]
 pub struct ReadFailed;
 
-/// A write or a flush failed, an interrupted one too, or a write of at least one byte took none.
+/// The error of a write or flush that failed or was interrupted, or of a write of at least one byte that took
+/// none.
 #[derive(Clone, Copy, Debug, PartialEq, Eq, Error)]
 #[error("the write failed")]
 pub struct WriteFailed;
 
-/// What gives bytes, once, from front to back.
+/// A device that bytes are read from, once, from front to back.
 pub trait Source {
-    // These bytes, in this order, lead from the first state to the second.
+    // Reading these bytes, in this order, leads from the first state to the second.
     ghost gave: { Self → List ℕ → Self → Type 0 };
 
     // No byte is left, and a read reported it.
@@ -42,13 +43,13 @@ pub trait Source {
     // Whether a read may have to wait for bytes that don't exist yet.
     ghost waits: { Self → Bool };
 
-    /// Whether a read may have to wait for bytes that don't exist yet. What can't be told may wait.
+    /// Returns whether a read may have to wait for bytes that don't exist yet: `true` if that isn't known.
     fn may_wait(&self) -> bool
         ensures value { result ≡ waits self.now };
 
-    /// Gives the next bytes, as many as it likes, into the front of `buffer`, and answers how
-    /// many. None into a buffer that isn't empty reports the end. What is in the buffer after
-    /// them, or after a failure, is left open.
+    /// Reads any number of the next bytes into the front of `buffer`, and returns this number. 0 reports the
+    /// end if `buffer` isn't empty. The other bytes of `buffer`, or all of them after a failure, may have any
+    /// value.
     fn read(&mut self, buffer: &mut [u8]) -> Result<usize, ReadFailed>
         ensures bound { IfOk result (λ n. n ≤ length buffer.new) }
         ensures bytes { IfOk result (λ n. gave self.old (take n buffer.new) self.new) }
@@ -67,7 +68,7 @@ pub trait Source {
     ghost gave_both: { (a b c : Self) (xs ys : List ℕ) → gave a xs b → gave b ys c → gave a (xs ++ ys) c };
 }
 
-/// What takes bytes, in the order in which they are written.
+/// A device that takes bytes, in the order in which they are written.
 pub trait Sink {
     // Taking these bytes, in this order, leads from the first state to the second.
     ghost took: { Self → List ℕ → Self → Type 0 };
@@ -75,23 +76,23 @@ pub trait Sink {
     // How many writes and flushes failed; the count stops at the greatest value of 64 bits.
     ghost failures: { Self → ℕ };
 
-    // All that was taken was handed on: a flush said so, and no write came after it.
+    // All bytes taken were passed on: a flush succeeded, and no write followed it.
     ghost is_flushed: { Self → Type 0 };
 
-    // How many flushes were asked for; the count stops at the greatest value of 64 bits.
+    // How often a flush was called; the count stops at the greatest value of 64 bits.
     ghost flushes: { Self → ℕ };
 
-    // All that was taken was handed on, by a flush or otherwise.
+    // All bytes taken were passed on, by a flush or otherwise.
     ghost is_current: { Self → Type 0 };
 
-    // Whether what is taken is awaited, so that it is to be handed on when that is asked for.
+    // Whether the output is awaited, so that `hand_on` passes it on.
     ghost is_awaited: { Self → Bool };
 
-    // Whether something couldn't be handed on when that was asked for. No flush will be good.
+    // Whether a `hand_on` has failed. Then every flush fails.
     ghost is_broken: { Self → Bool };
 
-    /// Takes the first of `bytes`, at least one if there is one, and answers how many. They count as
-    /// handed on only once a flush said so.
+    /// Takes the first of `bytes`, at least one if there is one, and returns how many. They count as passed on
+    /// only after a good flush.
     fn write(&mut self, bytes: &[u8]) -> Result<usize, WriteFailed>
         ensures bound { IfOk result (λ n. n ≤ length bytes.now) }
         ensures bytes { IfOk result (λ n. took self.old (take n bytes.now) self.new) }
@@ -104,7 +105,7 @@ pub trait Sink {
         ensures awaited { is_awaited self.new ≡ is_awaited self.old }
         ensures unbroken { is_broken self.new ≡ is_broken self.old };
 
-    /// Hands what was taken on to where it is kept. It takes no byte.
+    /// Passes the bytes taken on to where they are kept. Takes no byte.
     fn flush(&mut self) -> Result<(), WriteFailed>
         ensures none_taken { took self.old [] self.new }
         ensures flushed { OnOk result (is_flushed self.new) }
@@ -115,8 +116,8 @@ pub trait Sink {
         ensures awaited { is_awaited self.new ≡ is_awaited self.old }
         ensures unbroken { is_broken self.new ≡ is_broken self.old };
 
-    /// From now on what is taken is awaited: it is to be handed on by each [`Sink::hand_on`], which does
-    /// nothing before this call. Nothing is handed on here.
+    /// Marks the output as awaited, so that each [`Sink::hand_on`] from now on passes it on; before, that does
+    /// nothing. Passes nothing on itself.
     fn await_output(&mut self)
         ensures none_taken { took self.old [] self.new }
         ensures unasked { flushes self.new ≡ flushes self.old }
@@ -126,8 +127,8 @@ pub trait Sink {
         ensures flushed { is_flushed self.new → is_flushed self.old }
         ensures current { is_current self.new → is_current self.old };
 
-    /// Hands what was taken on, where that is awaited, and answers whether that went well. It takes no byte,
-    /// and counts as no flush. Where it fails, each flush after it fails, and counts the failure.
+    /// Passes the bytes taken on if the output is awaited, and returns whether that succeeded. Takes no byte
+    /// and doesn't count as a flush. If it fails, each later flush fails and counts the failure.
     fn hand_on(&mut self) -> bool
         ensures none_taken { took self.old [] self.new }
         ensures unasked { flushes self.new ≡ flushes self.old }
@@ -143,28 +144,27 @@ pub trait Sink {
     ghost took_both: { (a b c : Self) (xs ys : List ℕ) → took a xs b → took b ys c → took a (xs ++ ys) c };
 }
 
-/// A reader or a writer of std as a device. Of a file nothing is known but the counts, and whether it is
-/// unread.
+/// A reader or a writer of std as a device. Only the counts of a file are known, and whether it is unread.
 #[derive(Drop)]
 pub struct Std<D> {
     inner: D,
     failures: u64,
     ends: u64,
-    /// Whether all that was written was handed on by then: a flush or [`Sink::hand_on`] said so.
+    /// Whether all bytes written were passed on: a flush or [`Sink::hand_on`] said so.
     flushed: bool,
     flushes: u64,
-    /// Whether it is a file that [`open_file`] opened, and nothing was read or written since.
+    /// Whether it is a file that [`open_file`] opened, and nothing was read or written after that.
     is_unread: bool,
     /// Whether a read may have to wait.
     may_wait: bool,
-    /// Whether what is written is awaited.
+    /// Whether the output is awaited.
     is_awaited: bool,
-    /// Whether something that was awaited couldn't be handed on.
+    /// Whether awaited output couldn't be passed on.
     is_broken: bool,
 }
 
-/// Returns whether a read of a file may have to wait for bytes that don't exist yet, by what the system says of
-/// the file: only a regular file is known not to wait.
+/// Returns whether a read of the file with this `metadata` may have to wait for bytes that don't exist yet:
+/// only a regular file is known not to wait.
 pub fn reads_may_wait(metadata: &io::Result<Metadata>) -> bool
     ensures waits { result ≡ false
         → (known : Metadata) × (metadata.now ≡ Ok known) × IsFile (file_type known) }
@@ -176,10 +176,10 @@ pub fn reads_may_wait(metadata: &io::Result<Metadata>) -> bool
     }
 }
 
-/// Opens the file of a name for reading, as a device that nothing was read of, and that hands on no
-/// interruption. No other call answers an unread device. The mark is a part of the device and not of the
-/// file, so it shows how the code goes, and is no promise about what was read of the file. A folder counts as
-/// a file that can't be opened. Whether reads may have to wait is as [`reads_may_wait`] says.
+/// Opens the file `name` for reading, as an unread device whose interrupted calls are repeated. No other call
+/// returns an unread device. The mark belongs to the device and not to the file, so it shows which way the code
+/// took, and promises nothing about earlier reads of the file. Reads may have to wait if [`reads_may_wait`]
+/// says so. Returns the system's error if the file can't be opened, and `IsADirectory` for a folder.
 pub fn open_file<H: Files>(files: &H, name: &str) -> io::Result<Std<Uninterrupted<H::File>>>
     ensures unread { IfOk result (λ device. device.is_unread ≡ true) }
     ensures failures { IfOk result (λ device. device.failures ≡ 0) }
@@ -209,8 +209,8 @@ pub fn open_file<H: Files>(files: &H, name: &str) -> io::Result<Std<Uninterrupte
 }
 
 impl<D> Std<D> {
-    /// The device, none of whose reads, writes and flushes failed or reported the end yet. It isn't flushed
-    /// yet. What was read of it before isn't known. Its reads may have to wait.
+    /// Returns `inner` as a device that hasn't failed, reported its end or been flushed. Its earlier reads are
+    /// unknown. Its reads may have to wait.
     pub fn new(inner: D) -> Std<D>
         ensures inner { result.inner ≡ inner }
         ensures failures { result.failures ≡ 0 }
@@ -235,21 +235,21 @@ impl<D> Std<D> {
         }
     }
 
-    /// The same device, where it is known whether its reads may have to wait.
+    /// Returns the same device. `may_wait`: whether its reads may have to wait.
     pub fn waiting(self, may_wait: bool) -> Std<D>
         ensures whole { result ≡ record self { may_wait = may_wait } }
     {
         Std { may_wait, ..self }
     }
 
-    /// The reader or writer itself.
+    /// Returns the reader or writer itself.
     pub fn into_inner(self) -> D
         ensures inner { result ≡ self.inner }
     {
         self.inner
     }
 
-    /// Answers what a flush answered, and counts it, also among the failures if it failed.
+    /// Counts a flush with the result `flushed`, also as a failure if it failed, and returns this result.
     fn counted(&mut self, flushed: io::Result<()>) -> Result<(), WriteFailed>
         ensures ok { is_ok result ≡ is_ok flushed }
         ensures good { OnOk result (self.new.failures ≡ self.old.failures) }

@@ -1,5 +1,5 @@
-//! Lines out of any reader, counted writes to any writer, and the devices that bytes come from and go to.
-//! Faults and limits are those of crx_base.
+//! Lines from any reader, counted writes to any writer, and the devices that bytes are read from and written
+//! to. Faults and limits are those of crx_base.
 #![tactic(auto)]
 
 pub mod device;

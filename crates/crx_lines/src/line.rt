@@ -1,4 +1,4 @@
-//! Lines of an input, and what hands them out one after another.
+//! Lines of an input, and the reader that returns them one by one.
 ghost use Rattle.std.specs.Prelude.{◌≡◌, ◌≢◌, ℕ, ◌+◌, ◌-◌, ◌<◌, ◌≤◌, ◌&&◌, ◌⊎◌, List, [], length, Option, Some, None, Ok, Err, IfOk, IfSome, Contains, if◌then◌else◌};
 ghost use Rattle.crx_lines.specs.meaning.Devices.{tally_of};
 ghost use Rattle.crx_base.specs.Padded.{line_in};
@@ -28,7 +28,7 @@ pub struct Line<'a> {
 impl<'a> Line<'a> {
     ghost use Rattle.crx_lines.specs.Reading.{line_shown, line_number};
 
-    /// A line of this content, without its line end.
+    /// Makes a line of `content`, which has no line end.
     pub fn of(content: Padded<'a>, number: u64, is_plain: bool) -> Line<'a>
         requires { length (line_in content) ≤ LINE_LIMIT }
         ensures shown { line_shown result ≡ record { content = line_in content.entry; is_plain = is_plain } }
@@ -41,7 +41,7 @@ impl<'a> Line<'a> {
         }
     }
 
-    /// The line's content: at most `LINE_LIMIT` bytes, without LF and without a CR before it.
+    /// Returns the line's content: at most `LINE_LIMIT` bytes, without LF and without a CR before it.
     pub fn bytes(&self) -> &'a [u8]
         ensures content { result.now ≡ (line_shown self.now).content }
         ensures limit { length result.now ≤ LINE_LIMIT }
@@ -49,7 +49,7 @@ impl<'a> Line<'a> {
         self.content.line()
     }
 
-    /// The line's content with a blank and more bytes behind it.
+    /// Returns the line's content, followed by a blank and more bytes.
     pub fn padded(&self) -> Padded<'a>
         ensures content { line_in result ≡ (line_shown self.now).content }
         ensures limit { length (line_in result) ≤ LINE_LIMIT }
@@ -57,14 +57,14 @@ impl<'a> Line<'a> {
         self.content
     }
 
-    /// The line's number, from 1.
+    /// Returns the line's number, from 1.
     pub fn number(&self) -> u64
         ensures value { result ≡ line_number self.now }
     {
         self.number
     }
 
-    /// Whether LF alone ends the line.
+    /// Returns whether only an LF ends the line.
     pub fn plain(&self) -> bool
         ensures value { result ≡ (line_shown self.now).is_plain }
     {
@@ -72,14 +72,14 @@ impl<'a> Line<'a> {
     }
 }
 
-/// Hands out the lines of an input one after another, from a buffer of its own.
+/// A reader of an input's lines, one by one, with a buffer of its own.
 #[derive(Drop)]
 pub struct LineReader {
-    // The two counts aren't beside each other: the compiler would count on with both as one vector, which
-    // takes more instructions at each line.
+    // The two counts aren't adjacent: otherwise the compiler adds to both as one vector, which costs more at
+    // each line.
     number: u64,
     window: Box<Window>,
-    /// How many bytes the lines so far had, with their ends, those of refused lines too.
+    /// How many bytes the lines so far had, with their ends and with refused lines.
     passed: u64,
     phase: Phase,
     ghost counted: { number ≤ passed },
@@ -94,7 +94,7 @@ impl LineReader {
     ghost use Rattle.crx_lines.specs.Readers.{CanBeLent, TakesNextLine, reading};
     ghost use Rattle.crx_lines.specs.Window.{cut_shown};
 
-    /// Returns a reader before its input's first line.
+    /// Returns a reader before its input's first line, or `AllocError` if memory is refused.
     pub fn new(alloc: Global) -> Result<LineReader, AllocError>
         ensures start { IfOk result
             (λ r. reading r ≡ record { rest = []; passed = 0; number = 0; phase = Phase.Open }) }
@@ -102,7 +102,7 @@ impl LineReader {
         Ok(LineReader::open(alloc)?)
     }
 
-    /// Does what [`LineReader::new`] does, and returns the refusal itself.
+    /// Does the same as [`LineReader::new`], but returns the refusal itself.
     pub fn open(alloc: Global) -> Result<LineReader, Refused>
         ensures start { IfOk result
             (λ r. reading r ≡ record { rest = []; passed = 0; number = 0; phase = Phase.Open }) }
@@ -116,15 +116,15 @@ impl LineReader {
         })
     }
 
-    /// The number of the last line that was read, 0 before the first.
+    /// Returns the number of the last line that was read, 0 before the first.
     pub fn number(&self) -> u64
         ensures value { result ≡ (reading self.now).number }
     {
         self.number
     }
 
-    /// Takes the next line where its LF is held. Its content stays in the window, where the answer says.
-    /// `None` says that no LF is held, and nothing has changed then.
+    /// Takes the next line if its LF is pending, and returns where its content is in the window. Returns
+    /// `None`, with nothing changed, if no LF is pending, and `LineTooLong` if the line is too long.
     #[inline(always)]
     fn advance_held(&mut self) -> Result<Option<Cut>, At>
         requires { self.old.phase ≡ Phase.Open }
@@ -148,7 +148,7 @@ impl LineReader {
         Ok(Some(cut))
     }
 
-    /// Gives the next line where its end may still have to be read.
+    /// Takes the next line, whose end may still have to be read, with the errors of [`LineReader::next_line`].
     #[inline(never)]
     fn advance_by_reading<R: Source>(&mut self, reader: &mut R) -> Result<Option<Cut>, At>
         requires { self.old.phase ≡ Phase.Open }
@@ -175,7 +175,7 @@ impl LineReader {
         let cut = self.window.take_line(found.len, found.is_ended);
         self.passed += found.passed + held as u64;
         self.number += 1;
-        // Lines may come after a line with an end; after one without, the input is over.
+        // More lines may follow a line with an end. After one without, the input has ended.
         self.phase = if found.is_ended {
             Phase::Open
         } else {
@@ -191,7 +191,7 @@ impl LineReader {
         Ok(Some(cut))
     }
 
-    /// Returns the last line that was read, of which `cut` says where it is.
+    /// Returns the last line that was read. `cut`: its place in the window.
     #[inline(always)]
     fn line(&self, cut: Cut) -> Line<'_>
         requires { CanBeLent self.now.window.value.bytes.items cut }
@@ -205,13 +205,13 @@ impl LineReader {
         }
     }
 
-    /// Hands out the next line of what is kept and what `reader` gives after it, until the next call.
-    /// It asks `reader` only while what is kept holds no LF, and never after `reader` reported its end.
+    /// Returns the next line, which is valid until the next call, or `None` after the last one. Reads from
+    /// `reader` only while no LF is pending, and never after `reader` reported its end.
     ///
-    /// `LineTooLong` is the answer to a line over `LINE_LIMIT`, once its end was read; the line
-    /// counts, and the next call goes on after it. `InputTooLong` is the answer where a byte past
-    /// `INPUT_LIMIT` was given and no LF before it is left, `ReadFailed` where a read failed. Both
-    /// are repeated from then on, as None is after the end, and `reader` isn't asked again.
+    /// Returns `LineTooLong` for a line over `LINE_LIMIT`, once its end was read; the line counts, and the next
+    /// call continues after it. Returns `InputTooLong` if a byte past `INPUT_LIMIT` was read and no LF before
+    /// it is pending, and `ReadFailed` if a read failed. Both are returned again from then on, as `None` is
+    /// after the end, and nothing more is read.
     pub fn next_line<'a, R: Source>(&'a mut self, reader: &mut R) -> Result<Option<Line<'a>>, At>
         ensures open { (reading self.old).phase ≡ Phase.Open → (given : List ℕ) × (new : ReaderState)
             × R.gave reader.old given reader.new
@@ -241,9 +241,8 @@ impl LineReader {
         }
     }
 
-    /// Hands out the next line where its LF is held, as [`LineReader::next_line`] does, and `LineTooLong`
-    /// where it is too long. `None` says that a reader has to be asked, or that no line comes any more;
-    /// nothing has changed then.
+    /// Returns the next line if its LF is pending, as [`LineReader::next_line`] does, or `LineTooLong` if it is
+    /// too long. Returns `None`, with nothing changed, if more has to be read or no line is left.
     #[inline(always)]
     pub fn next_held<'a>(&'a mut self) -> Result<Option<Line<'a>>, At>
         ensures answers { (new : ReaderState) × AnswersHeld line_shown line_number (reading self.old) result new }

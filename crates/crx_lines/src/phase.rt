@@ -2,13 +2,13 @@
 
 use crx_base::At;
 
-/// Whether lines may come.
+/// Whether an input may have more lines.
 #[derive(Clone, Copy, Debug, PartialEq, Eq)]
 pub enum Phase {
-    /// Lines may come.
+    /// More lines may follow.
     Open,
     /// The end was reported, and no line is pending.
     Ended,
-    /// This fault is answered from now on.
+    /// This fault is returned from now on.
     Stopped(At),
 }

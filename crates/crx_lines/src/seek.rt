@@ -1,4 +1,4 @@
-//! The search for the end of a line in what a reader gives.
+//! The search for a line's end in the bytes of a reader.
 ghost use Rattle.std.specs.Prelude.{◌≡◌, ℕ, List, ◌+◌, ◌<◌, ◌≤◌, length, slice_index, IfOk, IfErr, MatchBool, Contains};
 ghost use Rattle.crx_lines.specs.meaning.Devices.{tally_of};
 ghost use Rattle.crx_lines.specs.Devices.{tally_after_line};
@@ -12,20 +12,20 @@ use crate::window::Window;
 use crx_base::Fault;
 use crx_base::limits::INPUT_LIMIT;
 
-/// The first line of an input: what was discarded of it, and what is in the window.
+/// The first line of an input: how much of it was discarded, and how much is in the window.
 #[derive(Clone, Copy)]
 pub(crate) struct Found {
     /// How many of its bytes were discarded: none, or more than a line may have.
     pub(crate) passed: u64,
     /// How many of its bytes are at the front of the window.
     pub(crate) len: usize,
-    /// Whether an LF follows them, or the end.
+    /// Whether an LF follows them; otherwise the input ends there.
     pub(crate) is_ended: bool,
 }
 
-/// Looks for the end of the line that the window begins with, asking `reader` while there is none.
-/// What is too long for a line is discarded, so the window never fills up. With so many bytes in the lines
-/// before, a byte past `INPUT_LIMIT` is a fault.
+/// Finds the end of the line that the window begins with, and reads from `reader` until it is found. Bytes of a
+/// line that is too long are discarded, so the window never fills up. `before`: how many bytes the earlier
+/// lines had. Returns `InputTooLong` at a byte past `INPUT_LIMIT`, and `ReadFailed` if a read fails.
 pub(crate) fn seek<R: Source>(
     window: &mut Window,
     before: u64,

@@ -1,4 +1,4 @@
-//! Calls that are made again where a signal interrupted them.
+//! Calls that are repeated if a signal interrupts them.
 ghost use Rattle.std.specs.Prelude.{◌≡◌, ◌≢◌, IfErr};
 ghost use Rattle.std.specs.Io.{ReadsAtMost, WritesAtMost};
 ghost use Rattle.std.specs.Io.KnownBytes.{Keeps, ReadConsumes, WriteAppends};
@@ -7,28 +7,28 @@ ghost use Rattle.std.specs.IoError.{error_kind};
 use std::io;
 use std::io::{ErrorKind, Read, Write};
 
-/// How often a call is made that a signal interrupts each time. So each call returns; its error is then that
-/// time is out.
+/// How often a call is made if a signal interrupts it each time. Then it returns `TimedOut`, so that each call
+/// returns.
 const MOST_CALLS: u64 = u64::MAX;
 
-/// A reader or a writer of std that hands on no interruption: a read, a write or a flush that a signal
-/// interrupted is made again, until it is done or fails. An interrupted call gave or took no byte.
+/// A reader or a writer of std that returns no interruption: a read, a write or a flush that a signal
+/// interrupts is repeated until it succeeds or fails. An interrupted call transfers no byte.
 ///
-/// A device counts each error as a failure, so the program's streams and files are below this type.
+/// A device counts each error as a failure, so the program's streams and files are wrapped in this type.
 #[derive(Drop)]
 pub struct Uninterrupted<D> {
     inner: D,
 }
 
 impl<D> Uninterrupted<D> {
-    /// The reader or writer, whose interrupted calls are made again.
+    /// Wraps a reader or writer, so that its interrupted calls are repeated.
     pub fn new(inner: D) -> Uninterrupted<D>
         ensures inner { result.inner ≡ inner }
     {
         Uninterrupted { inner }
     }
 
-    /// The reader or writer itself.
+    /// Returns the reader or writer itself.
     pub fn into_inner(self) -> D
         ensures inner { result ≡ self.inner }
     {

@@ -1,4 +1,5 @@
-//! The buffer of a reader of lines: bytes that were given and are pending, and room after them.
+//! The buffer of a reader of lines: the pending bytes, which were read and belong to no line yet, and room
+//! after them.
 ghost use Rattle.std.specs.Prelude.{◌≡◌, ℕ, ◌+◌, ◌-◌, ◌<◌, ◌≤◌, ◌⊎◌, List, [], ◌++◌, length, take, drop, slice_range, vec_capacity, IfOk, IfErr, OnErr, MatchBool, if◌then◌else◌};
 ghost use Rattle.crx_lines.specs.meaning.Devices.{ends_after, tally_of};
 ghost use Rattle.crx_lines.specs.Devices.{EndsFill};
@@ -15,18 +16,18 @@ use crx_base::{Fault, Padded, Refused};
 use std::alloc::Global;
 use std::mem;
 
-/// How many bytes a read finds in use and free at least; twice as many are in use at first.
+/// How many bytes in use are free before a read, at least; twice this number are in use at first.
 const PIECE: usize = 2048;
 
-/// How many of the [`SIZE`] bytes are behind those that are held at least before a read, in use or not: a
-/// line's content, CR and LF.
+/// How many of the [`SIZE`] bytes follow the pending ones before a read, at least, in use or not: a line's
+/// content, CR and LF.
 const LEAST_ROOM: usize = LINE_LIMIT + 2;
 
-/// How many bytes of memory there are for lines, 18 KiB: two of the longest lines, in whole pieces, and
-/// dozens of common ones. They come into use by doubling, up to 16 KiB. To read more at once is no faster.
+/// How many bytes of memory are for lines, 18 KiB: two of the longest lines, in whole pieces, and dozens of
+/// common ones. They are brought into use by doubling, up to 16 KiB. Larger reads are no faster.
 pub(crate) const SIZE: usize = (2 * LEAST_ROOM / PIECE + 1) * PIECE;
 
-/// Where the content of a line that was taken is in the window, and whether LF alone ended the line.
+/// Where in the window the content of a taken line is, and whether only an LF ended the line.
 #[derive(Clone, Copy)]
 pub(crate) struct Cut {
     pub(crate) from: usize,
@@ -34,8 +35,8 @@ pub(crate) struct Cut {
     pub(crate) is_plain: bool,
 }
 
-/// The bytes from `start` to `end` are given and pending, and as many as pad a line are behind them. There is
-/// memory for `SIZE` bytes and these; more of it comes into use as it is filled.
+/// A buffer whose pending bytes are those from `start` to `end`; at least the bytes that pad a line follow
+/// them. It has memory for `SIZE` bytes and this padding, and brings more of it into use as it fills.
 #[derive(Drop)]
 pub(crate) struct Window {
     bytes: Vec<u8>,
@@ -50,7 +51,7 @@ impl Window {
     ghost use Rattle.crx_base.specs.Padded.{line_in};
     ghost use Rattle.crx_lines.specs.Window.{IsCut, cut_shown, kept};
 
-    /// An empty window. Its memory is never on the stack.
+    /// Returns an empty window, or `Refused` if memory is refused. Its memory is never on the stack.
     pub(crate) fn new(alloc: Global) -> Result<Window, Refused>
         ensures { IfOk result (λ window. kept window ≡ []) }
     {
@@ -71,7 +72,7 @@ impl Window {
         &self.bytes[self.start..self.end]
     }
 
-    /// The content of a line that was taken, while its bytes are there.
+    /// Returns the content of a taken line, while its bytes are in the window.
     pub(crate) fn padded(&self, cut: Cut) -> Padded<'_>
         requires { IsCut self.now.bytes.items cut }
         ensures value { line_in result ≡ (cut_shown self.now.bytes.items cut).content }
@@ -79,8 +80,8 @@ impl Window {
         Padded::of(&self.bytes[cut.from..], cut.to - cut.from)
     }
 
-    /// Takes a line of so many bytes, and the LF behind them where one ends it; else they are all that is
-    /// held. A blank is behind its content then, in place of the LF, or of a CR before it.
+    /// Takes a line of `len` bytes, and the LF after them if `is_ended`; otherwise they are all pending bytes.
+    /// Puts a blank after the content, over the LF or the CR before it.
     pub(crate) fn take_line(&mut self, len: usize, is_ended: bool) -> Cut
         requires { MatchBool is_ended (len < length (kept self.old)) (len ≡ length (kept self.old)) }
         ensures cut { IsCut self.new.bytes.items result }
@@ -101,7 +102,7 @@ impl Window {
         }
     }
 
-    /// Lets go of what is longer than a line and its end, and answers how many bytes that was.
+    /// Discards the pending bytes if they are longer than a line with its end, and returns how many they were.
     pub(crate) fn let_go_of_long(&mut self) -> usize
         ensures count { ((result ≡ 0) × (kept self.new ≡ kept self.old))
             ⊎ ((result ≡ length (kept self.old)) × (LINE_LIMIT + 1 < result) × (kept self.new ≡ [])) }
@@ -116,7 +117,7 @@ impl Window {
         count
     }
 
-    /// Makes room after the bytes that are held: where too little is left, they move to the front.
+    /// Makes room after the pending bytes: moves them to the front if too little is left.
     fn move_to_front(&mut self)
         requires { length (kept self.old) ≤ LINE_LIMIT + 1 }
         ensures kept { kept self.new ≡ kept self.old }
@@ -136,8 +137,7 @@ impl Window {
         }
     }
 
-    /// Brings as many bytes again into use where few are free: so a run over a small file touches little
-    /// memory.
+    /// Doubles the bytes in use if few are free, so that a run over a small file touches little memory.
     fn use_more(&mut self)
         requires { self.old.end + LEAST_ROOM ≤ SIZE }
         ensures kept { kept self.new ≡ kept self.old }
@@ -149,8 +149,8 @@ impl Window {
         }
     }
 
-    /// Asks the reader once, for at most so many bytes, and holds them after the others. Where none may come,
-    /// a byte is a fault.
+    /// Reads once from `reader`, at most `most` bytes, appends them to the pending ones, and returns their
+    /// number. Returns `InputTooLong` at any byte if `most` is 0, and `ReadFailed` if the read fails.
     pub(crate) fn fill<R: Source>(&mut self, reader: &mut R, most: u64) -> Result<usize, Fault>
         requires { length (kept self.old) ≤ LINE_LIMIT + 1 }
         ensures ok { IfOk result (λ n. (more : List ℕ) × (length more ≡ n) × (n ≤ most)
@@ -185,8 +185,8 @@ impl Window {
     }
 }
 
-/// Makes a list have so many bytes, for which it has memory, by zeros. It is taken out of its place first:
-/// only then is it filled by one call of the C library.
+/// Lengthens `bytes` with zeros to `count`, for which it has memory. The list is taken out of its place first,
+/// because only then does one call of the C library fill it.
 fn lengthen(bytes: &mut Vec<u8>, count: usize)
     requires longer { length bytes.old.items ≤ count }
     requires memory { count ≤ vec_capacity bytes.old }

@@ -1,16 +1,15 @@
-//! Writing that counts what went out.
+//! Writing that counts the bytes written.
 ghost use Rattle.std.specs.Prelude.{◌≡◌, ◌<◌, length, take, OnOk, OnErr, IfErr};
 ghost use Rattle.crx_lines.specs.meaning.Devices.{one_more};
 
 use crate::device::{Sink, WriteFailed};
 
-/// How many bytes are written at once. So many are copied into a buffer by registers, 128 bytes in 13
-/// instructions; more are copied by an instruction that repeats itself for each byte, and an expansion with
-/// 16 to 20 types takes 5 % more instructions.
+/// How many bytes are written at once. A piece of this size is copied into a buffer by registers; a longer one
+/// would be copied byte by byte.
 const PIECE: usize = 2048;
 
-/// Writes all of `bytes`, a piece after another, going on after a short write. A failure comes with the
-/// number of bytes that went out before it, from the front.
+/// Writes all of `bytes`, piece by piece, and continues after a short write. If a write fails, returns how many
+/// bytes were written before it, from the front.
 pub fn write_all_counted<W: Sink>(writer: &mut W, bytes: &[u8]) -> Result<(), (usize, WriteFailed)>
     ensures all { OnOk result (W.took writer.old bytes.now writer.new) }
     ensures good { OnOk result (W.failures writer.new ≡ W.failures writer.old) }

@@ -1,16 +1,15 @@
--- What is counted of a device: its failures, how often a source reported its end, and how many flushes a sink was asked
--- for.
+-- Counts of a device: its failures, how often a source reported its end, and how often a sink was flushed.
 use Rattle.std.specs.Prelude.{ℕ, ◌+◌, ◌-◌, ◌^◌, ◌==◌, if◌then◌else◌, min}
 
 -- a count after one more; it stops at the greatest value of 64 bits
 abbrev pub one_more : ℕ → ℕ
 one_more count = min (count + 1) (2 ^ 64 - 1)
 
--- a count of reported ends after a read that gave so many bytes: none is the end
+-- a count of reported ends after a read of `given` bytes: 0 bytes are the end
 abbrev pub ends_after : ℕ → ℕ → ℕ
 ends_after given ends = if given == 0 then one_more ends else ends
 
--- what was counted of a source: the reads that failed, and those that reported the end
+-- counts of a source: the reads that failed, and those that reported the end
 pub record Tally : Type 0 where
   pub failures : ℕ
   pub ends : ℕ
@@ -22,7 +21,7 @@ tally_of failures ends = record { failures = failures; ends = ends }
 abbrev pub with_failure : Tally → Tally
 with_failure t = record { failures = one_more t.failures; ends = t.ends }
 
--- what was counted of a sink: the writes and flushes that failed, and the flushes that were asked for
+-- counts of a sink: the writes and flushes that failed, and all flushes
 pub record SinkTally : Type 0 where
   pub failures : ℕ
   pub flushes : ℕ

@@ -3,7 +3,7 @@ use Rattle.std.proofs.{Common.{subst, arith, append-nil}, Math.Seq.take-add, lem
 use Rattle.std.proofs.lemmas.List.{take-take}
 use Rattle.crx_lines.proofs.write.write_all_counted.Goals as goal
 
--- what went out so far, and the next bytes after it
+-- the bytes written so far, and the next ones after them
 take-rest : (bytes : List ℕ) (n k m : ℕ) → m ≤ k
     → take n bytes ++ take m (take k (drop n bytes)) ≡ take (n + m) bytes
 take-rest bytes n k m few = grind (arith, common_steps, take-take, take-add)

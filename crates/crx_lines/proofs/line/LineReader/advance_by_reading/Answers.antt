@@ -16,7 +16,7 @@ use Rattle.std.proofs.lemmas.Grind.{common_steps}
 pub returns-in-Err-clause-answers : goal.returns-in-Err-clause-answers
 returns-in-Err-clause-answers g c = grind (arith, common_steps, fault-answers)
 
--- the line that was taken, with what is left behind it
+-- the taken line, and the bytes left after it
 module _ (g : Over) (c : After-take_line-cut g) where
   abbrev held : List ℕ
   held = kept c.seek.new.window

@@ -20,7 +20,7 @@ after c =
       phase = old.phase;
     }
 
--- the line that was taken is the first of what was kept
+-- the taken line is the first of the pending bytes
 taken : (c : After-take_line-cut) → (p : Piece) × (p.is_ended ≡ true)
     × TakesPiece (reading c.args.self.now) [] ⊥ p (after c)
     × (cut_shown c.take_line-cut.new.self.bytes.items c.take_line-cut.result ≡ line_of p)
