@@ -13,7 +13,7 @@ first_blanks_none : (n : ℕ) → without_first_blanks (replicate n 32) ≡ []
 first_blanks_none zero = refl
 first_blanks_none (suc n) = first_blanks_none n
 
--- more blanks at the end are no matter
+-- more blanks at the end make no difference
 pub end_blanks-more : (xs : List ℕ) (n : ℕ)
     → without_end_blanks (xs ++ replicate n 32) ≡ without_end_blanks xs
 end_blanks-more [] n = end_blanks_none n
@@ -35,7 +35,7 @@ pub columns_are : (line : List ℕ) (first width : ℕ) → columns line first w
     (drop (first - 1) line) ++ replicate (width - length (take width (drop (first - 1) line))) 32
 columns_are line first width = padded_more width width _ (omega arith)
 
--- so what doesn't read blanks at the ends reads the part alone
+-- so a function that ignores blanks at the ends needs only this part
 pub end_blanks_columns : (line : List ℕ) (first width : ℕ)
     → without_end_blanks (columns line first width) ≡ without_end_blanks (take width (drop (first - 1) line))
 end_blanks_columns line first width = grind (arith, common_steps, columns_are, end_blanks-more)

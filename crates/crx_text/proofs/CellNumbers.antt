@@ -8,13 +8,13 @@ use Rattle.crx_text.specs.{Codes.counted_digits, declared.code.Code.TheVariants.
 use Rattle.crx_text.specs.meaning.Codes.{code_of, coded_number, first_cell}
 use Rattle.crx_text.specs.meaning.Numbers.{signed_number, without_minus}
 
--- the number in a cell, by its minus and its digits
+-- the number in a cell, from its minus and its digits
 pub coded_number-cell : (text digits : List ℕ) → digits ≡ without_minus text → coded_number (first_cell text)
     ≡ option_map (signed_number (starts_with_minus text)) (counted_digits (first_cell digits))
 unfolding coded_number
 coded_number-cell text digits is = grind arith
 
--- where no digit begins the cell, it has no number
+-- if no digit begins the cell, it has no number
 pub no_first_digit : (text : List ℕ)
     → (0 < length text → is_ascii_digit (get_or text 0 0) ≡ false) → counted_digits (first_cell text) ≡ None
 no_first_digit = grind (arith, common_steps)
@@ -53,6 +53,6 @@ blank_is_no_digit (c ∷ cs) some = grind (arith, common_steps, blank_is_no_digi
 no_number_with_blank : (text : List ℕ) → list_any (λ c. eqb c 32) text ≡ true → coded_number text ≡ None
 no_number_with_blank = grind (arith, common_steps, cases_eq, no_digits, blank_is_no_digit)
 
--- a blank is in no code
+-- no code has a blank
 pub no_code_with_blank : (text : List ℕ) → list_any (λ c. eqb c 32) text ≡ true → code_of text ≡ None
 no_code_with_blank = grind (arith, common_steps, no_number_with_blank, cases_eq, nat_tests, ne_eqb)

@@ -1,4 +1,4 @@
--- Texts by their characters, blanks being after them: what is read by columns doesn't ask for the blanks at a
+-- Texts by their characters, with blanks after them: a reader of columns doesn't depend on the blanks at a
 -- text's end.
 use Rattle.std.proofs.{Common.{rules, ◌∙◌, ap, arith}, lemmas.Grind.common_steps}
 use Rattle.std.{proofs.lemmas.List.{length-append, length-take, length-replicate}, specs.List.list_all}
@@ -28,7 +28,7 @@ pub at-append_past : (xs ys : List ℕ) (n p : ℕ) → length xs ≡ n → at (
 at-append_past [] ys n p e = ap (at ys) (omega (arith, e))
 at-append_past (x ∷ xs) ys n p e = grind (arith, common_steps, at, at-append_past xs ys _ p refl)
 
--- a text that blanks follow, cut at a width
+-- a text followed by blanks, cut at a width
 take-padded : (n k : ℕ) (text want : List ℕ)
     → n ≤ k → length want ≡ n → ((p : ℕ) → p < n → at text p ≡ at want p) → take n (text ++ replicate k 32)
     ≡ want

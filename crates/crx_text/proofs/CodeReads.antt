@@ -4,7 +4,7 @@ use Rattle.std.specs.Str.{all_ascii_digits, Parse.{digits_value_after, starts_wi
 use Rattle.crx_text.specs.meaning.{Codes.coded_number, Numbers.{signed_number, without_minus}}
 use Rattle.crx_base.specs.declared.limits.TheConstants.{DIGITS_LIMIT}
 
--- where the count fits, the digits decide
+-- if the count fits, the digits decide
 pub coded_number_fitting : (text digits : List ℕ)
     → digits ≡ without_minus text → 0 < length digits → length digits ≤ DIGITS_LIMIT →
     coded_number text ≡ (if all_ascii_digits digits

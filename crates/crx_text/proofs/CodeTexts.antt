@@ -67,7 +67,7 @@ code_of_step = grind (arith, common_steps)
 pub code_of-signed_decimal : (z : ℤ) → IsShort z → code_of (signed_decimal z) ≡ step_of (signed_decimal z)
 code_of-signed_decimal = search (rules, code_of_step, decimal_nonempty, no_mark_in_digits, decimal_is_digits)
 
--- what is printed of a code is read back
+-- a printed code is read back
 pub code_of-code_text : (code : Code) → IsPrintable code → code_of (code_text code) ≡ Some code
 code_of-code_text code printable =
     grind (arith, common_steps, code_text_start, code_of-signed_decimal, coded_number-signed_decimal)

@@ -1,4 +1,4 @@
--- How many digits a size has, by how many bits it has.
+-- How many digits a size has, from its number of bits.
 use Rattle.std.proofs.Common.{◌≡◌, ℕ, zero, suc, ◌+◌, ◌-◌, ◌*◌, ◌/◌, ◌%◌}
 use Rattle.std.proofs.Common.{◌^◌, ◌<◌, ◌≤◌, Bool, true, ◌&&◌, ◌||◌, eqb, leb}
 use Rattle.std.proofs.Common.{length, get_or, decimal, refl, ap, arith, ◌⊎◌, inl, inr, ◌∙◌}
@@ -20,7 +20,7 @@ longer (suc k) n reaches fits =
     let more = longer k (n / 10) (omega (arith, reaches, ten)) (omega (arith, fits)) in
     omega (arith, more, length_step_wide n (omega (arith, reaches, ten, some)) (omega (arith, fits)))
 
--- a size of so many digits, or of four or fewer
+-- a size of `count` digits, or of four or fewer
 pub record HasDigits (size count : ℕ) : Type 0 where
   pub many : 4 ≤ count
   pub below : size < 10 ^ count
@@ -50,7 +50,7 @@ text_counted size count short has = absurd (omega (arith, has.many))
 
 -- ---- the table's rows
 
--- the digits that a row counts, and what it lacks where a longer size begins; and the bits of its sizes
+-- the digits that a row counts, how far it is below a longer size, and the bits of its sizes
 abbrev pub digits_in : ℕ → ℕ
 digits_in row = get_or COUNTS row 0 / DIGIT
 
@@ -70,7 +70,7 @@ power_before : (k : ℕ) → 4 ≤ k → 10 ^ k ≡ 10 ^ (k - 1) * 10
 power_before k many =
     let before : k ≡ suc (k - 1) = omega (arith, many) in ap (λ n. 10 ^ n) before ∙ pow-suc 10 (k - 1)
 
--- what a row says of the sizes of its bits
+-- a row holds for the sizes with its bits
 pub record IsRow (bits digits rest : ℕ) : Type 0 where
   pub many : 4 ≤ digits
   pub few : digits ≤ 13
@@ -99,7 +99,7 @@ row_at row small =
     both : (a b c d : ℕ) → (eqb a b && leb c d) ≡ true → (a ≡ b) × (c ≤ d)
     both a b c d is = let parts = and_parts _ _ is in (eqb-true _ _ parts.0, leb-true _ _ parts.1)
 
--- the bits of a size by the zeros before those of twice as much and one
+-- the bits of a size, from the zeros before those of twice the size plus one
 abbrev pub HasBits : (size zeros : ℕ) → Type 0
 HasBits size zeros = (23 ≤ zeros) × (zeros - 23 < 41) × (2 ^ (40 - (zeros - 23)) ≤ 2 * size + 1)
     × (2 * size + 1 < 2 * 2 ^ (40 - (zeros - 23)))

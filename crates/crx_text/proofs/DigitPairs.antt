@@ -21,7 +21,7 @@ PAIRS_at p small =
     let parts = and_parts _ _ (agree_below_at is_pair (λ p. true) 100 p refl small) in
     (eqb-true _ _ parts.0, eqb-true _ _ parts.1)
 
--- what is written after what was written
+-- one text written after another
 pub joined : (first second third front back : List ℕ) (at middle end : ℕ)
     → take middle second ≡ take at first ++ front
     → take end third ≡ take middle second ++ back → take end third ≡ take at first ++ (front ++ back)
@@ -42,7 +42,7 @@ zeros_of n = bool_byte (ltb n 10) + bool_byte (ltb n 100) + bool_byte (ltb n 100
 pub few_zeros : (n : ℕ) → zeros_of n ≤ 3
 few_zeros n = grind (arith, common_steps, ltb, bool_byte)
 
--- a number's own digits are after those zeros
+-- a number's own digits follow those zeros
 own_digits : (n : ℕ) → n < 10000 → drop (zeros_of n) (four n) ≡ decimal n
 own_digits = search (rules, cases_lt, lt-ltb, decimal_digit, le-ltb, decimal_two, pair, decimal_pair)
 
@@ -62,7 +62,7 @@ bytes_shifted word (suc (suc zero)) few fits = grind arith
 bytes_shifted word (suc (suc (suc zero))) few fits = refl
 bytes_shifted word (suc (suc (suc (suc z)))) few fits = absurd (omega arith)
 
--- the first bytes of what was written
+-- the first bytes of a written text
 pub first_written : (old new bytes : List ℕ) (at n k : ℕ) → at ≤ length old
     → k ≤ n → take (at + n) new ≡ take at old ++ bytes → take (at + k) new ≡ take at old ++ take k bytes
 first_written old new bytes at n k within few whole =
@@ -79,11 +79,11 @@ four_written = grind (arith, common_steps, joined, decimal_four)
 
 -- ---- the zeros before a number, by the lowest bit of its digits
 
--- four digits beside each other, the first one lowest
+-- four digits in one word, the first one lowest
 abbrev pub digits_beside : ℕ → ℕ
 digits_beside n = n / 100 / 10 + 256 * (n / 100 % 10) + 65536 * (n % 100 / 10) + 16777216 * (n % 100 % 10)
 
--- four columns that begin with zeros, and in the last one a bit of every character
+-- four columns that begin with zeros, and in the last one a bit that every character has
 abbrev pub lowest_of : ℕ → ℕ
 lowest_of n = count_trailing_zeros 32 (bit_and (808464432 + digits_beside n) 521080591) / 8
 
@@ -96,7 +96,7 @@ lowest_is n small =
     eqb→eq _ _ (subst T (sym (agree_below_at (λ n. eqb (lowest_of n) (zeros_of n)) (λ n. true) 10000 n
     all_agree small)) tt)
 
--- a word whose bytes are a number's columns, and its digits
+-- a word whose bytes are a number's columns, and the zeros before its digits
 pub zeros_found : (n word : ℕ) → n < 10000 → word < 2 ^ 32 → to_le_bytes w32 word ≡ four n
     → count_trailing_zeros 32 (bit_and word 521080591) / 8 ≡ zeros_of n
 zeros_found n word small fits bytes =

@@ -1,4 +1,4 @@
--- Rows of digits, and the number that the first of them write.
+-- Rows of digits, and the number that the first of them make.
 use Rattle.std.proofs.Common.{◌≡◌, ℕ, zero, suc, ◌+◌, ◌-◌, ◌*◌, ◌/◌, ◌%◌, ◌^◌, ◌<◌, ◌≤◌, Bool, true, false}
 use Rattle.std.proofs.Common.{not, cond, ◌&&◌, T, leb, List, [], ◌∷◌, ◌++◌, map, length, replicate}
 use Rattle.std.proofs.Common.{take, drop, get_or, subst, Fits, w8, refl, sym, ap, ◌∙◌, arith}
@@ -18,7 +18,7 @@ use Rattle.crx_text.{specs.meaning.Codes.first_cell, proofs.{GroupHalves.wide_of
 
 -- ---- the lanes of a row
 
--- a row's characters less 48, and as many zeros after them, as the code makes them
+-- a row's characters less 48, and the zeros after them, as the code makes them
 abbrev pub row_lanes : List ℕ → List ℕ
 row_lanes text = zip2 (λ a b. (a + (256 - b)) % 256)
     (pick_l 0 (take 8 text ++ replicate 8 0) (range_with_len 0 16)) (replicate 16 48)
@@ -47,13 +47,13 @@ digits_agree [] small = refl
 digits_agree (c ∷ cs) small = rw (below_ten c (small 0))
     (ap (λ n. cond (is_ascii_digit c) (1 + n) 0) (digits_agree cs (λ i. small (suc i))))
 
--- where fewer of the first ones pass than they are, no more pass in all
+-- if the passing prefix ends among the first n, it is the same for the whole list
 prefix_in_front : (p : ℕ → Bool) (n : ℕ) (xs : List ℕ)
     → prefix_len p (take n xs) < n → prefix_len p xs ≡ prefix_len p (take n xs)
 prefix_in_front p (suc n) (x ∷ xs) few = grind (arith, common_steps, prefix_in_front p n xs)
 prefix_in_front p n xs few = grind (arith, common_steps)
 
--- the lanes before one that ends the digits in any case
+-- the lanes before one that always ends the digits
 ends : (ds : List ℕ) (bits : List Bool)
     → prefix_len (λ b. not b) (map (leb 10) ds ++ true ∷ bits) ≡ prefix_len is_below_ten ds
 ends [] bits = refl
@@ -85,7 +85,7 @@ end_is v long =
     subst (λ w. count_trailing_zeros 64 (mask_l (end_lanes w) % 2 ^ 64)
     ≡ prefix_len is_below_ten (take 7 w)) (sym (sixteen v long)) (end_explicit (λ i. get_or v i 0))
 
--- ---- the number that the first digits of a row write
+-- ---- the number that the first digits of a row make
 
 abbrev pub weights_of : ℕ → List ℕ
 weights_of count = pick_l 0 (chunk 0 8 (take (56 - 8 * count) (drop (8 * count) WEIGHTS)) ++ replicate 8 0)
@@ -127,7 +127,7 @@ products_small digits count few bytes =
     let small = weights_small count few in
     (pairs_small (grouped digits) (weights_of count) bytes small.0, small.1)
 
--- what the groups of three make of the first six lanes, which are weighed by hundreds, tens and ones
+-- the groups of three from the first six lanes, weighed by hundreds, tens and ones
 module _ (e : ℕ → ℕ) (zeroth : e 0 < 256) (first : e 1 < 256) (second : e 2 < 256) (third : e 3 < 256)
     (fourth : e 4 < 256) (fifth : e 5 < 256) where
   of_groups : (count a b : ℕ)
@@ -154,7 +154,7 @@ total_is v count long fits few =
     (total_explicit (λ i. get_or v i 0) (lane_fits v 0 fits) (lane_fits v 1 fits) (lane_fits v 2 fits)
     (lane_fits v 3 fits) (lane_fits v 4 fits) (lane_fits v 5 fits) count few)
 
--- the digits less 48 write what the digits write
+-- the digits less 48 make the same number as the digits
 written_digits : (size count : ℕ) (row : List ℕ) → all_ascii_digits (take count row) ≡ true
     → written size (take count (map above_zero row)) ≡ digits_value_after 10 size (take count row)
 written_digits size (suc count) (c ∷ cs) digits =
@@ -174,7 +174,7 @@ prefix_digits (c ∷ cs) = go (is_ascii_digit c) refl (prefix_digits cs)
         rw (one, e) rest
     go false e rest = refl
 
--- what the lanes of a row say of its characters
+-- the lanes of a row show its characters
 pub read_row : (text : List ℕ) (size count : ℕ) → 8 ≤ length text → AreBytes (take 8 text)
     → count ≡ count_trailing_zeros 64 (mask_l (end_lanes (row_lanes text)) % 2 ^ 64) → count ≤ 6
     → size ≡ written 0 (take count (row_lanes text))
@@ -205,7 +205,7 @@ after_cell-digits : (ds rest : List ℕ) → all_ascii_digits ds ≡ true
 after_cell-digits [] rest digits = refl
 after_cell-digits (c ∷ cs) rest digits = grind (arith, common_steps, after_cell-digits cs rest)
 
--- so many digits, which a text begins with, and no digit after them
+-- `count` digits that a text begins with, and no digit after them
 digits_found : (text : List ℕ) (size count : ℕ) → count < 8 → count ≤ length text
     → all_ascii_digits (take count text) ≡ true → size ≡ digits_value_after 10 0 (take count text)
     → (count < length text → is_ascii_digit (get_or text count 0) ≡ false) → HasFirstDigits text size count

@@ -1,4 +1,4 @@
--- Lists of what a function gives at one place after another.
+-- Lists of a function's values at one place after another.
 use Rattle.std.proofs.{Common.{sym, ◌∙◌, ap, arith}, lemmas.Grind.common_steps}
 use Rattle.std.specs.{List.AllByRecursion, Prelude.{◌≡◌, refl, ℕ, zero, suc, ◌+◌, ◌<◌, ◌≤◌, min, [], ◌∷◌}}
 use Rattle.std.specs.Prelude.{◌++◌, length, map, take, drop, slice_index_or}
@@ -8,7 +8,7 @@ pub length-each_place : {X : Type 0} (n : ℕ) (f : ℕ → X) → length (each_
 length-each_place zero f = refl
 length-each_place (suc n) f = ap suc (length-each_place n (λ i. f (suc i)))
 
--- what is at a place of a list of so many
+-- the value at a place of a list of n
 pub index-each_place : {X : Type 0} (n j : ℕ) (f : ℕ → X) (d : X)
     → (n ≤ j → f j ≡ d) → slice_index_or (each_place n f) j d ≡ f j
 index-each_place (suc n) (suc j) f d h = index-each_place n j (λ i. f (suc i)) d (λ le. h (omega (arith, le)))
@@ -39,7 +39,7 @@ take-each_place (suc k) (suc m) f =
     ap (λ r. f zero ∷ r) (take-each_place k m (λ i. f (suc i))) ∙ sym (ap (λ n. each_place n f) more)
 take-each_place k m f = grind (arith, common_steps)
 
--- what is from a place on
+-- the list from a place on
 pub drop-each_place : {X : Type 0} (n k : ℕ) (f : ℕ → X)
     → k < n → drop k (each_place n f) ≡ f k ∷ drop (k + 1) (each_place n f)
 drop-each_place (suc n) zero f h = refl

@@ -12,7 +12,7 @@ use Rattle.crx_text.specs.meaning.Columns.{before_end_blanks, without_end_blanks
 before_some : (x : ℕ) (zs : List ℕ) → 0 < length zs → before_end_blanks x zs ≡ x ∷ zs
 before_some = grind (arith, common_steps)
 
--- what is after a part decides which blanks are dropped
+-- the part after another one decides which blanks are dropped
 kept_append : (xs ys : List ℕ)
     → 0 < length (without_end_blanks ys) → without_end_blanks (xs ++ ys) ≡ xs ++ without_end_blanks ys
 kept_append [] ys some = refl
@@ -63,7 +63,7 @@ bits_kept k xs few =
     let leading = leading_unique k _ (k - kept) kept (omega (arith, within)) bit.0 bit.1 in
     omega (arith, leading, within)
 
--- how many characters of so many are before the blanks at their end, as lanes find it
+-- how many of `size` characters are before the blanks at their end, as lanes find it
 abbrev pub found : ℕ → List ℕ → ℕ
 found size v = 64 - count_leading_zeros 64 (mask_l (map
     (top 7) (zip2 (λ a b. cond (not (eqb a b)) 255 0) v (replicate size 32))) % 2 ^ 64)
@@ -94,14 +94,14 @@ module _ (text : List ℕ) (end : ℕ) (within : end ≤ length text)
         take_kept text,
       )
 
-  -- one that keeps nothing goes with the blanks after it
+  -- a piece that keeps nothing is dropped with the blanks after it
   pub none_in_piece : (size start : ℕ) → start + size ≡ end
       → length (without_end_blanks (chunk start size text)) ≡ 0 → without_end_blanks (drop start text) ≡ []
   none_in_piece size start sum long =
       ap without_end_blanks (chunk-drop start size text) ∙ (none_append (chunk start size text) (drop _ text)
       (ap (λ k. without_end_blanks (drop k text)) sum ∙ none) ∙ nil_from_length _ long)
 
-  -- what lanes find in such a piece
+  -- the lanes' result for such a piece
   module _ (size start : ℕ) (few : size ≤ 64) (sum : start + size ≡ end) where
     lanes : found size (chunk start size text) ≡ length (without_end_blanks (chunk start size text))
     lanes = lanes_kept size _ few (length-chunk start size text (omega (arith, sum, within)))

@@ -1,4 +1,4 @@
--- The first cell of a line: counted by lanes, and where a blank and more characters are behind the line.
+-- The first cell of a line: counted by lanes, and with a blank and more characters after the line.
 use Rattle.std.proofs.Common.{◌≡◌, ℕ, zero, suc, nat_lt, ◌+◌, ◌-◌, ◌%◌, ◌^◌, ◌<◌, ◌≤◌, Bool, true, false}
 use Rattle.std.proofs.Common.{min}
 use Rattle.std.proofs.Common.{cond, eqb, not, bit_or, List, [], ◌∷◌, ◌++◌, map, length, replicate, drop, take}
@@ -9,7 +9,7 @@ use Rattle.std.specs.{Int.Bits.or_shifted_r, List.prefix_len}
 use lib.{Count.count_trailing_zeros, Lanes.{mask_l, top, zip2}}
 use Rattle.crx_text.specs.meaning.Codes.{after_cell, first_cell}
 
--- a blank behind a text ends its last cell
+-- a blank after a text ends its last cell
 padded_cell : (text rest : List ℕ) → first_cell (text ++ 32 ∷ rest) ≡ first_cell text
 padded_cell [] rest = refl
 padded_cell (c ∷ cs) rest = grind (arith, common_steps, padded_cell cs rest)
@@ -24,7 +24,7 @@ cell_at (b ∷ bs) (suc len) zero before within blank = grind (arith, common_ste
 cell_at (b ∷ bs) (suc len) (suc at) before within blank =
     cell_at bs len at (omega (arith, before)) (omega (arith, within)) blank
 
--- ---- and the next one is after its blank, or at the line's end
+-- ---- the next cell is after its blank, or at the line's end
 
 after_blank : (text : List ℕ) → drop (suc (length (first_cell text))) text ≡ after_cell text
 after_blank [] = refl
@@ -60,7 +60,7 @@ module _ (line : List ℕ) (at n : ℕ) (counted : n ≡ length (first_cell (dro
 
 -- ---- among the first lanes
 
--- of a cell they have as much as there is, or they are all of it
+-- they hold the whole cell, or are all in it
 cell_in_front : (n : ℕ) (text : List ℕ)
     → length (first_cell (take n text)) ≡ min (length (first_cell text)) n
 cell_in_front (suc n) (c ∷ cs) = grind (arith, common_steps, cell_in_front n cs)
@@ -70,7 +70,7 @@ before_blank : (text : List ℕ) → prefix_len (λ c. not (eqb c 32)) text ≡ 
 before_blank [] = refl
 before_blank (c ∷ cs) = grind (arith, common_steps, before_blank cs)
 
--- a bit above the others is a blank behind the lanes
+-- a bit above the others is a blank after the lanes
 blank_behind : (xs : List ℕ) → mask_l (map (λ c. eqb c 32) (xs ++ 32 ∷ []))
     ≡ 2 ^ length xs + mask_l (map (λ c. eqb c 32) xs)
 blank_behind [] = refl
@@ -96,7 +96,7 @@ counted xs long =
 module _ (bytes line : List ℕ) (at : ℕ) (is : take (length line) bytes ≡ line)
     (blank : slice_index bytes (length line) ≡ 32) (room : length line + 64 ≤ length bytes)
     (within : at ≤ length line) where
-  -- a slice up to the end is what is behind its place
+  -- a slice up to the end is the part from its place on
   abbrev slice : List ℕ
   slice = take (length bytes - at) (drop at bytes)
 

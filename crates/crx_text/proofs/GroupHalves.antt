@@ -31,7 +31,7 @@ pub groups_are : (size high low : ℕ) → size < 10 ^ 12 → high ≡ size / 10
     ≡ size / 10 ^ 6 % 1000 ∷ size / 10 ^ 9 ∷ size % 1000 ∷ size / 1000 % 1000 ∷ []
 groups_are size high low small is rest = grind arith
 
--- ---- the halves beside each other
+-- ---- the halves next to each other
 
 abbrev pub wide_of : List ℕ → List ℕ
 wide_of v = digits_l (2 ^ 64) 2 (number_l 256 (digits_l 256 16 (number_l (2 ^ 32) v)))

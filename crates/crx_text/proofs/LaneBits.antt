@@ -8,7 +8,7 @@ use Rattle.std.proofs.lemmas.Simd.{length-zip2, mask_l-mod, pick_l_whole, tops_c
 use Rattle.std.specs.List.{range_with_len, list_all, list_any}
 use lib.Lanes.{pick_l, mask_l, top, zip2}
 
--- a list of so many is the list of its elements
+-- a list of length 14 is the list of its elements
 pub fourteen : (xs : List ℕ) → length xs ≡ 14 → xs ≡ pick_l 0 xs (range_with_len 0 14)
 fourteen xs long = sym (pick_l_whole 0 xs 14 long)
 
@@ -26,7 +26,7 @@ pub all_bits : {X : Type 0} (p : X → Bool) (xs : List X)
 all_bits p [] = refl
 all_bits p (x ∷ xs) = grind (arith, common_steps, pow-suc, one-le-pow, all_bits p xs)
 
--- ---- the first lanes of a mask alone
+-- ---- only the first lanes of a mask
 
 pub some_of_field : (byte : ℕ) (xs : List ℕ) → length xs ≡ 16 → not (nat_eq (bit_and
     (mask_l (map (top 7) (zip2 (λ a b. cond (eqb a b) 255 0) xs (replicate 16 byte))) % 2 ^ 64)

@@ -22,7 +22,7 @@ pub list_all_ends : (p : ℕ → Bool) (n : ℕ) (xs : List ℕ) → length xs �
     → list_all p (take n xs ++ drop (length xs - n) xs) ≡ list_all p xs
 list_all_ends p n xs few = list_all-append p _ _ ∙ list_all-overlap p _ n xs (omega (arith, few))
 
--- the last piece, some of which was passed before
+-- the last piece, part of which was passed before
 pub list_all-last_piece : (p : ℕ → Bool) (n i : ℕ) (xs : List ℕ) → n ≤ length xs → length xs - n ≤ i
     → (list_all p (take i xs) && list_all p (chunk (length xs - n) n xs)) ≡ list_all p xs
 list_all-last_piece p n i xs some passed = search (rules, take_all, length-drop, list_all, list_all-overlap)
@@ -53,7 +53,7 @@ pub zip2-chunk : (f : ℕ → ℕ → ℕ) (i n : ℕ) (xs ys : List ℕ)
     → zip2 f (chunk i n xs) (chunk i n ys) ≡ chunk i n (zip2 f xs ys)
 zip2-chunk f i n xs ys = zip2-take f n _ _ ∙ ap (take n) (zip2-drop f i xs ys)
 
--- one more piece of what is to be written
+-- one more piece of a text that is being written
 pub piece_written : (i n : ℕ) (whole out made : List ℕ) → take i out ≡ take i whole
     → take (i + n) made ≡ take i out ++ chunk i n whole → take (i + n) made ≡ take (i + n) whole
 piece_written i n whole out made before written = grind (arith, common_steps, chunk, take-add)

@@ -1,4 +1,4 @@
--- What operations on vectors of characters say of each character.
+-- From operations on vectors of characters to each character.
 use Rattle.std.proofs.Common.{rules, true, ℕ, suc, ◌≡◌, ◌+◌, ◌-◌, ◌%◌, ◌^◌, ◌&&◌, cond, eqb, ltb}
 use Rattle.std.proofs.Common.{bit_or, Bool, List, [], ◌∷◌, length, map, replicate, Fits, w8, arith, refl, ap}
 use Rattle.std.proofs.{Common.{sym, ◌∙◌}, lemmas.Bool.{agree_below, agree_below_at, ne_eqb}}
@@ -9,7 +9,7 @@ use lib.Lanes.{fold_l, zip2, sel_l, top, Each1}
 use Rattle.crx_text.specs.{Texts.character_of, meaning.Texts.{mark_of, is_kept}}
 use Rattle.crx_base.specs.meaning.Lines.{is_printable}
 
--- ---- marks and what they leave
+-- ---- marks and the characters that they leave
 
 lanes-mark_of : (n : ℕ) (olds news : List ℕ) → length olds ≡ n → length news ≡ n → sel_l (zip2 eqb olds news)
     (replicate n 32) (sel_l (zip2 eqb news (replicate n 32)) (replicate n 38) news) ≡ zip2 mark_of olds news
@@ -59,7 +59,7 @@ none_in_fold (x ∷ xs) a = grind (arith, common_steps, or_none, none_in_fold xs
 crossed : (a b c d : Bool) → ((a && b) && (c && d)) ≡ ((a && c) && (b && d))
 crossed = grind (arith, common_steps)
 
--- no lane is set exactly where none was, and each character passes
+-- no lane is set if and only if none was set and each character passes
 none_more : (q : ℕ → Bool) (f : ℕ → ℕ)
     → agree_below (λ x. unset (f x)) q 256 ≡ true → (others v : List ℕ) → length others ≡ length v
     → Each1 (Fits w8) v
@@ -82,7 +82,7 @@ from_blank x = (x + (256 - 32)) % 256
 abbrev too_far : ℕ → ℕ
 too_far x = (cond (top 7 (cond (ltb (from_blank x) 94) 255 0)) 94 (from_blank x) + (256 - 94)) % 256
 
--- the same of a vector
+-- the same for a vector
 abbrev unprintable : List ℕ → List ℕ
 unprintable v =
     let r = zip2 (λ a b. (a + (256 - b)) % 256) v (replicate 16 32) in

@@ -1,4 +1,4 @@
--- The test of a field's columns by lanes: what each lane's bit says, and all of them together.
+-- The test of a field's columns by lanes: the bit of each lane, and all of them together.
 use Rattle.std.proofs.lemmas.Grind.{common_steps}
 use Rattle.std.proofs.Common.{◌≡◌, ℕ, suc, ◌+◌, ◌-◌, ◌%◌, ◌<◌, Bool, true, cond, ◌&&◌, ◌||◌, ltb}
 use Rattle.std.proofs.Common.{eqb, bit_and, bit_or, List, [], ◌∷◌, ◌++◌, map, length, replicate, get_or}
@@ -12,13 +12,13 @@ pub lane_fits : (v : List ℕ) (i : ℕ) → Each1 (Fits w8) v → get_or v i 0 
 lane_fits (x ∷ xs) (suc i) h = lane_fits xs i h.1
 lane_fits v i h = grind (arith, common_steps)
 
--- how far a byte is above so many from a first one on
+-- how far a byte is above the `most` bytes after a first one
 abbrev far : ℕ → ℕ → ℕ → ℕ
 far start most c =
     let up : ℕ = (c + (256 - start)) % 256 in
     (cond (top 7 (cond (ltb up most) 255 0)) most up + (256 - most)) % 256
 
--- at most so far from a first byte on, or a blank or a minus where what is before is as it has to be
+-- a byte at most `most` above a first one, or a blank or a minus after the required byte
 abbrev pub lane : ℕ → ℕ → ℕ → ℕ → ℕ → Bool
 lane start most before needed c = eqb (cond (top 7 (bit_and (cond (eqb before needed) 255 0)
     (bit_or (cond (eqb c 32) 255 0) (cond (eqb c 45) 255 0)))) 0 (far start most c)) 0
@@ -30,7 +30,7 @@ allowed before c = is_ascii_digit c || (eqb before 32 && (eqb c 32 || eqb c 45))
 whole_lane : (before c : ℕ) → c < 256 → lane 48 9 before 32 c ≡ allowed before c
 whole_lane before c small = grind arith
 
--- that of the first column, which holds no digit
+-- the lane of the first column, which holds no digit
 first_lane : (c : ℕ) → c < 256 → lane 45 0 c 32 c ≡ (eqb c 32 || eqb c 45)
 first_lane c small = grind arith
 
@@ -89,7 +89,7 @@ module _ (c : ℕ → ℕ) (small : (i : ℕ) → c i < 256) (all : list_all (λ
     kept = and_from _ _ (kept_at 14 refl) (and_from _ _ (kept_at 15 refl) refl);
   }
 
--- what isn't allowed in a row, as the code makes it
+-- the lanes of a row that aren't allowed, as the code makes them
 abbrev pub refused : List ℕ → List ℕ
 refused v =
     let blanks = zip2 (λ a b. cond (eqb a b) 255 0) (pick_l 0 (v ++ replicate 16 0)

@@ -11,7 +11,7 @@ use Rattle.crx_text.proofs.LaneBits.{sixteen}
 use Rattle.crx_text.proofs.PlainLanes.{lane_fits}
 use Rattle.crx_text.specs.Fields.{IsPlain, is_plain_after, weighed, plain_digits}
 
--- a lane's byte less 48, and 0 where it is below
+-- a lane's byte less 48, or 0 if it is below 48
 abbrev pub digit_lane : ℕ → ℕ
 digit_lane c = (cond (top 7 (cond (ltb c 48) 255 0)) 48 c + (256 - 48)) % 256
 

@@ -1,4 +1,4 @@
--- What plain columns spell.
+-- The number that plain columns spell.
 use Rattle.std.proofs.Common.{rules, ◌≡◌, ◌≢◌, ℕ, ℤ, pos, ◌+◌, ◌-◌, ◌*◌, true, false, ◌||◌, eqb, Some}
 use Rattle.std.proofs.Common.{List, [], ◌∷◌, ◌++◌, map, take, length, get_or, subst, refl, sym, ap, ◌∙◌}
 use Rattle.std.proofs.{Common.{eqb-true, arith}, lemmas.Bool.{and_parts, or_cases}}

@@ -1,4 +1,4 @@
--- What two parts of a buffer hold: a rule on two texts as far as both go, and on the rest of the longer one.
+-- Two parts of a buffer: a rule on two texts as far as both go, and on the rest of the longer one.
 use Rattle.std.proofs.Common.{rules, ℕ, ◌≡◌, ◌+◌, ◌-◌, ◌≤◌, List, ◌++◌, length, drop, take, replicate, arith}
 use Rattle.std.proofs.{Common.{refl, ap, ◌∙◌}, lemmas.{Grind.common_steps, List.{append_assoc, append-nil}}}
 use Rattle.std.proofs.lemmas.List.{drop_all, length-append, length-take-le, take_at, take-replicate}
@@ -43,5 +43,5 @@ module _ (f : ℕ → ℕ → ℕ) (old other front rest more others : List ℕ)
   other_is_longer ends within rest_is =
       grind (arith, common_steps, some_blanks, by_position-other, length-zip2, by_parts)
 
--- what `write_by_position` wants, whichever text is longer
+-- the needs of `write_by_position`, whichever text is longer
 pub ruleset each_end = (both_end, old_is_longer, other_is_longer)

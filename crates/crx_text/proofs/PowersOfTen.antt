@@ -8,7 +8,7 @@ use Rattle.std.specs.{Char.is_ascii_digit, Int.IsInRange, Str.{all_ascii_digits,
 pub ten_pow_pos : (k : ℕ) → 1 ≤ 10 ^ k
 ten_pow_pos k = one-le-pow k 10 (omega arith)
 
--- a number with one more digit, beside a power with one less
+-- a number with one more digit, times a tenth of the power
 pub one_more_digit : (size digit power all : ℕ)
     → digit ≤ 9 → (size + 1) * (power * 10) ≤ all → (size * 10 + digit + 1) * power ≤ all
 one_more_digit size digit power all small bound = grind arith
@@ -38,19 +38,19 @@ pub digits_value_next : (ds : List ℕ) (i size : ℕ) → i < length ds → is_
     (drop i ds)
 digits_value_next ds i size within is_digit = grind (arith, common_steps, digit_value_is)
 
--- the number that digits write is that of the first ones, continued from
+-- the number that digits make is the number of the first ones, continued
 pub digits_value_after-append : (n : ℕ) (xs ys : List ℕ)
     → digits_value_after 10 n (xs ++ ys) ≡ digits_value_after 10 (digits_value_after 10 n xs) ys
 digits_value_after-append n [] ys = refl
 digits_value_after-append n (x ∷ xs) ys = digits_value_after-append (n * 10 + digit_value x) xs ys
 
--- digits at a beginning leave the test to the rest
+-- if the first characters are digits, the test depends on the rest
 pub digits_before : (ds rest : List ℕ) → all_ascii_digits ds ≡ true
     → all_ascii_digits (ds ++ rest) ≡ all_ascii_digits rest
 digits_before [] rest digits = refl
 digits_before (c ∷ cs) rest digits = grind (arith, common_steps, digits_before cs rest)
 
--- the number that digits write is less than the next one before them, with as many zeros
+-- digits after a number make less than the next number with a zero for each digit
 pub value_small : (size : ℕ) (ds : List ℕ)
     → all_ascii_digits ds ≡ true → digits_value_after 10 size ds < (size + 1) * 10 ^ length ds
 value_small size [] digits = omega arith
@@ -62,17 +62,17 @@ value_small size (c ∷ cs) digits =
     let power : 10 ^ suc (length cs) ≡ 10 ^ length cs * 10 = pow-suc 10 (length cs) in
     rw power (omega (arith, value_small (size * 10 + digit_value c) cs parts.1, grows))
 
--- a number of some digits, and as many more digits
+-- a number of some digits, and b more digits
 pub more_digits_fit : (size a b n : ℕ) → size < 1 * 10 ^ a → a + b ≤ n → (size + 1) * 10 ^ b ≤ 10 ^ n
 more_digits_fit size a b n small few =
     let grows : (size + 1) * 10 ^ b ≤ 10 ^ a * 10 ^ b = mul-le-mul_right (10 ^ b) (omega (arith, small)) in
     omega (arith, grows, pow-add 10 a b, pow-le-pow_right {n = 10} (omega arith) few)
 
--- a number of so many digits, where more may be
+-- a number of `count` digits, if `limit` are allowed
 pub small_number : (size count limit : ℕ) → count ≤ limit → size < 10 ^ count → size < 10 ^ limit
 small_number size count limit few small = grind (arith, common_steps, pow-le-pow_right)
 
--- what one digit more is to the number of the digits so far
+-- a number with one more digit
 pub ruleset next_digit = (
   pow_left,
   next_is_small,

@@ -1,4 +1,4 @@
--- Digits in a row, as the decimal text of the number that they write.
+-- Digits in a row, as the decimal text of their number.
 use Rattle.std.proofs.lemmas.Grind.{common_steps}
 use Rattle.std.proofs.Common.{◌≡◌, ℕ, zero, suc, ◌+◌, ◌-◌, ◌*◌, ◌^◌, ◌<◌, ◌≤◌, Bool, true, ltb, eqb}
 use Rattle.std.proofs.Common.{if◌then◌else◌, List, [], ◌∷◌, ◌++◌, map, length, replicate, drop, decimal, refl}
@@ -8,7 +8,7 @@ use Rattle.std.specs.List.{list_all}
 use Rattle.crx_text.specs.meaning.Numbers.{zero_padded}
 pub use Rattle.crx_text.specs.Digits.{written}
 
--- the zeros before a number's first digit, its last one apart
+-- the zeros before a number's first digit; its last digit isn't counted
 abbrev pub leading_zeros : List ℕ → ℕ
 leading_zeros [] = 0
 leading_zeros (d ∷ []) = 0

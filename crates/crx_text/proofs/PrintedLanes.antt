@@ -1,4 +1,4 @@
--- The lanes of a printed observation: three digits of each group, and what makes text of them.
+-- The lanes of a printed observation: three digits of each group, and the bytes that make text of them.
 use Rattle.std.proofs.Common.{◌≡◌, ℕ, zero, suc, ◌+◌, ◌-◌, ◌*◌, ◌/◌, ◌%◌, ◌^◌, ◌<◌, ◌≤◌, Bool, true, false}
 use Rattle.std.proofs.Common.{bit_and, List, [], ◌∷◌, ◌++◌, map, length}
 use Rattle.std.proofs.Common.{if◌then◌else◌, replicate, take, drop, subst, refl, sym, arith}
@@ -27,7 +27,7 @@ digits_of_groups : (gs : List ℕ) → Each1 (λ g. g < 1000) gs
 digits_of_groups [] small = refl
 digits_of_groups (g ∷ gs) small = grind (arith, common_steps, digits_of_groups gs small.1)
 
--- the words as the code makes them of the groups
+-- the words that the code makes from the groups
 abbrev pub words_of : List ℕ → List ℕ
 words_of groups =
     let times = zip2 (λ a b. a * b % 2 ^ 32) in
@@ -47,9 +47,9 @@ digits_of_words groups long small =
     (digits_of_groups (pick_l 0 groups (range_with_len 0 4))
     (subst (Each1 (λ g. g < 1000)) (sym whole) small))
 
--- ---- what is added to the columns
+-- ---- the bases of the columns
 
--- blanks, a sign or one more blank, and then what makes digits
+-- blanks, a sign or one more blank, and then the bases of digits
 pub base_row : (is_below : Bool) (start : ℕ) → 1 ≤ start → start ≤ 9 → chunk {A = ℕ} 0 16
     (take (64 - ((if is_below then 48 else 16) - start)) (drop ((if is_below then 48 else 16) - start) BASES))
     ≡ replicate (start - 1) 32 ++ (if is_below then 45 else 32) ∷ replicate (16 - start) 48

@@ -31,7 +31,7 @@ cut : (n w : ℕ) (text rest : List ℕ)
     → n + length text ≡ w → take w (replicate n 32 ++ (text ++ rest)) ≡ replicate n 32 ++ text
 cut n w text rest sum = grind (arith, common_steps)
 
--- the digits before the point and after it, and the two columns behind the field
+-- the digits before the point and after it, and the two columns after the field
 abbrev pub row_of : List ℕ → List ℕ → List ℕ
 row_of nine three = 0 ∷ (nine ++ (254 ∷ (three ++ (0 ∷ 0 ∷ []))))
 
@@ -101,13 +101,13 @@ module _ (size : ℕ) (small : size < 10 ^ 12) where
 
 -- ---- a sign in the column before the size
 
--- a sign in place of the last of some blanks
+-- a sign over the last of some blanks
 pub sign_last : (n sign : ℕ) (text : List ℕ) → set (replicate (suc n) 32 ++ text) n sign
     ≡ replicate n 32 ++ sign ∷ text
 sign_last zero sign text = refl
 sign_last (suc n) sign text = ap (λ t. 32 ∷ t) (sign_last n sign text)
 
--- what is added to a zero is there as it is
+-- a byte added to a zero is unchanged
 sum_put : (xs ys : List ℕ) (i sign : ℕ) → get_or xs i 0 ≡ 0 → sign < 256 → plus xs (set ys i sign)
     ≡ set (plus xs ys) i sign
 sum_put (x ∷ xs) (y ∷ ys) (suc i) sign none small =

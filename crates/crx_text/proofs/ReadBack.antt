@@ -1,4 +1,4 @@
--- What is printed is read back.
+-- Printed texts are read back.
 use Rattle.std.proofs.Common.{true, ℕ, ℤ, pos, negsuc, suc, zero, ◌≡◌, ◌≢◌, ◌+◌, ◌*◌, ◌<◌}
 use Rattle.std.proofs.Common.{◌≤◌, ◌^◌, List, [], ◌∷◌, ◌++◌, length, get_or, replicate, decimal, Option, Some}
 use Rattle.std.proofs.{Common.{None, arith, refl}, Math.Nat.{pow-suc, div-le_self}}
@@ -14,7 +14,7 @@ use Rattle.crx_text.proofs.Spellings.{ten_pow_small, abs_within, abs_within_belo
 use Rattle.crx_text.specs.meaning.{Columns.without_first_blanks, Numbers.{IsWithin, number_of, number_text}}
 use Rattle.crx_text.specs.meaning.Numbers.{size_of, size_text, spelling, right_justified, decimal_number}
 
--- the digits that are after a number
+-- the digits after a number
 pub digits_behind : (n : ℕ) (ds : List ℕ) → digits_value_after 10 n ds
     ≡ n * 10 ^ length ds + digits_value_after 10 0 ds
 digits_behind n [] = omega arith
@@ -105,7 +105,7 @@ spelling_reads decimals (pos size) some few small =
 spelling_reads decimals (negsuc less) some few small =
     grind (arith, common_steps, decimal_number_minus, size_of-size_text)
 
--- what is printed is read back, at any width
+-- a printed number is read back, at any width
 pub number_of-number_text : (width decimals : ℕ) (value : Option ℤ) → 0 < decimals → decimals + 3 ≤ width
     → width ≤ 19
     → ForSome value (IsWithin width) → number_of width decimals (number_text width decimals value)

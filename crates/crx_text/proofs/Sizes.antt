@@ -1,4 +1,4 @@
--- The spellings of a number without its sign: what reading them asks for.
+-- The spellings of a number without its sign, for its reader.
 use Rattle.std.proofs.Common.{ℤ, pos, neg_ℤ, ◌≡◌, ℕ, ◌+◌, ◌-◌, ◌<◌, ◌≤◌, ◌^◌, Bool, true, false, ◌&&◌, ◌≢◌}
 use Rattle.std.proofs.Common.{if◌then◌else◌, Option, Some, None, List, length, drop, take, get_or}
 use Rattle.std.proofs.{Common.{arith}, Math.Nat.pow-le-pow_right, lemmas.Grind.common_steps}
@@ -46,7 +46,7 @@ decimal_number_minus = grind (arith, common_steps)
 
 -- ---- the range
 
--- digits of so many columns fit an i64
+-- digits of at most 19 columns, one of them the point, fit an i64
 pub size_fits : (size columns : ℕ) → columns ≤ 19 → size < 10 ^ (columns - 1) → size < 2 ^ 63
 size_fits size columns few small =
     let power = let few : columns - 1 ≤ 18 = omega arith in
@@ -59,7 +59,7 @@ pos_is_within size columns small = grind (arith, common_steps, ten_pow_pos)
 pub neg_is_within : (size columns : ℕ) → size < 10 ^ (columns - 1 - 1) → IsWithin columns (neg_ℤ (pos size))
 neg_is_within size columns small = grind (arith, common_steps, ten_pow_pos)
 
--- either way
+-- of either sign
 pub signed_in_range : (width size : ℕ) (is_below : Bool)
     → size < 10 ^ (width - 1 - 1) → IsWithin width (signed_number is_below size)
 signed_in_range width size is_below small = grind (arith, common_steps, pow-le-pow_right, neg_is_within)

@@ -1,4 +1,4 @@
--- The one printed spelling: its parts and how long they are.
+-- The one printed spelling: its parts and their lengths.
 use Rattle.std.proofs.Common.{rules, true, false, ℤ, pos, Some, None, set, ◌≡◌, ℕ, zero, suc, ◌+◌, ◌-◌, ◌*◌}
 use Rattle.std.proofs.Common.{◌/◌, ◌%◌, ◌<◌, ◌≤◌, ◌^◌, List, ◌∷◌, ◌++◌, length, drop, take, replicate}
 use Rattle.std.proofs.{Common.{decimal, arith, refl, ap, sym, ◌∙◌}, Math.Nat.div-lt_iff_lt-mul}
@@ -25,7 +25,7 @@ pub length-size_text : (decimals size : ℕ) → 0 < decimals → decimals < 19 
     ≡ length (decimal (size / 10 ^ decimals)) + (decimals + 1)
 length-size_text = grind (arith, common_steps, length-zero_padded, fraction_short, length-append)
 
--- a number below a power of ten fits the columns but for the point
+-- a number below a power of ten fits the columns without the point
 pub size_text_fits : (decimals size columns : ℕ) → 0 < decimals
     → decimals + 2 ≤ columns → columns ≤ 19 → size < 10 ^ (columns - 1)
     → length (size_text decimals size) ≤ columns
@@ -40,9 +40,9 @@ size_text_fits decimals size columns some room few small =
     (omega (arith, whole, ten_pow_small digits (omega arith))) in
     omega (arith, short, length-size_text _ size some (omega arith))
 
--- ---- what the writes leave of a field of blanks
+-- ---- a field of blanks after the writes
 
--- a minus in place of the last blank before a text
+-- a minus over the last blank before a text
 minus_put : (n : ℕ) (text field : List ℕ) → 1 ≤ n → drop n field ≡ text → take n field ≡ replicate n 32
     → set field (n - 1) 45 ≡ replicate (n - 1) 32 ++ 45 ∷ text
 minus_put (suc zero) text (c ∷ cs) some written before = grind (arith, common_steps)
@@ -59,7 +59,7 @@ pub abs_within_below : (width : ℕ) (number : ℤ)
     → lt_z number (pos 0) ≡ true → IsWithin width number → nat_abs number < 10 ^ (width - 1 - 1)
 abs_within_below = grind (arith, common_steps)
 
--- a number as it is held, and what was printed of its size
+-- a number as it is held, and the printed text of its size
 pub printed_number : (width decimals start size : ℕ) (held number : ℤ) (field : List ℕ) → held ≡ number
     → lt_z held (pos 0) ≡ false → size ≡ nat_abs held → start + length (size_text decimals size) ≡ width
     → drop start field ≡ size_text decimals size → take start field ≡ take start (replicate width 32)
@@ -79,5 +79,5 @@ pub printed_blank : (width decimals : ℕ) → replicate width 32 ≡ number_tex
 unfolding number_text
 printed_blank width decimals = refl
 
--- what is printed of a number, or of none
+-- the printed text of a number, or of none
 pub ruleset printed_texts = (abs_within, abs_within_below, size_text_fits, printed_number, printed_blank)

@@ -1,4 +1,4 @@
--- The two ends of a text, which are the whole of it where they meet, and what a rule makes of them.
+-- The two ends of a text, which together are all of it if they meet, and a rule on them.
 use Rattle.std.proofs.Common.{ℕ, ◌≡◌, ◌+◌, ◌-◌, ◌≤◌, List, ◌++◌, length, drop, take, arith, ap, ◌∙◌}
 use Rattle.std.proofs.lemmas.{Grind.common_steps, List.{length-drop, length-take-le, take_all}}
 use Rattle.std.proofs.lemmas.Simd.{length-chunk, length-zip2, pick_l_whole, pick_l-range_with_len}
@@ -18,7 +18,7 @@ eight_ends text long =
 
 -- ---- a rule
 
--- the lanes of the ends, the first ones stored at the beginning, and then the others at the end
+-- the lanes of the ends: the first ones stored at the beginning, and then the other ones at the end
 pub stored_ends : (f : ℕ → ℕ → ℕ) (n : ℕ) (old other out : List ℕ) → n ≤ length old → length old ≤ n + n
     → length other ≡ length old → length out ≡ length old → (made : List ℕ)
     → made ≡ zip2 f (ends n old) (ends n other)

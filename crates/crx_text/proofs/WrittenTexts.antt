@@ -7,7 +7,7 @@ use Rattle.crx_text.{proofs.EndBlanks.{few_kept, take_kept}, specs.meaning.Colum
 
 -- ---- a line of cells and marks
 
--- what was written from an index on, and the line that it makes
+-- the bytes written from an index on, and the line that they make
 pub record LineWritten (bytes old cells marks : List ℕ) (at end : ℕ) : Type 0 where
   pub state : take (end - at) (drop at bytes) ≡ cells ++ marks
   pub is : take (at + length (without_end_blanks (cells ++ marks))) bytes

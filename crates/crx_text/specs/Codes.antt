@@ -1,4 +1,4 @@
--- Beside meaning/Codes: what code and proofs see of it.
+-- In addition to meaning/Codes: how code and proofs see it.
 use Rattle.std.specs.Prelude.{ℕ, ℤ, ◌&&◌, ◌<◌, ◌≤◌, ◌^◌, ⊤, unsigned_abs, if◌then◌else◌, List, length, Option, Some}
 use Rattle.std.specs.Prelude.{None}
 use Rattle.std.specs.Str.{all_ascii_digits}
@@ -22,7 +22,7 @@ IsPrintable (Step difference) = IsShort difference
 
 -- ---- reading
 
--- the number that one digit or more, but not too many, write
+-- the number that at least one digit, but not too many, make
 abbrev pub counted_digits : List ℕ → Option ℕ
 counted_digits digits = if is_count_of_digits (length digits)
     && all_ascii_digits digits then Some (digits_value 10 digits) else None

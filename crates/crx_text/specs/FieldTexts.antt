@@ -1,4 +1,4 @@
--- A number's digits in a row of lanes, on the way to its text.
+-- A number's digits in a row of lanes, before they become its text.
 use Rattle.std.specs.Prelude.{ℕ, ◌/◌, ◌%◌, List, [], ◌∷◌}
 
 -- each group's ones, tens and hundreds, and a 0

@@ -8,8 +8,8 @@ use Rattle.crx_text.specs.Codes.{counted_digits}
 use Rattle.crx_text.specs.meaning.Codes.{after_cell, first_cell}
 use Rattle.crx_base.specs.declared.limits.TheConstants.{DIGITS_LIMIT}
 
--- a size and a count of digits at the beginning of a cell: all its digits go on from them, and the character after
--- them is no digit, or they are too many
+-- a size and a count of digits at the beginning of a cell: all its digits continue them, and the character
+-- after them is no digit, or they are too many
 pub record HasFirstDigits (text : List ℕ) (size count : ℕ) : Type 0 where
   pub few : count ≤ DIGITS_LIMIT + 1
   pub within : count ≤ length text
@@ -25,15 +25,15 @@ pub record HasFirstDigits (text : List ℕ) (size count : ℕ) : Type 0 where
 abbrev pub is_below_ten : ℕ → Bool
 is_below_ten number = nat_lt number 10
 
--- a number that the digits before a text's first blank write, or before its end, and the index after that blank, or of
--- the end
+-- the number of the digits before a text's first blank, or before its end, and the index after that blank, or
+-- of the end
 pub record IsDigitsCell (text : List ℕ) (cell : ℕ × ℕ) : Type 0 where
   pub value : counted_digits (first_cell text) ≡ Some cell.0
   pub next : drop cell.1 text ≡ after_cell text
   pub small : cell.0 < 10 ^ DIGITS_LIMIT
   pub within : cell.1 ≤ length text
 
--- they were read, or they write no number
+-- they were read, or they make no number
 abbrev pub ReadsDigits : List ℕ → Option (ℕ × ℕ) → Type 0
 ReadsDigits text result =
     MatchOption result (counted_digits (first_cell text) ≡ None) (IsDigitsCell text)

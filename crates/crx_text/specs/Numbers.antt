@@ -1,4 +1,4 @@
--- Beside meaning/Numbers: what code and proofs see of it.
+-- In addition to meaning/Numbers: how code and proofs see it.
 use Rattle.std.specs.Prelude.{ℤ}
 use Rattle.crx_base.specs.declared.limits.TheConstants.{OBSERVATION_WIDTH, CLOCK_WIDTH}
 use Rattle.crx_text.specs.meaning.Numbers.{IsWithin}

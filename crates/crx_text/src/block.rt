@@ -1,16 +1,15 @@
-//! Bytes that texts are written into one after another, and that are kept for the texts after them.
+//! Bytes into which texts are written one after another, and which are kept for the texts after them.
 
 ghost use Rattle.std.specs.Prelude.{drop, ◌≡◌, ◌≤◌, ◌<◌, ◌+◌, ◌++◌, ◌∷◌, [], length, take};
 
-/// Puts a text in place of the bytes from an index on, and gives the index after it.
+/// Writes a text over the bytes from `start` on, and returns the index after it.
 pub fn put_text(bytes: &mut [u8], start: usize, text: &[u8]) -> usize
     requires { start + length text.now ≤ length bytes.old }
     ensures put { take result bytes.new ≡ take start bytes.old ++ text.now }
     ensures end { result ≡ start + length text.now }
     ensures rest { drop (start + length text.now) bytes.new ≡ drop (start + length text.now) bytes.old }
 {
-    // Most satellite lines have no marks to be put: without this a call of the C library comes, and 12
-    // instructions before it.
+    // Most satellite lines have no marks: no call for them.
     if text.is_empty() {
         return start;
     }
@@ -19,7 +18,7 @@ pub fn put_text(bytes: &mut [u8], start: usize, text: &[u8]) -> usize
     end
 }
 
-/// Puts a line and its LF in place of the bytes from an index on.
+/// Writes a line and its LF over the bytes from `start` on.
 pub fn put_line(bytes: &mut [u8], start: usize, line: &[u8])
     requires { start + length line.now < length bytes.old }
     ensures put { take (start + length line.now + 1) bytes.new

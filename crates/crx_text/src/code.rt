@@ -1,4 +1,4 @@
-//! Codes of numbers: Hatanaka's Compact RINEX 3.0, the codes of satellite lines and of the clock line.
+//! Codes, which are the coded values of satellite lines and of the clock line: Hatanaka's Compact RINEX 3.0.
 
 ghost use Rattle.std.specs.Prelude.{◌≡◌, ◌+◌, ◌<◌, ◌≤◌, [], ◌∷◌, ◌++◌, ◌↔◌, Some, length, take, drop, IfOk, IfSome, OnOk, OnErr, OnSome, IsErr, min};
 ghost use Rattle.std.specs.Option.{option_map};
@@ -13,7 +13,7 @@ use crx_base::Padded;
 use crx_base::limits::{DIGITS_LIMIT, LINE_LIMIT, ORDER_LIMIT};
 use std::simd::prelude::*;
 
-/// What stands for a value in compact text.
+/// A coded value, as compact text has it.
 #[derive(Clone, Copy, Debug, PartialEq, Eq)]
 pub enum Code {
     /// No value: the empty text.
@@ -36,13 +36,12 @@ ghost use Rattle.crx_base.specs.Padded.{line_in};
 ghost use Rattle.crx_base.specs.declared.limits.TheConstants.{LINE_LIMIT};
 ghost use Rattle.crx_text.specs.declared.lanes.TheConstants.{LANES};
 
-/// The most bytes that are written with a code: an order, `&`, a minus, the digits, and three more, since
+/// The most bytes that are written with a code: an order, `&`, a minus, the digits, and three more, because
 /// digits are written four at a time.
 const CODE_WIDTH: usize = DIGITS_LIMIT + 6;
 
-/// Appends a code's printed text: an order is one digit, and `&` is after it. It asks for an
-/// order and numbers within the limits. `TextFull` comes only where the text would pass
-/// [`LINE_LIMIT`] bytes, and then it stays as it was.
+/// Appends a code's printed text; an order is one digit, and `&` follows it. The order and the numbers are
+/// within the limits. Returns `TextFull`, with the text unchanged, if it would pass [`LINE_LIMIT`] bytes.
 #[inline]
 #[tactic(auto, using(crate::proofs::CodeTexts::code_text_length))]
 pub fn code_print(code: Code, text: &mut Text) -> Result<(), TextFull>
@@ -60,9 +59,8 @@ pub fn code_print(code: Code, text: &mut Text) -> Result<(), TextFull>
     Ok(())
 }
 
-/// Writes a code's printed text and a blank from an index on, and answers the index after them. What is
-/// before them stays; up to two bytes after them may be overwritten. It asks for an order and numbers within
-/// the limits, and for room.
+/// Writes a code's printed text and a blank from index `at` on, and returns the index after them. Up to two
+/// more bytes may be overwritten. The order and the numbers are within the limits.
 #[inline(always)]
 pub fn write_cell(buffer: &mut [u8], at: usize, code: Code) -> usize
     requires printable { IsPrintable code }
@@ -75,8 +73,7 @@ pub fn write_cell(buffer: &mut [u8], at: usize, code: Code) -> usize
     end + 1
 }
 
-/// Writes a difference and a blank as [`write_cell`] writes the code of the difference, which isn't made and
-/// asked for what it is.
+/// Does the same as [`write_cell`] for the code of a difference, without making a [`Code`] and testing it.
 #[inline(always)]
 #[tactic(auto, using(crate::proofs::CodeTexts::code_text_start, crate::proofs::CodeTexts::start_written))]
 pub fn write_difference(buffer: &mut [u8], at: usize, difference: i64) -> usize
@@ -90,7 +87,7 @@ pub fn write_difference(buffer: &mut [u8], at: usize, difference: i64) -> usize
     end + 1
 }
 
-// Writes a code's text from an index on, and answers the index after it.
+// Writes a code's text from index `at` on, and returns the index after it.
 #[inline(always)]
 #[tactic(auto, using(crate::proofs::CodeTexts::code_text_start, crate::proofs::CodeTexts::start_written))]
 fn write_code(buffer: &mut [u8], at: usize, code: Code) -> usize
@@ -110,9 +107,9 @@ fn write_code(buffer: &mut [u8], at: usize, code: Code) -> usize
     }
 }
 
-/// Reads a code. A number is an optional minus and 1 to [`DIGITS_LIMIT`] digits, leading zeros and
-/// `-0` among them; an order is one digit of at most [`ORDER_LIMIT`] before `&`; the empty text is a
-/// missing value. `BadField` comes for every other text.
+/// Reads a code. A number is an optional minus and 1 to [`DIGITS_LIMIT`] digits, with leading zeros and `-0`
+/// allowed; an order is one digit of at most [`ORDER_LIMIT`] before `&`; the empty text is a missing value.
+/// Returns `BadField` for any other text.
 #[tactic(auto, using(crate::proofs::CellNumbers::no_code_with_blank, crate::proofs::CellNumbers::one_cell))]
 pub fn code_read(text: &[u8]) -> Result<Code, BadField>
     ensures value { result_ok result ≡ code_of text.now }
@@ -125,8 +122,8 @@ pub fn code_read(text: &[u8]) -> Result<Code, BadField>
     Ok(code)
 }
 
-/// Reads the code up to a line's first blank, or up to its end, and answers it with the index after
-/// that blank, or of the line's end. Spellings and `BadField` are those of [`code_read`].
+/// Reads the code before a line's first blank, or up to its end, and returns it with the index after that
+/// blank, or of the line's end. Spellings and `BadField` are those of [`code_read`].
 #[inline(always)]
 pub fn code_before_blank(line: &[u8]) -> Result<(Code, usize), BadField>
     ensures value { option_map (λ cell. cell.0) (result_ok result) ≡ code_of (first_cell line.now) }
@@ -154,8 +151,8 @@ pub fn code_before_blank(line: &[u8]) -> Result<(Code, usize), BadField>
     }
 }
 
-/// How many characters the cell at a place of a line has, where they are fewer than 16; else 16. A bit above
-/// those of the 16 characters ends the search, so that the compiler needn't ask whether there is one.
+/// Returns how many characters the cell at index `at` of a line has, at most 16. A bit above those of the 16
+/// characters ends the search, which saves a test.
 #[inline(always)]
 pub fn cell_length(line: Padded<'_>, at: usize) -> usize
     requires within { at ≤ length (line_in line) }
@@ -168,9 +165,9 @@ pub fn cell_length(line: Padded<'_>, at: usize) -> usize
     (blanks | 0x10000).trailing_zeros() as usize
 }
 
-/// Reads the difference that is the cell at a place of a line, of so many characters as [`cell_length`] says.
-/// `None` comes where the cell is another code or none, and also where [`code_before_blank`] is to read it:
-/// of seven digits or more.
+/// Reads the difference in the cell at index `at` of a line. `characters`: its length by [`cell_length`].
+/// Returns `None` if the cell is another code or none, or has seven digits or more, which only
+/// [`code_before_blank`] reads.
 #[inline(always)]
 pub fn step_of_length(line: Padded<'_>, at: usize, characters: usize) -> Option<i64>
     requires within { at ≤ length (line_in line) }
@@ -181,7 +178,7 @@ pub fn step_of_length(line: Padded<'_>, at: usize, characters: usize) -> Option<
     ensures few { OnSome result (characters < LANES) }
 {
     let (is_below, digits) = split_minus_of_cell(&line.padded()[at..]);
-    // A minus without a character, which isn't there, would be too many digits.
+    // A minus in a cell without characters, which doesn't exist, would be too many digits.
     let count = characters.wrapping_sub(usize::from(is_below));
     if count == 0 || count > FEW {
         return None;
@@ -190,7 +187,8 @@ pub fn step_of_length(line: Padded<'_>, at: usize, characters: usize) -> Option<
     Some(signed(is_below, size))
 }
 
-// The number up to a text's first blank, and the index after that blank; None where it is none.
+// Returns the number before a text's first blank, or up to its end, and the index after it, or `None` if it is
+// no number.
 #[inline(always)]
 fn number_before_blank(text: &[u8]) -> Option<(i64, usize)>
     ensures value { option_map (λ cell. cell.0) result ≡ coded_number (first_cell text.now) }

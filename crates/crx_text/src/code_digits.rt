@@ -1,4 +1,4 @@
-//! The digits of codes: read up to a blank, and written one after another.
+//! The digits of codes, read up to a blank and written one after another.
 
 ghost use Rattle.std.specs.Prelude.{◌≡◌, ◌+◌, ◌-◌, ◌*◌, ◌/◌, ◌%◌, ◌<◌, ◌≤◌, ◌^◌, Some, [], ◌∷◌, ◌++◌, length, take, drop, decimal, IfSome};
 ghost use Rattle.std.specs.Fmt.{signed_decimal};
@@ -10,8 +10,8 @@ ghost use Rattle.crx_base.specs.declared.limits.TheConstants.{DIGITS_LIMIT};
 use crx_base::limits::DIGITS_LIMIT;
 use std::simd::prelude::*;
 
-// The number that the digits up to a text's first blank write, and the index after that blank or of
-// the text's end; None where there is no digit, too many, or something else.
+// Returns the number that the digits before a text's first blank make, and the index after that blank, or of
+// the text's end. Returns `None` if there is no digit, too many, or another character.
 #[inline(always)]
 #[tactic(auto, using(crate::proofs::CellNumbers::no_first_digit))]
 pub(crate) fn digits_before_blank(text: &[u8]) -> Option<(u64, usize)>
@@ -33,8 +33,8 @@ pub(crate) fn digits_before_blank(text: &[u8]) -> Option<(u64, usize)>
     None
 }
 
-// The number that the digits at a text's beginning write, and how many they are; no more of them
-// than one too many are read.
+// Returns the number that the digits at a text's beginning make, and their count. Reads at most one digit too
+// many.
 #[inline(never)]
 fn first_digits(text: &[u8]) -> (u64, usize)
     ensures { HasFirstDigits text.now result.0 result.1 }
@@ -53,16 +53,16 @@ fn first_digits(text: &[u8]) -> (u64, usize)
     (size, count)
 }
 
-// How many characters are in a row of lanes.
+// The number of characters in a row of lanes.
 const ROW: usize = 8;
 
 // How many digits of a row are read at once.
 pub(crate) const FEW: usize = 6;
 
-// The first number of a lane that ends the digits; the lane after the seventh digit ends them in any case.
+// The least value of a lane that ends the digits; the lane after the seventh digit always ends them.
 const ENDS: [u8; 16] = [10, 10, 10, 10, 10, 10, 10, 0, 0, 0, 0, 0, 0, 0, 0, 0];
 
-// What each digit of a row weighs in its group of three, for each count of digits.
+// The weight of each digit of a row in its group of three, by the count of digits.
 #[rattlefmt::skip]
 static WEIGHTS: [u8; 8 * (FEW + 1)] = [
     0, 0, 0, 0, 0, 0, 0, 0,
@@ -74,7 +74,7 @@ static WEIGHTS: [u8; 8 * (FEW + 1)] = [
     100, 10, 1, 0, 100, 10, 1, 0,
 ];
 
-// What the second group weighs, and 2^32 times what the first one does, for each count of digits.
+// The weight of the second group, and 2^32 times that of the first group, by the count of digits.
 static SCALES: [u64; FEW + 1] = [
     0,
     1 << 32,
@@ -85,10 +85,10 @@ static SCALES: [u64; FEW + 1] = [
     (1000 << 32) + 1,
 ];
 
-// The number that so many digits at a row's beginning write; None where it begins with fewer or more. What
-// the lanes hold is how far a character is above `0`, and after the row bytes 0, which are no digits. The two
-// groups of three digits are weighed by one product, whose upper half is their sum. They are weighed by the
-// count that is given, which is known before they are: that saves some 2 percent of the time of expanding.
+// Returns the number of the `count` digits at a row's beginning, or `None` if it begins with fewer or more. The
+// lanes hold a character's distance from `0`, and after the row bytes that are no digits. One product weighs
+// the two groups of three digits, and its upper half is their sum. The weights follow from `count`, which is
+// known before the digits, so that the processor waits less.
 #[inline(always)]
 pub(crate) fn row_number(text: &[u8], count: usize) -> Option<u64>
     requires row { ROW ≤ length text.now }
@@ -121,8 +121,8 @@ pub(crate) fn row_number(text: &[u8], count: usize) -> Option<u64>
 static PAIRS: [u8; 200] =
     *b"00010203040506070809101112131415161718192021222324252627282930313233343536373839404142434445464748495051525354555657585960616263646566676869707172737475767778798081828384858687888990919293949596979899";
 
-// Writes a number from an index on, its minus and digits one after another, and answers the index
-// after it. Up to three bytes after it are written too.
+// Writes a number's minus, if any, and its digits from index `at` on, and returns the index after them. Up to
+// three more bytes are overwritten.
 #[inline(always)]
 #[tactic(auto, using(crate::proofs::DigitPairs::signed_decimal_some))]
 pub(crate) fn write_signed(buffer: &mut [u8], at: usize, number: i64) -> usize
@@ -134,7 +134,7 @@ pub(crate) fn write_signed(buffer: &mut [u8], at: usize, number: i64) -> usize
     write_decimal(buffer, at + usize::from(number < 0), number.unsigned_abs())
 }
 
-// Writes a number without a sign.
+// Writes a number without a sign from index `at` on, and returns the index after it.
 #[inline(always)]
 #[tactic(auto, using(itoa::proofs::Decimal::length_four, crate::proofs::DigitPairs::four_written))]
 fn write_decimal(buffer: &mut [u8], at: usize, size: u64) -> usize
@@ -146,7 +146,7 @@ fn write_decimal(buffer: &mut [u8], at: usize, size: u64) -> usize
         return write_short(buffer, at, size as u32);
     }
     let high = size / 10_000;
-    // What is before the last four digits is written here where it is at most four, without a call.
+    // At most four digits before the last four are written here, without a call.
     let middle = if high < 10_000 {
         write_short(buffer, at, high as u32)
     } else {
@@ -156,7 +156,7 @@ fn write_decimal(buffer: &mut [u8], at: usize, size: u64) -> usize
     middle + 4
 }
 
-// Writes a number of any count of digits, four at a time, the first ones first: it calls itself for those
+// Writes a number with any count of digits, four at a time, the first ones first: it calls itself for those
 // before the last four.
 #[tactic(auto, using(itoa::proofs::Decimal::length_four, crate::proofs::DigitPairs::four_written))]
 fn write_long(buffer: &mut [u8], at: usize, size: u64) -> usize
@@ -173,10 +173,8 @@ fn write_long(buffer: &mut [u8], at: usize, size: u64) -> usize
     middle + 4
 }
 
-// Writes a number of at most four digits. Its four columns are made in one word, the word is shifted by the
-// zeros before the number, and it is written by one store. A branch on the count of digits takes 3 to 15
-// instructions less, but is mispredicted where the count differs from value to value: 7.9 ns a call in place
-// of 4.4 over random numbers.
+// Writes a number of at most four digits by one store: a word holds its four columns and is shifted by the
+// zeros before the number. No branch depends on the count of digits, which may differ from value to value.
 #[inline(always)]
 #[tactic(auto, using(std::proofs::lemmas::Fmt::decimal_nonempty))]
 fn write_short(buffer: &mut [u8], at: usize, size: u32) -> usize
@@ -186,15 +184,15 @@ fn write_short(buffer: &mut [u8], at: usize, size: u32) -> usize
     ensures within { result ≡ at + length (decimal size) }
 {
     let columns = four_digits(size);
-    // The lowest bit that is set among the digits says where the first one is that isn't 0; a bit above the
-    // last one ends the search, since 0 has a digit of its own. That bit is one of every character: to take
-    // `0` from each column and to set it took 2 instructions more.
+    // The lowest bit that is set among the digits shows the first one that isn't 0; a bit above the last one
+    // ends the search, because 0 has a digit of its own. Every character has that bit, so nothing is subtracted
+    // and set.
     let zeros = ((columns & 0x1f0f_0f0f).trailing_zeros() / 8) as usize;
     write_word(buffer, at, columns >> (8 * zeros));
     at + 4 - zeros
 }
 
-// The four digits of a number, zeros among them; the first one is the word's lowest byte.
+// Returns the four digits of a number, with zeros; the first one is the word's lowest byte.
 #[inline(always)]
 #[tactic(auto, using(crate::proofs::DigitPairs::PAIRS_at))]
 fn four_digits(size: u32) -> u32
@@ -202,8 +200,7 @@ fn four_digits(size: u32) -> u32
     ensures { to_le_bytes w32 result ≡ (48 + size / 100 / 10)
         ∷ (48 + size / 100 % 10) ∷ (48 + size % 100 / 10) ∷ (48 + size % 100 % 10) ∷ [] }
 {
-    // By one product: the compiler's own division of a number that it knows less of takes three instructions
-    // more.
+    // A division by one product: the compiler knows less about the number, and its own is slower.
     let high = (size * 5243) >> 19;
     let low = size - high * 100;
     let (high, low) = (high as usize, low as usize);
@@ -215,7 +212,7 @@ fn four_digits(size: u32) -> u32
     ])
 }
 
-// Writes the four bytes of a word from an index on, the lowest one first.
+// Writes the four bytes of a word from index `at` on, the lowest one first.
 #[inline(always)]
 fn write_word(buffer: &mut [u8], at: usize, word: u32)
     requires { at + 4 ≤ length buffer.old }

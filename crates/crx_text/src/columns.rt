@@ -6,7 +6,7 @@ ghost use Rattle.crx_text.specs.meaning.Columns.{character_at, columns, is_blank
 
 use crate::text::trim_end;
 
-/// The character in a column, from 1: a blank after the line's end.
+/// Returns the character in `column`, which counts from 1: a blank after the line's end.
 pub fn character(line: &[u8], column: usize) -> u8
     requires { 1 ≤ column }
     ensures value { result ≡ character_at line.now column }
@@ -14,7 +14,7 @@ pub fn character(line: &[u8], column: usize) -> u8
     line.get(column - 1).copied().unwrap_or(b' ')
 }
 
-/// The part of so many columns, after others, that is inside the line.
+/// Returns `width` columns after the first `start`, as far as they are inside the line.
 fn part(line: &[u8], start: usize, width: usize) -> &[u8]
     ensures value { result.now ≡ take width (drop start line.now) }
 {
@@ -27,7 +27,7 @@ fn part(line: &[u8], start: usize, width: usize) -> &[u8]
     }
 }
 
-/// A text without the blanks at its beginning.
+/// Returns a text without the blanks at its beginning.
 pub fn trim_start(text: &[u8]) -> &[u8]
     ensures value { result.now ≡ without_first_blanks text.now }
     ensures shorter { length result.now ≤ length text.now }
@@ -39,14 +39,14 @@ pub fn trim_start(text: &[u8]) -> &[u8]
     rest
 }
 
-/// Whether all characters of a text are blanks.
+/// Returns whether all characters of a text are blanks.
 pub fn all_blank(text: &[u8]) -> bool
     ensures value { result ≡ list_all is_blank text.now }
 {
     text.iter().all(|c| *c == b' ')
 }
 
-/// So many columns from a first one on, without the blanks at their end.
+/// Returns `width` columns from `first` on, without the blanks at their end.
 #[tactic(auto, using(crate::proofs::Blanks::end_blanks_columns))]
 pub fn end_trimmed(line: &[u8], first: usize, width: usize) -> &[u8]
     requires from_one { 1 ≤ first }
@@ -55,7 +55,7 @@ pub fn end_trimmed(line: &[u8], first: usize, width: usize) -> &[u8]
     trim_end(part(line, first - 1, width))
 }
 
-/// So many columns from a first one on, without the blanks at both ends.
+/// Returns `width` columns from `first` on, without the blanks at both ends.
 #[tactic(auto, using(crate::proofs::Blanks::blanks_columns))]
 pub fn trimmed(line: &[u8], first: usize, width: usize) -> &[u8]
     requires from_one { 1 ≤ first }
@@ -65,7 +65,7 @@ pub fn trimmed(line: &[u8], first: usize, width: usize) -> &[u8]
     trim_end(trim_start(part(line, first - 1, width)))
 }
 
-/// What comes after so many columns.
+/// Returns the part of a line after `width` columns.
 pub fn after_columns(line: &[u8], width: usize) -> &[u8]
     ensures value { result.now ≡ drop width line.now }
 {
@@ -76,7 +76,7 @@ pub fn after_columns(line: &[u8], width: usize) -> &[u8]
     }
 }
 
-/// So many columns from a first one on, blanks after the line's end included.
+/// Returns `N` columns from `first` on, with blanks after the line's end.
 pub fn padded<const N: usize>(line: &[u8], first: usize) -> [u8; N]
     requires from_one { 1 ≤ first }
     ensures value { result ≡ columns line.now first N }

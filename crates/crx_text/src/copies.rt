@@ -1,5 +1,4 @@
-//! Short texts copied, and blanks put, without a call of the C library, which takes more instructions than so
-//! few bytes.
+//! Copies of short texts, and blanks, without a call of the C library, which costs more than these few bytes.
 
 ghost use Rattle.std.specs.Prelude.{◌≡◌, ◌≤◌, ◌<◌, length, replicate};
 ghost use Rattle.crx_base.specs.declared.limits.TheConstants.{LINE_LIMIT};
@@ -8,7 +7,7 @@ use crate::difference::BLANKS;
 use crate::lanes::LANES;
 use std::simd::prelude::*;
 
-/// Puts a text in place of another of the same length, by vectors that may overlap.
+/// Copies a text over another one of the same length, by vectors that may overlap.
 #[inline]
 pub fn copy_text(to: &mut [u8], from: &[u8])
     requires { length to.old ≡ length from.now }
@@ -46,7 +45,7 @@ pub fn copy_text(to: &mut [u8], from: &[u8])
     to[count - 1] = last;
 }
 
-/// Puts blanks in place of a text, by vectors as [`copy_text`]. What is after a row's indicators is mostly
+/// Overwrites a text with blanks, by vectors as [`copy_text`] does. After a row's indicators it is usually
 /// empty.
 #[inline]
 pub fn put_blanks(text: &mut [u8])

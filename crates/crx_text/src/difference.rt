@@ -13,15 +13,15 @@ use crx_base::limits::LINE_LIMIT;
 use std::simd::prelude::*;
 use thiserror::Error;
 
-/// A text holds a character that may not be there.
+/// The error of a text that holds a character that isn't allowed.
 #[derive(Clone, Copy, Debug, PartialEq, Eq, Error)]
 #[error("bad character")]
 pub struct BadCharacter;
 
-/// Writes the marks that lead from the old text to the new one: blank where nothing changes, `&`
-/// where a character becomes blank, else the new character; blanks at the end are dropped. It asks
-/// for at most [`LINE_LIMIT`](crx_base::limits::LINE_LIMIT) bytes. `BadCharacter` comes where the new
-/// text holds a byte outside 32 to 126, or `&`, and then `out` stays as it was.
+/// Writes the marks that lead from the old text to the new one: a blank if nothing changes, `&` if a character
+/// becomes blank, and otherwise the new character. Blanks at the end are dropped. `new` has at most
+/// [`LINE_LIMIT`](crx_base::limits::LINE_LIMIT) bytes. Returns `BadCharacter`, with `out` unchanged, if `new`
+/// holds a byte outside 32 to 126, or `&`.
 pub fn diff_text(old: &Text, new: &[u8], out: &mut Text) -> Result<(), BadCharacter>
     requires { length new.now ≤ LINE_LIMIT }
     ensures plain { is_ok result ≡ list_all is_kept new.now }
@@ -36,8 +36,8 @@ pub fn diff_text(old: &Text, new: &[u8], out: &mut Text) -> Result<(), BadCharac
     Ok(())
 }
 
-/// Appends the marks that lead from the old text to the new one, those of blanks at the end too. It
-/// asks for room for as many bytes as the longer text has.
+/// Appends the marks that lead from the old text to the new one, also those of blanks at the end. `out` needs
+/// room for the longer text.
 pub fn append_difference(old: &[u8], new: &[u8], out: &mut Text)
     requires old_fits { length out.old + length old.now ≤ LINE_LIMIT }
     requires new_fits { length out.old + length new.now ≤ LINE_LIMIT }
@@ -47,10 +47,10 @@ pub fn append_difference(old: &[u8], new: &[u8], out: &mut Text)
     out.len += write_by_position::<Marks>(old, new, &mut out.bytes[start..]);
 }
 
-/// Writes the text that marks make of the old one: a blank leaves the old character, `&` gives a
-/// blank, another character stands for itself; blanks at the end are dropped. It asks for at most
-/// [`LINE_LIMIT`](crx_base::limits::LINE_LIMIT) bytes. `BadCharacter` comes where the marks hold a
-/// byte outside 32 to 126, and then `out` stays as it was.
+/// Writes the text that marks make from the old one: a blank leaves the old character, `&` becomes a blank, and
+/// any other character replaces the old one. Blanks at the end are dropped. `marks` has at most
+/// [`LINE_LIMIT`](crx_base::limits::LINE_LIMIT) bytes. Returns `BadCharacter`, with `out` unchanged, if `marks`
+/// holds a byte outside 32 to 126.
 pub fn patch_text(old: &Text, marks: &[u8], out: &mut Text) -> Result<(), BadCharacter>
     requires { length marks.now ≤ LINE_LIMIT }
     ensures printable { is_ok result ≡ list_all is_printable marks.now }
@@ -60,8 +60,8 @@ pub fn patch_text(old: &Text, marks: &[u8], out: &mut Text) -> Result<(), BadCha
     patch_bytes(old.bytes(), marks, out)
 }
 
-/// Writes the text that marks make of an old one, as [`patch_text`] does, where the old one is a slice. It
-/// asks for at most [`LINE_LIMIT`](crx_base::limits::LINE_LIMIT) bytes in each.
+/// Does the same as [`patch_text`] with a slice as the old text, which has at most
+/// [`LINE_LIMIT`](crx_base::limits::LINE_LIMIT) bytes too.
 pub fn patch_bytes(old: &[u8], marks: &[u8], out: &mut Text) -> Result<(), BadCharacter>
     requires old_fits { length old.now ≤ LINE_LIMIT }
     requires marks_fit { length marks.now ≤ LINE_LIMIT }
@@ -77,14 +77,14 @@ pub fn patch_bytes(old: &[u8], marks: &[u8], out: &mut Text) -> Result<(), BadCh
     Ok(())
 }
 
-/// Whether marks can be made of a text: all its bytes are 32 to 126, and none is `&`.
+/// Returns whether marks can be made from a text: all its bytes are 32 to 126, and none is `&`.
 pub fn all_kept(text: &[u8]) -> bool
     ensures value { result ≡ list_all is_kept text.now }
 {
     all_allowed::<true>(text)
 }
 
-// The mark at a position.
+// The rule that makes the mark at a position.
 struct Marks;
 
 impl Rule for Marks {
@@ -107,7 +107,7 @@ impl Rule for Marks {
     }
 }
 
-// The character that a mark leaves at a position.
+// The rule that makes the character which a mark leaves at a position.
 struct Characters;
 
 impl Rule for Characters {
@@ -133,8 +133,8 @@ impl Rule for Characters {
 
 pub(crate) static BLANKS: [u8; LINE_LIMIT] = [b' '; LINE_LIMIT];
 
-// Writes what the rule makes of two texts, blanks being after the shorter one, and answers how
-// many characters that makes.
+// Writes the characters that the rule makes from two texts, with blanks after the shorter one, and returns
+// their number.
 #[tactic(auto, using(crate::proofs::PositionParts::each_end))]
 fn write_by_position<R: Rule>(old: &[u8], other: &[u8], out: &mut [u8]) -> usize
     requires fits { (length old.now ≤ length out.old) × (length other.now ≤ length out.old) }

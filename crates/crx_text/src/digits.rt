@@ -1,15 +1,14 @@
-//! Digits and signs, as numbers in columns and numbers in codes have them.
+//! Digits and signs of numbers in columns and in codes.
 
 ghost use Rattle.std.specs.Prelude.{◌≡◌, ◌+◌, ◌-◌, ◌*◌, ◌<◌, ◌≤◌, ◌^◌, Some, None, length, if◌then◌else◌, IfSome};
 ghost use Rattle.std.specs.Str.{all_ascii_digits};
 ghost use Rattle.std.specs.Str.Parse.{digits_value_after, starts_with_minus};
 ghost use Rattle.crx_text.specs.meaning.Numbers.{signed_number, without_minus};
 
-// The most columns of a number, its point among them, that an `i64` holds in every form.
+// The most columns of a number, with its point, that an `i64` holds however it is written.
 pub(crate) const WIDEST: usize = 19;
 
-// Goes on from the number that the digits so far write; None where a byte is no digit. It asks for a number
-// and digits that make fewer than `WIDEST` columns.
+// Returns the number that `digits` make after the digits of `before`, or `None` if a byte is no digit.
 #[tactic(auto, using(crate::proofs::PowersOfTen::next_digit))]
 pub(crate) fn digits_read(before: u64, digits: &[u8]) -> Option<u64>
     requires { (before + 1) * 10 ^ length digits.now ≤ 10 ^ (WIDEST - 1) }
@@ -27,7 +26,7 @@ pub(crate) fn digits_read(before: u64, digits: &[u8]) -> Option<u64>
     Some(size)
 }
 
-// Whether a minus begins the text, and the text without it.
+// Returns whether a minus begins the text, and the text without it.
 #[inline(always)]
 pub(crate) fn split_minus(text: &[u8]) -> (bool, &[u8])
     ensures sign { result.0 ≡ starts_with_minus text.now }
@@ -40,8 +39,7 @@ pub(crate) fn split_minus(text: &[u8]) -> (bool, &[u8])
     }
 }
 
-// What [`split_minus`] gives of a text with a first byte, without asking whether there is one: two
-// instructions less for each cell.
+// Does the same as [`split_minus`] for a text that has a first byte, without a test for it.
 #[inline(always)]
 pub(crate) fn split_minus_of_cell(text: &[u8]) -> (bool, &[u8])
     requires some { 0 < length text.now }
@@ -53,7 +51,7 @@ pub(crate) fn split_minus_of_cell(text: &[u8]) -> (bool, &[u8])
     (is_below, &text[usize::from(is_below)..])
 }
 
-// A number of this size, below zero where it has a minus.
+// Returns the number of this size, below zero if `is_below`.
 #[inline(always)]
 pub(crate) fn signed(is_below: bool, size: u64) -> i64
     requires { size < 2 ^ 63 }

@@ -1,5 +1,5 @@
-//! A cell's 16 columns in one row of lanes: an observation's 14, with blanks, perhaps a minus, digits, and
-//! the point in column 11, and two indicators. That is how nearly every cell is written.
+//! A cell's 16 columns in one row of lanes: an observation's 14, with blanks, perhaps a minus, digits, and the
+//! point in column 11, and two indicators. Nearly every cell is written like this.
 
 ghost use Rattle.std.specs.Prelude.{take, ◌≡◌, ◌==◌, ◌+◌, ◌*◌, ◌^◌, ◌<◌, slice_index, IsTrue};
 ghost use Rattle.std.specs.List.{list_any};
@@ -12,23 +12,23 @@ ghost use Rattle.crx_text.specs.meaning.Numbers.{signed_number};
 use crate::digits::signed;
 use std::simd::prelude::*;
 
-// The lanes of a field's columns among 16.
+// The lanes of a field's columns among the 16.
 const FIELD: u64 = 0x3fff;
 
-// The first byte of what a column may have beside blanks and a minus: a digit, or the point.
+// The least byte that a column may have, other than a blank or a minus: a digit, or the point.
 const FIRST: [u8; 16] = [
     45, 48, 48, 48, 48, 48, 48, 48, 48, 48, 46, 48, 48, 48, 48, 48,
 ];
 
-// How far from that one on it may be; the first column has no digit, but a minus.
+// How far above that byte a column's byte may be; the first column may have a minus, but no digit.
 const MOST: [u8; 16] = [0, 9, 9, 9, 9, 9, 9, 9, 9, 9, 0, 9, 9, 9, 9, 9];
 
-// What has to be before a blank or a minus: a blank. [`is_plain`] puts 0 before columns 11 to 16, so that of
-// these only the last two, the indicators, may be either.
+// The byte that has to precede a blank or a minus: a blank. [`is_plain`] puts 0 before columns 11 to 16, so
+// that of these only the last two, the indicators, may be a blank or a minus.
 const BEFORE: [u8; 16] = [32, 32, 32, 32, 32, 32, 32, 32, 32, 32, 32, 32, 32, 32, 0, 0];
 
-/// `true` comes only where the columns are plain, and the indicators are digits, blanks or minuses, as they
-/// mostly are; `false` says nothing. To look at the indicators too takes no instruction more.
+/// Returns `true` only if the columns are plain and the indicators are digits, blanks or minuses, as they
+/// usually are; `false` says nothing. Testing the indicators too costs nothing.
 #[inline(always)]
 pub(crate) fn is_plain(columns: u8x16) -> bool
     ensures { IsTrue result → IsPlain columns }
@@ -44,11 +44,11 @@ pub(crate) fn is_plain(columns: u8x16) -> bool
     refused.reduce_or() == 0
 }
 
-// What three digits weigh.
+// The weights of three digits.
 const WEIGHTS: [u8; 16] = [100, 10, 1, 0, 100, 10, 1, 0, 100, 10, 1, 0, 100, 10, 1, 0];
 
-// The number whose digits are in four groups of three, the first ones first. The groups are joined two at a
-// time, in lanes of 64 bits, whose products are the fastest ones.
+// Returns the number whose digits are in four groups of three, the most significant first. Two groups at a time
+// are joined, in lanes of 64 bits, whose products are the fastest ones.
 #[inline(always)]
 #[tactic(auto, using(crate::proofs::PlainSizes::pairs_are))]
 fn of_groups(groups: u32x4) -> u64
@@ -62,7 +62,7 @@ fn of_groups(groups: u32x4) -> u64
     joined[0] * 1_000_000 + joined[1]
 }
 
-/// The number in plain columns.
+/// Returns the number in plain columns.
 #[inline(always)]
 pub(crate) fn value(columns: u8x16) -> i64
     requires { IsPlain columns }

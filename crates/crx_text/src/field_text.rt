@@ -1,5 +1,5 @@
-//! An observation's text by lanes: the digits of its 14 columns in one row, and then the blanks
-//! before the first of them.
+//! An observation's text by lanes: the digits of its 14 columns in one row, then the blanks before the first
+//! digit.
 
 ghost use Rattle.std.specs.Prelude.{◌≡◌, ◌+◌, ◌-◌, ◌/◌, ◌%◌, ◌^◌, ◌<◌, ◌≤◌, ◌++◌, ◌∷◌, [], if◌then◌else◌, length, take, replicate};
 ghost use Rattle.crx_base.specs.declared.limits.TheConstants.{CELL_WIDTH, OBSERVATION_WIDTH, OBSERVATION_DECIMALS};
@@ -9,8 +9,8 @@ ghost use Rattle.crx_text.specs.meaning.Numbers.{size_text};
 use crx_base::limits::OBSERVATION_WIDTH;
 use std::simd::prelude::*;
 
-// The digits of the groups of three of a size, of its upper half and of its lower half, in each the lower
-// group first: each group's three digits, the last one first, and a 0.
+// Returns the digits of a size in groups of three: those of its upper half, then those of its lower half, in
+// each the lower group first. A group has its three digits, the last one first, and a 0.
 #[inline(always)]
 fn digits(size: u64) -> u8x16
     requires { size < 10 ^ 12 }
@@ -18,14 +18,13 @@ fn digits(size: u64) -> u8x16
 {
     let high = (size / 1_000_000) as u32;
     let low = (size - u64::from(high) * 1_000_000) as u32;
-    // The zeros tell the compiler that each half is small, so that their products are one instruction, and
-    // not four.
+    // The zeros tell the compiler that each half is small, so that it makes one product instead of four.
     let halves = u64x2::from_le_bytes(u32x4::from_array([high, 0, low, 0]).to_le_bytes());
-    // Each half's rest by 1000, and its thousands in the upper 32 bits.
+    // Each half modulo 1000, and its thousands in the upper 32 bits.
     let thousands = (halves * u64x2::splat(274_877_907)) >> u64x2::splat(38);
     let parts = halves + thousands * u64x2::splat((1 << 32) - 1000);
-    // A group, its tenth and its hundredth, which one product turns into digits, so that no division is made.
-    // The mask tells the compiler that all factors are small, for which it has a product that is faster.
+    // One product turns a group, its tenth and its hundredth into digits, without a division. The mask tells
+    // the compiler that all factors are small, for which it has a faster product.
     let groups = u32x4::from_le_bytes(parts.to_le_bytes()) & u32x4::splat(1023);
     let tenths = (groups * u32x4::splat(205)) >> u32x4::splat(11);
     let hundredths = (groups * u32x4::splat(41)) >> u32x4::splat(12);
@@ -33,21 +32,22 @@ fn digits(size: u64) -> u8x16
     (groups + parts * u32x4::splat(256 - 10)).to_le_bytes()
 }
 
-// Blanks, and what makes a digit of a number below 10; and then the same with a minus before the digits.
+// The bytes that a row's numbers below 10 are added to: blanks, then `0`s; and the same with a minus before the
+// digits.
 const BASES: [u8; 64] = [
     32, 32, 32, 32, 32, 32, 32, 32, 32, 32, 32, 32, 32, 32, 32, 32, 48, 48, 48, 48, 48, 48, 48, 48,
     48, 48, 48, 48, 48, 48, 48, 48, 32, 32, 32, 32, 32, 32, 32, 32, 32, 32, 32, 32, 32, 32, 32, 45,
     48, 48, 48, 48, 48, 48, 48, 48, 48, 48, 48, 48, 48, 48, 48, 48,
 ];
 
-// A digit, as `COUNTS` counts them: more than any size.
+// One digit in `COUNTS`: more than any size.
 const DIGIT: u64 = 1 << 48;
 
-// How many of 64 bits are zeros before those of twice the greatest size and one.
+// How many of 64 bits are zeros before the first one bit of twice the greatest size plus one.
 const LEAST_ZEROS: usize = 23;
 
-// How many digits sizes are printed with, from those of the most bits on: each row is for a bit less. Where
-// the longer ones of a row have a digit more, it is counted, less the least of these.
+// How many digits sizes are printed with, by their number of bits, the greatest number first. If the longer
+// sizes of a row have one digit more, the row counts it, less the least of these sizes.
 #[rattlefmt::skip]
 static COUNTS: [u64; 41] = [
     13 * DIGIT - 1_000_000_000_000,
@@ -63,8 +63,8 @@ static COUNTS: [u64; 41] = [
     4 * DIGIT, 4 * DIGIT, 4 * DIGIT, 4 * DIGIT, 4 * DIGIT, 4 * DIGIT, 4 * DIGIT,
 ];
 
-// How many digits a size is printed with: there are four at least, since one is before the point. The lowest
-// bit is set, so that nobody asks whether there is one.
+// Returns how many digits a size is printed with: at least four, because one is before the point. The lowest
+// bit is set, which saves a test for 0.
 #[inline(always)]
 fn count_digits(size: u64) -> usize
     requires short { size < 10 ^ 12 }
@@ -74,11 +74,10 @@ fn count_digits(size: u64) -> usize
     ((size + COUNTS[zeros - LEAST_ZEROS]) / DIGIT) as usize
 }
 
-/// Prints a size, and a minus where there is one, right justified into the first columns of a cell, with
-/// blanks before it, and answers the index where the size begins. The two columns of the cell's indicators
-/// are overwritten. A minus can't be foretold, so no branch asks for it. Where the number begins is counted
-/// beside its digits, and not looked for in them, so that it is known before they are: a processor waits less
-/// for each cell, which saves some 3 percent of the time of expanding.
+/// Prints a size, with a minus if `is_below`, right justified into the first 14 columns of a cell, with blanks
+/// before it, and returns the index of its first digit. Overwrites the two columns of the cell's indicators. No
+/// branch depends on the sign, which can't be predicted. The number's start is counted from its size and not
+/// searched for in its digits, so that the processor waits less for each cell.
 #[inline(always)]
 pub(crate) fn size_print(size: u64, is_below: bool, cell: &mut [u8]) -> usize
     requires short { size < 10 ^ 12 }
@@ -88,7 +87,7 @@ pub(crate) fn size_print(size: u64, is_below: bool, cell: &mut [u8]) -> usize
     ensures written { take OBSERVATION_WIDTH cell.new
         ≡ replicate (result - 1) 32 ++ (if is_below then 45 else 32) ∷ size_text OBSERVATION_DECIMALS size }
 {
-    // The digits in their columns, with what becomes the point once 48 is added.
+    // The digits in their columns, and a byte that becomes the point when 48 is added.
     let columns = digits(size).shuffle(
         u8x16::splat(254),
         [3, 6, 5, 4, 2, 1, 0, 14, 13, 12, 16, 10, 9, 8, 3, 3],

@@ -10,8 +10,7 @@ use std::simd::prelude::*;
 /// How many characters a vector holds.
 pub(crate) const LANES: usize = 16;
 
-// Lanes with those set whose characters aren't 32 to 126 or, where marks are to be made of a text, are `&`;
-// those that are set stay so.
+// Returns `others` with more lanes set: those whose characters are outside 32 to 126 or, if `IS_TEXT`, are `&`.
 #[inline(always)]
 fn with_others<const IS_TEXT: bool>(others: u8x16, characters: u8x16) -> u8x16
     ensures both { list_all (λ lane. lane == 0) result
@@ -27,9 +26,9 @@ fn with_others<const IS_TEXT: bool>(others: u8x16, characters: u8x16) -> u8x16
     others | (unprintable | ampersands)
 }
 
-// Whether all characters of a text may be there, or of marks. In nearly all they may, so that what was found
-// is tested once, at the end. From 8 characters on the two ends of a text are one vector: the indicators of
-// four types are as many, and one by one they take 6 instructions each.
+// Returns whether all characters are allowed in a text, if `IS_TEXT`, or in marks. Nearly always they are, so
+// one test at the end is enough. From 8 characters on the two ends of a text are one vector: no test per
+// character for the 8 indicators of four types.
 pub(crate) fn all_allowed<const IS_TEXT: bool>(text: &[u8]) -> bool
     ensures { result ≡ list_all (is_allowed IS_TEXT) text.now }
 {
@@ -55,7 +54,7 @@ pub(crate) fn all_allowed<const IS_TEXT: bool>(text: &[u8]) -> bool
     true
 }
 
-/// The first 8 characters of a text and the last 8.
+/// Returns the first 8 characters of a text and its last 8.
 #[inline(always)]
 #[tactic(auto, using(crate::proofs::TextEnds::eight_ends))]
 fn ends_of_eight(text: &[u8]) -> u8x16
@@ -66,21 +65,21 @@ fn ends_of_eight(text: &[u8]) -> u8x16
     u8x8::from_slice(text).shuffle(last, [0, 1, 2, 3, 4, 5, 6, 7, 8, 9, 10, 11, 12, 13, 14, 15])
 }
 
-/// A rule that makes one character of two which are at the same position of two texts.
+/// A rule that makes one character from two at the same position of two texts.
 pub(crate) trait Rule {
     ghost rule: { ℕ → ℕ → ℕ };
 
-    /// The character that is made of an old character and another one.
+    /// Returns the character made from an old character and another one.
     fn apply(old: u8, other: u8) -> u8
         ensures value { result ≡ rule old other };
 
-    /// The 16 characters that are made of 16 pairs.
+    /// Returns the 16 characters made from 16 pairs.
     fn apply_to(old: u8x16, other: u8x16) -> u8x16
         ensures value { result ≡ zip2 rule old other };
 }
 
-/// Writes what the rule makes of two texts of one length: where they are shorter than a vector, from 8
-/// characters on of their two ends in one, of fewer one by one.
+/// Writes the characters that the rule makes from two texts of one length. Texts shorter than a vector are
+/// taken by their two ends at once, if they have 8 characters or more, and otherwise one by one.
 pub(crate) fn write_by_rule<R: Rule>(old: &[u8], other: &[u8], out: &mut [u8])
     requires { (length other.now ≡ length old.now) × (length out.old ≡ length old.now) }
     ensures { out.new ≡ zip2 R.rule old.now other.now }
@@ -107,7 +106,7 @@ pub(crate) fn write_by_rule<R: Rule>(old: &[u8], other: &[u8], out: &mut [u8])
     }
 }
 
-// Writes what the rule makes of 16 characters from an index on.
+// Writes the 16 characters that the rule makes from index `at` on.
 #[inline(always)]
 fn write_lanes<R: Rule>(old: &[u8], other: &[u8], out: &mut [u8], at: usize)
     requires room { at + 16 ≤ length old.now }

@@ -23,14 +23,14 @@ use itoa::write_digits;
 use std::simd::prelude::*;
 use thiserror::Error;
 
-/// A text that spells no number, or that has another number of columns.
+/// The error of a text that spells no number, or that has another number of columns.
 #[derive(Clone, Copy, Debug, PartialEq, Eq, Error)]
 #[error("bad field")]
 pub struct BadField;
 
-/// Reads an observation of 14 columns, in thousandths; a blank field is `None`, a missing
-/// observation. Blanks may be before the number, zeros at its beginning and a minus before 0,
-/// and there may be no digit before the point. `BadField` comes for every other text.
+/// Reads an observation of 14 columns, in thousandths; a blank field is `None`, a missing observation. Blanks
+/// may be before the number, zeros at its beginning and a minus before 0, and the point may be its first
+/// character. Returns `BadField` for any other text.
 pub fn obs_read(field: &[u8]) -> Result<Option<i64>, BadField>
     ensures value { result_ok result ≡ observation_of field.now }
     ensures in_range { IfOk result (λ value. IfSome value IsObservation) }
@@ -38,12 +38,12 @@ pub fn obs_read(field: &[u8]) -> Result<Option<i64>, BadField>
     number_read(field, OBSERVATION_WIDTH, OBSERVATION_DECIMALS)
 }
 
-/// Reads the observation of a cell, whose field has two indicators after it, into a place, as [`obs_read`]
-/// reads the field. `None` comes where that is `BadField`, and then the place stays as it was. `Some(true)`
-/// says that [`all_kept`](crate::all_kept) is true of the indicators, `Some(false)` nothing of them.
+/// Reads the observation of a cell, whose last two columns are indicators, into `value`, as [`obs_read`] reads
+/// its field. Returns `None`, with `value` unchanged, if that is `BadField`. `Some(true)` says that
+/// [`all_kept`](crate::all_kept) is true of the indicators, `Some(false)` says nothing of them.
 ///
-/// The spellings that files have are read by lanes; few cells are blank, so that is tested after them. A
-/// result that held the value too would be set to zero before each call, and copied after it.
+/// The spellings that files have are read by lanes; few cells are blank, so that is tested after them. The
+/// result doesn't hold the value, which would be copied after each call.
 #[inline(always)]
 pub fn obs_read_cell(cell: u8x16, value: &mut Option<i64>) -> Option<bool>
     ensures value { MatchOption result (observation_of (take OBSERVATION_WIDTH cell) ≡ None)
@@ -66,8 +66,8 @@ pub fn obs_read_cell(cell: u8x16, value: &mut Option<i64>) -> Option<bool>
     None
 }
 
-// Reads the observation of a cell that isn't spelt as files mostly have it. No part of its caller, whose
-// registers it would take.
+// Reads the observation of a cell in an unusual spelling into `value`, and returns whether it is one. Not
+// inlined, because it would take its caller's registers.
 #[inline(never)]
 fn read_by_column(cell: u8x16, value: &mut Option<i64>) -> bool
     ensures value { MatchBool result (observation_of (take OBSERVATION_WIDTH cell) ≡ Some value.new)
@@ -83,8 +83,7 @@ fn read_by_column(cell: u8x16, value: &mut Option<i64>) -> bool
     true
 }
 
-/// Prints an observation, in thousandths, right justified into 14 columns; `None` is printed as
-/// blanks.
+/// Prints an observation, in thousandths, right justified into 14 columns, or blanks for `None`.
 #[inline(always)]
 pub fn obs_print(value: Option<i64>, field: &mut [u8; OBSERVATION_WIDTH])
     requires { ForSome value IsObservation }
@@ -95,9 +94,8 @@ pub fn obs_print(value: Option<i64>, field: &mut [u8; OBSERVATION_WIDTH])
     field.copy_from_slice(&cell[..OBSERVATION_WIDTH]);
 }
 
-/// Prints an observation's cell in place of the bytes from an index on: the columns that [`obs_print`]
-/// prints, and the two of some indicators that are at an index and after it, which become one load and one
-/// store.
+/// Prints an observation's cell over the bytes from `at` on: the columns that [`obs_print`] prints, and two of
+/// the `indicators` from index `first` on, by one load and one store.
 #[inline(always)]
 pub fn obs_print_cell(
     value: Option<i64>,
@@ -133,8 +131,8 @@ fn obs_print_row(value: Option<i64>, cell: &mut [u8])
         return;
     };
     let size = number.unsigned_abs();
-    // A digit in the first column is printed digit by digit. The millions, which the lanes' digits are made
-    // of, are as good a test as the size itself, and fit 32 bits.
+    // A digit in the first column is printed digit by digit. The test is on the millions, from which the lanes'
+    // digits are made, because they fit 32 bits.
     if ((size / 1_000_000) as u32) >= 1_000_000 {
         number_print(value, OBSERVATION_DECIMALS, &mut cell[0..OBSERVATION_WIDTH]);
         return;
@@ -142,9 +140,9 @@ fn obs_print_row(value: Option<i64>, cell: &mut [u8])
     field_text::size_print(size, number < 0, cell);
 }
 
-/// Reads a receiver clock offset of 15 columns, in units of 10^-12 seconds; a blank field is
-/// `None`, no offset. The spellings are those of [`obs_read`] with 12 digits after the point.
-/// `BadField` comes for every other text.
+/// Reads a receiver clock offset of 15 columns, in units of 10^-12 seconds; a blank field is `None`, no offset.
+/// The spellings are those of [`obs_read`] with 12 digits after the point. Returns `BadField` for any other
+/// text.
 pub fn clock_read(field: &[u8]) -> Result<Option<i64>, BadField>
     ensures value { result_ok result ≡ clock_of field.now }
     ensures in_range { IfOk result (λ value. IfSome value IsClock) }
@@ -152,8 +150,8 @@ pub fn clock_read(field: &[u8]) -> Result<Option<i64>, BadField>
     number_read(field, CLOCK_WIDTH, CLOCK_DECIMALS)
 }
 
-/// Prints a receiver clock offset, in units of 10^-12 seconds, right justified into 15 columns;
-/// `None` is printed as blanks.
+/// Prints a receiver clock offset, in units of 10^-12 seconds, right justified into 15 columns, or blanks for
+/// `None`.
 pub fn clock_print(value: Option<i64>, field: &mut [u8; CLOCK_WIDTH])
     requires { ForSome value IsClock }
     ensures written { field.new ≡ clock_text value }
@@ -161,7 +159,7 @@ pub fn clock_print(value: Option<i64>, field: &mut [u8; CLOCK_WIDTH])
     number_print(value, CLOCK_DECIMALS, field);
 }
 
-// Reads a number of so many columns, column by column.
+// Reads a number of `width` columns, column by column. `decimals`: the digits after its point.
 #[inline(never)]
 #[tactic(auto, using(crate::proofs::Sizes::number_parts, crate::proofs::Sizes::size_parts))]
 fn number_read(field: &[u8], width: usize, decimals: usize) -> Result<Option<i64>, BadField>
@@ -210,7 +208,7 @@ fn number_print(value: Option<i64>, decimals: usize, field: &mut [u8])
     }
 }
 
-// Prints a number without its sign up to the last column, and answers the index where it begins.
+// Prints a number without its sign up to the last column, and returns the index of its first digit.
 #[tactic(auto, using(crate::proofs::PowersOfTen::ten_pow_pos))]
 fn size_print(size: u64, decimals: usize, field: &mut [u8]) -> usize
     requires decimals { (0 < decimals) × (decimals < WIDEST) }

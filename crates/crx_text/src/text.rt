@@ -1,4 +1,4 @@
-//! A text of a line's length at most, held in place.
+//! A text of at most a line's length, held in place.
 
 ghost use Rattle.std.specs.Prelude.{◌≡◌, ◌+◌, ◌<◌, ◌≤◌, ◌↔◌, List, [], ◌∷◌, ◌++◌, ℕ, length, take, OnOk, OnErr, IsErr};
 ghost use Rattle.crx_text.specs.meaning.Columns.{without_end_blanks};
@@ -10,7 +10,7 @@ use std::marker::Model;
 use std::simd::prelude::*;
 use thiserror::Error;
 
-/// What was to be appended doesn't fit: the text would be longer than a line may be.
+/// The error of appending bytes that don't fit: the text would be longer than a line may be.
 #[derive(Clone, Copy, Debug, PartialEq, Eq, Error)]
 #[error("the text is full")]
 pub struct TextFull;
@@ -31,7 +31,7 @@ impl Model for Text {
 }
 
 impl Text {
-    /// The empty text.
+    /// Returns the empty text.
     pub fn new() -> Self
         ensures empty { result ≡ [] }
     {
@@ -48,7 +48,7 @@ impl Text {
         self.len = 0;
     }
 
-    /// The bytes of the text.
+    /// Returns the bytes of the text.
     pub fn bytes(&self) -> &[u8]
         ensures value { result.now ≡ self.now }
         ensures within { length self.now ≤ LINE_LIMIT }
@@ -56,8 +56,7 @@ impl Text {
         &self.bytes[..self.len]
     }
 
-    /// Appends a byte. `TextFull` comes where the text has [`LINE_LIMIT`] bytes already, and then
-    /// it stays as it was.
+    /// Appends a byte. Returns `TextFull`, with the text unchanged, if it has [`LINE_LIMIT`] bytes already.
     pub fn push(&mut self, byte: u8) -> Result<(), TextFull>
         ensures ok { OnOk result (self.new ≡ self.old ++ byte ∷ []) }
         ensures full { IsErr result ↔ (length self.old ≡ LINE_LIMIT) }
@@ -71,8 +70,8 @@ impl Text {
         Ok(())
     }
 
-    /// Appends bytes, all of them or none. `TextFull` comes where the text would pass
-    /// [`LINE_LIMIT`] bytes, and then it stays as it was.
+    /// Appends all of `bytes`. Returns `TextFull`, with the text unchanged, if it would pass [`LINE_LIMIT`]
+    /// bytes.
     pub fn extend(&mut self, bytes: &[u8]) -> Result<(), TextFull>
         ensures ok { OnOk result (self.new ≡ self.old ++ bytes.now) }
         ensures full { IsErr result ↔ (LINE_LIMIT < length self.old + length bytes.now) }
@@ -95,8 +94,8 @@ impl Text {
     }
 }
 
-/// A text without the blanks at its end. Part of its callers, as a call takes 8 instructions for each line.
-/// Texts that end in three blanks, and those of at most two characters, are left to a call: few lines are so.
+/// Returns a text without the blanks at its end. Inlined, so that most lines need no call: few texts end in
+/// three blanks or have at most two characters.
 #[inline(always)]
 #[tactic(auto, using(crate::proofs::EndBlanks::ended_at, crate::proofs::EndBlanks::blank_passed, crate::proofs::EndBlanks::nothing_after))]
 pub fn trim_end(text: &[u8]) -> &[u8]
@@ -108,8 +107,8 @@ pub fn trim_end(text: &[u8]) -> &[u8]
         if text[end - 1] != b' ' {
             return &text[..end];
         }
-        // One blank is after the last code of most compact lines, two where the last cell of a row has no
-        // indicators.
+        // Most compact lines end in one blank, after their last code, or in two if the last cell of a row has
+        // no indicators.
         if text[end - 2] != b' ' {
             return &text[..end - 1];
         }
@@ -120,7 +119,7 @@ pub fn trim_end(text: &[u8]) -> &[u8]
     trim_many(text)
 }
 
-// A text without the blanks at its end, of which there may be many.
+// Returns a text without the blanks at its end, of which there may be many.
 #[inline(never)]
 #[tactic(auto, using(crate::proofs::EndBlanks::ended_at, crate::proofs::EndBlanks::blank_passed, crate::proofs::EndBlanks::nothing_after))]
 fn trim_many(text: &[u8]) -> &[u8]
@@ -139,7 +138,7 @@ fn trim_many(text: &[u8]) -> &[u8]
         }
         end = start;
     }
-    // The indicators of four types are 8 characters, and one by one they take 6 instructions each.
+    // The indicators of four types are 8 characters: no test per character.
     if end >= EIGHT {
         let start = end - EIGHT;
         let others = u8x8::from_slice(&text[start..])
@@ -157,5 +156,5 @@ fn trim_many(text: &[u8]) -> &[u8]
     &text[..end]
 }
 
-// Half as many characters as there are lanes.
+// The number of characters in half a row of lanes.
 const EIGHT: usize = 8;

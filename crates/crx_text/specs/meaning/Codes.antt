@@ -1,4 +1,5 @@
--- Codes of numbers: Hatanaka's Compact RINEX 3.0, the codes of satellite lines and of the clock line.
+-- Coded values of numbers, called codes here: Hatanaka's Compact RINEX 3.0, the codes of satellite lines and of
+-- the clock line.
 use Rattle.std.specs.Prelude.{ℕ, ℤ, Bool, ◌&&◌, ◌-◌, ◌==◌, nat_lt, nat_le, if◌then◌else◌, List, [], ◌∷◌, ◌++◌, length}
 use Rattle.std.specs.Prelude.{Option, Some, None, decimal}
 use Rattle.std.specs.Fmt.{signed_decimal}
@@ -14,7 +15,7 @@ use Rattle.crx_base.specs.declared.limits.TheConstants.{ORDER_LIMIT, DIGITS_LIMI
 
 -- ---- printing
 
--- a code's one printed text: no leading zeros, and no minus before 0; & is after an order
+-- a code's one printed text: no leading zeros, and no minus before 0; & follows an order
 abbrev pub code_text : Code → List ℕ
 code_text Missing = []
 code_text (Start order value) = decimal order ++ 38 ∷ signed_decimal value
@@ -22,7 +23,7 @@ code_text (Step difference) = signed_decimal difference
 
 -- ---- reading
 
--- a count of digits that a number may have
+-- whether a number may have `count` digits
 abbrev pub is_count_of_digits : ℕ → Bool
 is_count_of_digits count = nat_lt 0 count && nat_le count DIGITS_LIMIT
 
@@ -46,21 +47,21 @@ start_of c text = if is_order c then option_map (Start (c - 48)) (coded_number t
 abbrev pub step_of : List ℕ → Option Code
 step_of text = option_map Step (coded_number text)
 
--- what a text stands for: nothing for a missing value, an order, & and a number for an arc's
--- first value, a number for its next difference; `None` where it is none of these
+-- the code that a text spells: a missing value if it is empty; an order, & and a number for an arc's first
+-- value; a number for the next difference; `None` for any other text
 abbrev pub code_of : List ℕ → Option Code
 code_of [] = Some Missing
 code_of (c ∷ []) = step_of (c ∷ [])
 code_of (c ∷ d ∷ cs) = if d == 38 then start_of c cs else step_of (c ∷ d ∷ cs)
 
--- ---- codes one after another in a line, a blank after each
+-- ---- codes one after another in a line, each with a blank after it
 
 -- the text before a line's first blank
 abbrev pub first_cell : List ℕ → List ℕ
 first_cell [] = []
 first_cell (c ∷ cs) = if is_blank c then [] else c ∷ first_cell cs
 
--- what is after a line's first blank
+-- the text after a line's first blank
 abbrev pub after_cell : List ℕ → List ℕ
 after_cell [] = []
 after_cell (c ∷ cs) = if is_blank c then cs else after_cell cs

@@ -3,19 +3,19 @@
 use Rattle.std.specs.Prelude.{ℕ, Bool, List, [], ◌∷◌, ◌++◌, ◌-◌, ◌==◌, if◌then◌else◌, take, drop, replicate}
 use Rattle.std.specs.Prelude.{slice_index_or}
 
--- a blank is the byte 32 alone
+-- a blank is only the byte 32
 abbrev pub is_blank : ℕ → Bool
 is_blank c = c == 32
 
--- the character in a column
+-- the character in a column; after the line's end it is a blank
 abbrev pub character_at : List ℕ → ℕ → ℕ
 character_at line column = slice_index_or line (column - 1) 32
 
--- so many columns of a line, from a first one on
+-- `width` columns of a line, from column `first` on
 abbrev pub columns : List ℕ → ℕ → ℕ → List ℕ
 columns line first width = take width (drop (first - 1) line ++ replicate width 32)
 
--- put a character before a text whose blanks at the end are dropped
+-- a character before a text whose blanks at the end are dropped
 abbrev pub before_end_blanks : ℕ → List ℕ → List ℕ
 before_end_blanks c [] = if is_blank c then [] else c ∷ []
 before_end_blanks c (d ∷ ds) = c ∷ d ∷ ds

@@ -1,6 +1,5 @@
--- Numbers in columns: RINEX 3.05, table A3, an observation in format F14.3 (it counts
--- thousandths) and the receiver clock offset in format F15.12 (it counts units of 10^-12 s).
--- A number here is what is in the columns without its point.
+-- Numbers in columns: RINEX 3.05, table A3, an observation in format F14.3 (in thousandths) and the receiver
+-- clock offset in format F15.12 (in units of 10^-12 s). A number is read and printed without its point.
 use Rattle.std.specs.Prelude.{ℕ, ℤ, pos, negsuc, neg_ℤ, Bool, ◌&&◌, ◌<ℤ◌, ◌+◌, ◌-◌, ◌/◌, ◌%◌, ◌^◌, ◌==◌, nat_lt}
 use Rattle.std.specs.Prelude.{if◌then◌else◌, List, [], ◌∷◌, ◌++◌, length, take, drop, replicate, slice_index, Option}
 use Rattle.std.specs.Prelude.{Some, None, IfSome, decimal}
@@ -18,11 +17,11 @@ abbrev pub without_minus : List ℕ → List ℕ
 without_minus [] = []
 without_minus (c ∷ cs) = if c == 45 then cs else c ∷ cs
 
--- a number of this size, below zero where it has a minus; so -0 is 0
+-- a number of this size, below zero if it has a minus; so -0 is 0
 abbrev pub signed_number : Bool → ℕ → ℤ
 signed_number is_below size = if is_below then neg_ℤ (pos size) else pos size
 
--- no or more digits, a point, and exactly so many digits: the number that all of them write
+-- any number of digits, a point, and exactly `decimals` digits: the number that all these digits make
 unfoldable pub size_of : ℕ → List ℕ → Option ℕ
 size_of decimals text =
     let point = length text - (decimals + 1) in
@@ -38,13 +37,13 @@ abbrev pub decimal_number : ℕ → List ℕ → Option ℤ
 decimal_number decimals text =
     option_map (signed_number (starts_with_minus text)) (size_of decimals (without_minus text))
 
--- what a text after its blanks spells: nothing is a missing number
+-- the number that a text spells after its blanks: the empty text is a missing number
 abbrev pub missing_or_number : ℕ → List ℕ → Option (Option ℤ)
 missing_or_number decimals [] = Some None
 missing_or_number decimals (c ∷ cs) = option_map Some (decimal_number decimals (c ∷ cs))
 
--- what a text of so many columns spells: `None` where it spells nothing, `Some None` where it is
--- blank and the number is missing, else the number, after blanks and up to the last column
+-- the number that a text of `width` columns spells, after blanks and up to the last column: `None` if it spells
+-- none, and `Some None` if it is blank, so that the number is missing
 unfoldable pub number_of : ℕ → ℕ → List ℕ → Option (Option ℤ)
 number_of width decimals text =
     if length text == width then missing_or_number decimals (without_first_blanks text) else None
@@ -59,12 +58,12 @@ clock_of text = number_of CLOCK_WIDTH CLOCK_DECIMALS text
 
 -- ---- range
 
--- a number that fits so many columns: the point takes one of them, and a minus another
+-- a number that fits `width` columns: the point takes one of them, and a minus another
 pub record IsWithin (width : ℕ) (number : ℤ) : Type 0 where
   pub low : neg_ℤ (pos (10 ^ (width - 2))) <ℤ number
   pub high : number <ℤ pos (10 ^ (width - 1))
 
--- a number that is missing or fits so many columns
+-- a number that is missing or fits `width` columns
 abbrev pub IsMissingOrWithin : ℕ → Option ℤ → Type 0
 IsMissingOrWithin width number = IfSome number (IsWithin width)
 
@@ -74,24 +73,24 @@ IsValue value = IsMissingOrWithin OBSERVATION_WIDTH value
 
 -- ---- printing
 
--- a number's digits, with zeros before them up to so many digits
+-- a number's digits, with zeros before them up to `digits` digits
 abbrev pub zero_padded : ℕ → ℕ → List ℕ
 zero_padded digits number = replicate (digits - length (decimal number)) 48 ++ decimal number
 
--- at least one digit, no other leading zero, then the point and so many digits
+-- at least one digit, no other leading zero, then the point and `decimals` digits
 abbrev pub size_text : ℕ → ℕ → List ℕ
 size_text decimals size = decimal (size / 10 ^ decimals) ++ 46 ∷ zero_padded decimals (size % 10 ^ decimals)
 
--- a minus directly before the digits where the number is below zero
+-- a minus directly before the digits if the number is below zero
 abbrev pub spelling : ℕ → ℤ → List ℕ
 spelling decimals (pos size) = size_text decimals size
 spelling decimals (negsuc less) = 45 ∷ size_text decimals (less + 1)
 
--- a text with blanks before it, up to so many columns
+-- a text with blanks before it, up to `width` columns
 abbrev pub right_justified : ℕ → List ℕ → List ℕ
 right_justified width text = replicate (width - length text) 32 ++ text
 
--- the one text that is printed in so many columns; a missing number is printed as blanks
+-- the one text that is printed in `width` columns; a missing number is printed as blanks
 unfoldable pub number_text : ℕ → ℕ → Option ℤ → List ℕ
 number_text width decimals None = replicate width 32
 number_text width decimals (Some number) = right_justified width (spelling decimals number)

@@ -31,7 +31,7 @@ step_is text digits is_below size count sign rest first some few whole =
 pub signed-requires : goal.signed-requires
 signed-requires c = search (rules, arith, small_number)
 
--- the digits of a cell are all but its minus
+-- all characters of a cell except its minus are digits
 counted : (characters below count : ℕ) → characters < 2 ^ 64 → below ≤ 1 → count ≤ 6
     → count ≡ (characters + (2 ^ 64 - below)) % 2 ^ 64 → count + below ≡ characters
 counted characters below count fits one few is = omega (arith, fits, one, few, is)

@@ -4,7 +4,7 @@ use Rattle.crx_text.specs.meaning.Codes.{after_cell, first_cell}
 use Rattle.crx_base.specs.declared.limits.TheConstants.{DIGITS_LIMIT}
 use Rattle.crx_text.proofs.code_digits.first_digits.Given as goal
 
--- the rest of the cell decides, and goes on from the number so far
+-- the rest of the cell decides, and continues the number so far
 abbrev pub invariant-loop-count : goal.invariant-loop-count
 invariant-loop-count l = record {
   few : l.count ≤ DIGITS_LIMIT + 1;

@@ -2,7 +2,7 @@ use Rattle.std.{proofs.Common.{◌≡◌, ◌+◌, ◌-◌, ◌*◌, ◌≤◌, 
 use Rattle.std.specs.Str.Parse.{digits_value_after}
 use Rattle.crx_text.proofs.digits.digits_read.Given as goal
 
--- the digits that are left decide, and go on from the number so far
+-- the remaining digits decide, and continue the number so far
 abbrev pub invariant-loop-digit : goal.invariant-loop-digit
 invariant-loop-digit l =
     (all_ascii_digits (drop l.digit-index l.digits) ≡ all_ascii_digits l.digits)

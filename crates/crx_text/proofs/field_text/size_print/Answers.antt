@@ -11,7 +11,7 @@ use Rattle.crx_text.specs.declared.field_text.TheConstants.{BASES}
 use Rattle.crx_text.proofs.field_text.size_print.Goals.{Joined-is_below, then-is_below, else-is_below}
 use Rattle.crx_text.proofs.field_text.size_print.Goals as goal
 
--- the columns of digits, where the number begins in them, and what is added to them
+-- the columns of digits, the place of the number in them, and the bases added to them
 abbrev in_columns : List ℕ → List ℕ
 in_columns digits = pick_l 0 (digits ++ replicate 16 254)
     (3 ∷ 6 ∷ 5 ∷ 4 ∷ 2 ∷ 1 ∷ 0 ∷ 14 ∷ 13 ∷ 12 ∷ 16 ∷ 10 ∷ 9 ∷ 8 ∷ 3 ∷ 3 ∷ [])
@@ -21,7 +21,7 @@ module _ (size : ℕ) (digits : List ℕ) (is : digits ≡ group_digits (size / 
   columns_are : in_columns digits ≡ row_of (nine_in size) (three_in size)
   columns_are = ap in_columns is
 
--- the column after the zeros before the number, and the one of the sign
+-- the column after the zeros before the number, and the sign's column
 module _ (size count : ℕ) (short : size < 10 ^ 12) (counted : count + 1 ≡ length (size_text 3 size)) where
   start_is : 14 - 1 - count ≡ 1 + leading_zeros (nine_in size)
   start_is =
@@ -36,7 +36,7 @@ module _ (size count : ℕ) (short : size < 10 ^ 12) (counted : count + 1 ≡ le
   start_few : 14 - 1 - count ≤ 9
   start_few = omega (arith, start_is, zeros_few (nine_in size))
 
--- what is added to the columns begins with blanks and the sign's column
+-- the bases of the columns begin with blanks and the sign's column
 first_is : (c : Joined-is_below) → c.if-is_below.first ≡ (if c.args.is_below then 48 else 16)
 first_is c = elim c.if-is_below.branch [
   | then-is_below w ↦ w.first-is ∙ sym (ap (λ (b : Bool). if b then 48 else 16) w.if-is_below.true)

@@ -2,7 +2,7 @@ use Rattle.std.{proofs.Common.{◌≡◌, ◌≤◌, ◌-◌, eqb, not, length, 
 use Rattle.crx_text.specs.Texts.{is_allowed}
 use Rattle.crx_text.proofs.lanes.all_allowed.Given as goal
 
--- no lane is set where all characters that were passed are allowed
+-- no lane is set if all characters passed so far are allowed
 abbrev pub invariant-loop-at : goal.invariant-loop-at
 invariant-loop-at g l =
     (l.at ≤ length l.text)
@@ -12,7 +12,7 @@ invariant-loop-at g l =
 abbrev pub decreases-loop-at : goal.decreases-loop-at
 decreases-loop-at g l = length l.text - l.at
 
--- the characters that are left decide
+-- the remaining characters decide
 abbrev pub invariant-loop-character : goal.invariant-loop-character
 invariant-loop-character g l =
     list_all (is_allowed (not (eqb g.row.IS_TEXT 0))) (drop l.character-index l.text)

@@ -1,7 +1,7 @@
 use Rattle.std.{proofs.Common.{◌≡◌, ◌≤◌, ◌-◌, length, take}, specs.Simd.Lanes.zip2}
 use Rattle.crx_text.proofs.lanes.write_by_rule.Given as goal
 
--- what is written so far
+-- the characters written so far
 abbrev pub invariant-loop-at : goal.invariant-loop-at
 invariant-loop-at g l =
     (l.at ≤ length l.old) × (length l.out ≡ length l.old) ×

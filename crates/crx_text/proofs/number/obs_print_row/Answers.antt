@@ -26,7 +26,7 @@ returns-then-size-ge1000000 c =
     let long : 14 ≤ length field = omega (arith, same, cut) in
     grind (arith, common_steps, field, cut, same, long, take-append-le 14 field, take_all 14 field)
 
--- one more blank is before the others as behind them
+-- a blank after some blanks is one more blank
 blank_more : (n : ℕ) (text : List ℕ) → replicate n 32 ++ 32 ∷ text ≡ replicate (suc n) 32 ++ text
 blank_more zero text = refl
 blank_more (suc n) text = ap (λ t. 32 ∷ t) (blank_more n text)
