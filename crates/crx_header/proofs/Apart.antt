@@ -1,11 +1,11 @@
--- Things of different identifiers, and one put in the place of another of the same identifier.
+-- Things with different identifiers, and one that replaces another one with the same identifier.
 use Rattle.std.proofs.lemmas.{Grind.common_steps, Slice.Eq.bytes_eq-Decides}
 use Rattle.std.{specs.{Prelude.Bool, Str.bytes_eq}, proofs.lemmas.Bool.{or_parts, and_parts, not-true}}
 use Rattle.std.proofs.{lemmas.Bool.false_from_ne_true, Common.{◌≡◌, ℕ, suc, ◌<◌, true, false, not}}
 use Rattle.std.proofs.Common.{◌||◌, List, [], ◌∷◌, ◌++◌, length, get_or, map, take, refl, ap, sym, ◌∙◌, arith}
 use Rattle.crx_header.specs.meaning.Satellites.{is_among, are_apart}
 
--- the test of two texts doesn't ask which is the first
+-- the comparison of two texts has no order
 pub other_way : (xs ys : List ℕ) → bytes_eq xs ys ≡ false → bytes_eq ys xs ≡ false
 other_way xs ys h = grind (arith, common_steps, false_from_ne_true, bytes_eq, bytes_eq-Decides)
 
@@ -35,7 +35,7 @@ pub among-map : {X Y : Type 0} (f : Y → List ℕ) (g : X → Y) (name : List �
 among-map f g name [] = refl
 among-map f g name (x ∷ xs) = ap (λ (b : Bool). bytes_eq (f (g x)) name || b) (among-map f g name xs)
 
--- what keeps its identifier stays different
+-- things that keep their identifiers stay different
 pub apart-map : {X Y : Type 0} (f : Y → List ℕ) (g : X → Y) (xs : List X)
     → are_apart f (map g xs) ≡ are_apart (λ x. f (g x)) xs
 apart-map f g [] = refl

@@ -1,4 +1,4 @@
--- Counts of types, letter by letter: what a map from letters holds is what the lines declare.
+-- Counts of types, letter by letter: a map from letters holds the counts that the lines declare.
 use Rattle.std.proofs.Common.{rules}
 use Rattle.std.proofs.lemmas.Grind.{common_steps}
 use Rattle.std.proofs.Common.{◌≡◌, ℕ, ◌<◌, ◌≤◌, suc, length, true, false, cond, eqb, List, [], ◌∷◌, ◌++◌}
@@ -32,7 +32,7 @@ last_count-push letter count [] c = refl
 last_count-push letter count (d ∷ ds) c =
     grind (arith, common_steps, last_count-push letter d.1 ds c, last_count-push letter count ds c)
 
--- what is left of the others is the same after a letter's own count
+-- the other counts stay the same when a letter's own count changes
 without-with_same : (letter count : ℕ) (es : List Count)
     → without letter (with_count es letter count) ≡ without letter es
 without-with_same letter count [] = grind arith
@@ -50,7 +50,7 @@ last_counts-push [] c = refl
 last_counts-push (d ∷ ds) c =
     grind (arith, common_steps, last_count-push, without-with_same, without-with_other, last_counts-push ds c)
 
--- what the lines declare, one line on
+-- the types that the lines declare, after one more line
 pub types_of-push : (lines : List (List ℕ)) (line : List ℕ)
     → types_of (lines ++ line ∷ []) ≡ with_line (types_of lines) line
 types_of-push lines line =
@@ -92,7 +92,7 @@ pub AreCounts-with_count : (es : List Count) (letter count : ℕ)
     → AreCounts es → is_system letter ≡ true → IsAllowedCount count → AreCounts (with_count es letter count)
 AreCounts-with_count es letter count h s a = search (rules, allowed-with_count, apart-with_count)
 
--- a letter that has a count is that of a system, and the count is allowed
+-- a letter that has a count is a system's, and the count is allowed
 sound_at : (es : List Count) (letter : ℕ) → All IsCount es
     → IfSome (count_of es letter) (λ n. (is_system letter ≡ true) × IsAllowedCount n)
 sound_at [] letter h = grind arith
@@ -110,7 +110,7 @@ allowed_if : (l n letter count : ℕ)
     → count_if_allowed l n ≡ Some (letter, count) → (is_system letter ≡ true) × IsAllowedCount count
 allowed_if l n letter count g = grind arith
 
--- what a types line says is allowed
+-- the count that a types line declares is allowed
 pub count_in_allowed : (line : List ℕ) (letter count : ℕ)
     → count_in line ≡ Some (letter, count) → (is_system letter ≡ true) × IsAllowedCount count
 count_in_allowed line letter count h =
@@ -130,7 +130,7 @@ pub AreByLetter-with_count : (table : List ℕ) (es : List Count) (letter count 
     → letter < length table → AreByLetter (set table letter count) (with_count es letter count)
 AreByLetter-with_count table es letter count h within = grind (arith, common_steps, count_with)
 
--- a letter without a count at its place has none, and one with a count has that
+-- a letter has the count at its place, and none if it is 0
 pub absent_by_letter : (table : List ℕ) (es : List Count) (letter : ℕ) → AreCounts es → AreByLetter table es
     → letter < LETTERS → get_or table letter 0 ≡ 0 → count_of es letter ≡ None
 absent_by_letter table es letter sound h few none =
@@ -175,7 +175,7 @@ one_more : (es : List Count) (letter count : ℕ)
 one_more [] letter count h = refl
 one_more (e ∷ es) letter count h = grind (arith, common_steps, one_more es letter count)
 
--- as long as a system has no count, fewer have one than there are
+-- as long as a system has no count, fewer have one than exist
 pub systems_fewer : (counts : List Count) (letter : ℕ) → AreCounts counts → is_system letter ≡ true
     → count_of counts letter ≡ None → length counts < length system_letters
 systems_fewer counts letter h system none =
@@ -189,5 +189,5 @@ pub set_is_with : (es : List Count) (letter count : ℕ) → is_none (count_of e
 set_is_with [] letter count h = absurd (false≢true (sym h))
 set_is_with (e ∷ es) letter count h = grind (arith, common_steps, set_is_with es letter count)
 
--- what `put` wants of a map of counts
+-- the needs of `put` for a map of counts
 pub ruleset put_counts = (lookup_is_count, set_is_with, systems_fewer)

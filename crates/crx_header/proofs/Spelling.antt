@@ -9,7 +9,7 @@ use Rattle.crx_header.specs.declared.identifiers.TheConstants.{LETTERS, TENS, UN
 use Rattle.crx_header.specs.meaning.{Satellites.is_identifier}
 use Rattle.crx_text.specs.meaning.Columns.{character_at}
 
--- what an identifier consists of
+-- the parts of an identifier
 pub record IsSpelt (name : List ℕ) : Type 0 where
   pub letter : (67 ≤ character_at name 1) × (character_at name 1 ≤ 83)
   pub tens : (character_at name 2 ≡ 32) ⊎ ((48 ≤ character_at name 2) × (character_at name 2 ≤ 57))
@@ -27,7 +27,7 @@ index-apart one other e f same = grind (arith, common_steps, is-spelt)
 pub index-within : (name : List ℕ) → is_identifier name ≡ true → index_of name < LETTERS * TENS * UNITS
 index-within name e = grind (arith, common_steps)
 
--- ---- what a table has
+-- ---- the identifiers in a table
 
 pub none-there : (count k : ℕ) → get_or (replicate {A = Bool} count false) k false ≡ false
 none-there (suc count) (suc k) = none-there count k

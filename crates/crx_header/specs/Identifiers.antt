@@ -1,4 +1,4 @@
--- A set of identifiers as a table: whether each is there, at an index of its own.
+-- A set of identifiers as a table: whether each is in the set, at an index of its own.
 use Rattle.std.specs.Prelude.{ℕ, Bool, false, ◌+◌, ◌-◌, ◌*◌, List, get_or, if◌then◌else◌}
 use Rattle.crx_text.specs.meaning.Columns.{character_at, is_blank}
 use Rattle.crx_header.specs.declared.identifiers.TheConstants.{FIRST_LETTER, TENS, UNITS}
@@ -7,7 +7,7 @@ use Rattle.crx_header.specs.declared.identifiers.TheConstants.{FIRST_LETTER, TEN
 abbrev pub tens_of : ℕ → ℕ
 tens_of digit = if is_blank digit then TENS - 1 else digit - 48
 
--- an identifier's index, by its letter and its digits
+-- an identifier's index, from its letter and its digits
 abbrev pub index_of : List ℕ → ℕ
 index_of name = ((character_at name 1 - FIRST_LETTER) * TENS + tens_of (character_at name 2)) * UNITS
     + (character_at name 3 - 48)

@@ -10,8 +10,8 @@ use crx_base::limits::NAME_WIDTH;
 use crx_text::columns::{character, end_trimmed, trimmed};
 pub use crx_text::columns::{after_columns, all_blank, padded};
 
-/// The number in three columns from a first one on: digits, with blanks before or after them. Where the first
-/// column is known fewer instructions are left of it, so it has no call of its own.
+/// Returns the number in three columns from `first` on: digits, with blanks before or after them. Inlined,
+/// because it is shorter if `first` is known.
 #[inline(always)]
 pub fn number(line: &[u8], first: usize) -> Option<usize>
     requires from_one { 1 ≤ first }
@@ -32,21 +32,21 @@ pub fn number(line: &[u8], first: usize) -> Option<usize>
     Some(number)
 }
 
-/// Whether a header line has this label in its columns 61 to 80.
+/// Returns whether a header line has this label in columns 61 to 80.
 pub fn is_labelled(line: &[u8], label: &[u8]) -> bool
     ensures value { result ≡ has_label label.now line.now }
 {
     end_trimmed(line, 61, 20) == label
 }
 
-/// The identifier in three columns from a first one on, blanks after the line's end included.
+/// Returns the identifier in three columns from `first` on, with blanks after the line's end.
 #[inline(always)]
 pub fn identifier(line: &[u8], first: usize) -> [u8; NAME_WIDTH]
     requires from_one { 1 ≤ first }
     requires few { first ≤ LINE_LIMIT }
     ensures value { result ≡ columns line.now first NAME_WIDTH }
 {
-    // Mostly it is within the line: one test of the line's length then stands for three.
+    // Usually it is within the line: then one test of the line's length replaces three.
     if first + 1 < line.len() {
         return [line[first - 1], line[first], line[first + 1]];
     }
@@ -57,7 +57,7 @@ pub fn identifier(line: &[u8], first: usize) -> [u8; NAME_WIDTH]
     ]
 }
 
-/// Puts an identifier in place of the bytes from an index on. Three bytes are stored singly: a copy would
+/// Writes an identifier over the bytes from `at` on. The three bytes are stored singly, because a copy would
 /// test whether the two texts overlap.
 #[inline(always)]
 pub fn put_identifier(bytes: &mut [u8], at: usize, name: [u8; NAME_WIDTH])
@@ -70,8 +70,7 @@ pub fn put_identifier(bytes: &mut [u8], at: usize, name: [u8; NAME_WIDTH])
     bytes[at + 2] = name[2];
 }
 
-/// `true` says that two identifiers are the same, and `false` that they aren't: their first two bytes are
-/// compared as one number.
+/// Returns whether two identifiers are the same. Their first two bytes are compared as one number.
 #[inline(always)]
 pub fn is_same_identifier(one: [u8; NAME_WIDTH], other: [u8; NAME_WIDTH]) -> bool
     ensures same { MatchBool result (one ≡ other) (one ≢ other) }

@@ -1,10 +1,10 @@
-//! The texts of the two lines that compact text begins with. Code and definitions cite them from here alone.
+//! The texts of the two lines that compact text begins with. Code and definitions cite only these.
 
 /// The first line: the version of Compact RINEX.
 pub const CRINEX_VERSION_LINE: [u8; 80] =
     *b"3.0                 COMPACT RINEX FORMAT                    CRINEX VERS   / TYPE";
 
-/// The version that a first line has in columns 1 to 20.
+/// The version in columns 1 to 20 of a first line.
 pub const CRINEX_VERSION: [u8; 3] = *b"3.0";
 
 /// The label of a first line.

@@ -11,7 +11,7 @@ use crx_base::limits::SATELLITES_LIMIT;
 use crx_text::columns::{all_blank, character, padded};
 use crx_text::difference::all_kept;
 
-/// Whether a line begins an epoch or an event: its first character is `>`.
+/// Returns whether a line begins an epoch or an event: its first character is `>`.
 #[inline(always)]
 pub fn begins_epoch(line: &[u8]) -> bool
     ensures value { result ≡ begins_epoch line.now }
@@ -19,22 +19,23 @@ pub fn begins_epoch(line: &[u8]) -> bool
     matches!(line, [b'>', ..])
 }
 
-/// Whether a line is an event's first one, by its own bytes: it begins with `>` and has a flag from 2 to 6 in
-/// column 32.
+/// Returns whether a line is an event's first one, by its own bytes: it begins with `>` and has a flag from 2
+/// to 6 in column 32.
 pub fn is_event_line(line: &[u8]) -> bool
     ensures value { result ≡ is_event_line line.now }
 {
     begins_epoch(line) && is_event_flag(character(line, 32))
 }
 
-/// Whether a flag in column 32 is that of an event: 2 to 5, or 6 for cycle slip records.
+/// Returns whether a flag in column 32 marks an event: 2 to 5, or 6 for cycle slip records.
 pub fn is_event_flag(flag: u8) -> bool
     ensures value { result ≡ is_event_flag flag }
 {
     matches!(flag, b'2'..=b'6')
 }
 
-/// How many records follow an event, in columns 33 to 35; none where they are blank.
+/// Returns how many records follow an event, from columns 33 to 35: 0 if they are blank, and `None` if they
+/// hold no count.
 pub fn records_in(line: &[u8]) -> Option<usize>
     ensures value { result ≡ records_in line.now }
 {
@@ -45,7 +46,7 @@ pub fn records_in(line: &[u8]) -> Option<usize>
     }
 }
 
-/// Whether a flag in column 32 is that of an observation epoch: 0, or 1 for a power failure.
+/// Returns whether a flag in column 32 marks an observation epoch: 0, or 1 for a power failure.
 #[inline(always)]
 pub fn is_observation_flag(flag: u8) -> bool
     ensures value { result ≡ is_observation_flag flag }
@@ -53,8 +54,9 @@ pub fn is_observation_flag(flag: u8) -> bool
     matches!(flag, b'0' | b'1')
 }
 
-/// How many satellites columns 1 to 41 announce, if they are those of an observation epoch: its flag in
-/// column 32 is 0, or 1 for a power failure, and the count in columns 33 to 35 is within the limit.
+/// Returns how many satellites columns 1 to 41 announce, or `None` unless they are those of an observation
+/// epoch: `>`, a flag in column 32 of 0, or 1 for a power failure, and a count in columns 33 to 35 within the
+/// limit.
 pub fn satellites(columns: &[u8]) -> Option<usize>
     ensures value { result ≡ epoch_count columns.now }
     ensures within { IfSome result (λ count. count ≤ SATELLITES_LIMIT) }
@@ -65,8 +67,7 @@ pub fn satellites(columns: &[u8]) -> Option<usize>
     satellites_by_count(columns)
 }
 
-/// How many satellites columns 1 to 41 announce, where they begin with `>` and have the flag of an
-/// observation epoch.
+/// Does the same as [`satellites`] for columns that begin with `>` and have the flag of an observation epoch.
 #[inline(always)]
 pub fn satellites_by_count(columns: &[u8]) -> Option<usize>
     ensures value { result ≡ (if list_all is_kept columns.now then satellites_in columns.now else None) }

@@ -11,9 +11,9 @@ use crx_text::columns::{character, trimmed};
 
 /// Checks the first line of a header, `RINEX VERSION / TYPE` (RINEX 3.05, table A2).
 ///
-/// `MissingVersion` comes where columns 61 to 80 hold another label; then `UnsupportedVersion` where the
-/// version in columns 1 to 9 is none of `3`, `3.0` and `3.0` with one more digit; then
-/// `NotObservation` where column 21 isn't `O`.
+/// Returns `MissingVersion` if columns 61 to 80 hold another label; otherwise `UnsupportedVersion` if the
+/// version in columns 1 to 9 is none of `3`, `3.0` and `3.0` with one more digit; otherwise `NotObservation` if
+/// column 21 isn't `O`.
 pub fn header_first(line: &[u8]) -> Result<(), Fault>
     ensures fault { MatchResult result
         (λ _. first_header_fault line.now ≡ None)
@@ -31,7 +31,7 @@ pub fn header_first(line: &[u8]) -> Result<(), Fault>
     Ok(())
 }
 
-/// Whether a version, without blanks at its ends, is one that is read: `3`, `3.0`, or `3.0` and a digit.
+/// Returns whether a version, without blanks at its ends, is supported: `3`, `3.0`, or `3.0` and a digit.
 fn is_supported(version: &[u8]) -> bool
     ensures { result ≡ is_supported version.now }
 {
@@ -42,8 +42,7 @@ fn is_supported(version: &[u8]) -> bool
     }
 }
 
-/// Whether a line is the one that ends the header, `END OF HEADER` in columns 61 to 80 (RINEX 3.05, table
-/// A2).
+/// Returns whether a line ends the header: `END OF HEADER` in columns 61 to 80 (RINEX 3.05, table A2).
 pub fn is_end(line: &[u8]) -> bool
     ensures value { result ≡ is_end_of_header line.now }
 {

@@ -1,4 +1,4 @@
-//! Which identifiers of satellites have come: RINEX 3.05, table A3.
+//! Sets of satellites' identifiers: RINEX 3.05, table A3.
 
 ghost use Rattle.std.specs.Prelude.{List, ℕ, ◌≡◌, ◌||◌, not, true, false};
 ghost use Rattle.std.specs.Str.{bytes_eq};
@@ -12,19 +12,19 @@ use std::marker::Model;
 /// The least letter of a system.
 const FIRST_LETTER: u8 = b'C';
 
-/// How many letters there are from it to the greatest one of a system, S.
+/// The number of letters from it to the greatest letter of a system, S.
 const LETTERS: usize = 17;
 
-/// How many characters the first of the two digits may be: a digit or a blank.
+/// The number of characters that the first of the two digits may be: a digit or a blank.
 const TENS: usize = 11;
 
-/// How many the second may be.
+/// The number of characters that the second one may be.
 const UNITS: usize = 10;
 
-/// A set of identifiers, with a place for each that can be spelt: it asks for no memory.
+/// A set of identifiers, with a place for each possible one: it allocates nothing.
 #[derive(Drop)]
 pub struct Identifiers {
-    /// Whether each is there.
+    /// Whether each identifier is in the set.
     there: [bool; LETTERS * TENS * UNITS],
 }
 
@@ -37,7 +37,7 @@ impl Model for Identifiers {
 }
 
 impl Identifiers {
-    /// No identifiers.
+    /// Returns an empty set.
     pub fn new() -> Identifiers
         ensures empty { (name : List ℕ) → has_identifier result name ≡ false }
     {
@@ -46,7 +46,7 @@ impl Identifiers {
         }
     }
 
-    /// Puts an identifier in: `false` says that it was there.
+    /// Adds an identifier, and returns `false` if it was in the set already.
     #[inline(always)]
     pub fn put(&mut self, name: [u8; NAME_WIDTH]) -> bool
         requires named { is_identifier name ≡ true }

@@ -1,5 +1,5 @@
-//! The labels of header lines, which are in columns 61 to 80 (RINEX 3.05, table A2). Code and definitions
-//! cite them from here alone.
+//! The labels of header lines, in columns 61 to 80 (RINEX 3.05, table A2). Code and definitions cite only
+//! these.
 
 /// The label of the first line of a header.
 pub const VERSION_LABEL: [u8; 20] = *b"RINEX VERSION / TYPE";

@@ -1,6 +1,6 @@
-//! What of RINEX 3.0x needs no numbers of observations: header lines with their labels and the observation
-//! types that they declare, numbers and identifiers in a line's columns, an epoch line's flag and count, and
-//! satellites by their identifiers.
+//! The parts of RINEX 3.0x that need no numbers of observations: header lines with their labels and the
+//! observation types that they declare, numbers and identifiers in a line's columns, an epoch line's flag and
+//! count, and satellites by their identifiers.
 #![tactic(auto)]
 
 pub mod cells;

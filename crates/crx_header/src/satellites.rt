@@ -9,8 +9,8 @@ ghost use Rattle.crx_header.specs.meaning.Satellites.{is_identifier, types_of_sa
 use crate::types::Types;
 use crx_text::columns::character;
 
-/// How many types the satellite of a line has, where the line begins with an identifier of a system with
-/// types.
+/// Returns how many types the satellite of a line has, or `None` unless the line begins with an identifier of a
+/// system with types.
 #[inline(always)]
 #[tactic(auto, using(crate::proofs::FirstColumns::identifier_columns))]
 pub fn types_of_satellite(types: &Types, line: &[u8]) -> Option<usize>
@@ -18,7 +18,7 @@ pub fn types_of_satellite(types: &Types, line: &[u8]) -> Option<usize>
     ensures allowed { IfSome result IsAllowedCount }
     ensures named { OnSome result (is_identifier (columns line.now 1 NAME_WIDTH) ≡ true) }
 {
-    // The last column first: one test of the line's length then takes the place of two.
+    // The last column first: then one test of the line's length replaces two.
     if !character(line, 3).is_ascii_digit() {
         return None;
     }

@@ -15,20 +15,20 @@ use indexmap::IndexMap;
 use std::alloc::Global;
 use std::marker::Model;
 
-/// How many bytes there are that a letter may be.
+/// The number of bytes that a letter may be.
 const LETTERS: usize = 256;
 
-/// How many systems there are.
+/// The number of systems.
 const SYSTEMS: usize = 7;
 
-/// How many observation types each satellite system has, the systems in the order in which their letters
-/// first appeared.
+/// The number of observation types of each satellite system, with the systems in the order in which their
+/// letters first appeared.
 #[derive(Drop)]
 pub struct Types {
-    /// Once a system has types there is room for all systems.
+    /// Has room for all systems once a system has types.
     counts: IndexMap<u8, usize>,
-    /// The count of each letter, 0 where it has none: a satellite line asks for the count of its system by
-    /// one load.
+    /// The count of each letter, or 0 if it has none: a satellite line finds the count of its system by one
+    /// load.
     by_letter: [u16; LETTERS],
 }
 
@@ -47,7 +47,7 @@ impl Model for Types {
 }
 
 impl Types {
-    /// No types.
+    /// Returns an empty list of types.
     pub fn new(alloc: Global) -> Types
         ensures empty { result ≡ [] }
     {
@@ -57,14 +57,14 @@ impl Types {
         }
     }
 
-    /// Takes in a line. A line with the label `SYS / # / OBS TYPES` and a letter in column 1 (RINEX 3.05,
-    /// table A2) replaces the count of its system; any other line, a continuation too, changes nothing.
+    /// Accepts a header line. A line with the label `SYS / # / OBS TYPES` and a letter in column 1 (RINEX 3.05,
+    /// table A2) replaces the count of its system; any other line, also a continuation, changes nothing.
     ///
-    /// `BadTypesLine` comes where column 1 of such a line is the letter of no system, or columns 4 to 6 hold
-    /// no count from 1 to the limit; `OutOfMemory` only where such a line was good and no system has types
-    /// yet: room for all systems is asked for at once. After either the types are as they were.
+    /// Returns `BadTypesLine` if column 1 of such a line is no system's letter, or columns 4 to 6 hold no count
+    /// from 1 to the limit; and `OutOfMemory` only if such a line is valid and no system has types yet, because
+    /// room for all systems is reserved at once. After either the types are unchanged.
     pub fn accept_line(&mut self, line: &[u8]) -> Result<(), Fault>
-        // Types are what the accepted lines declare.
+        // The accepted lines declare the types.
         ensures declared { (lines : List (List ℕ)) → self.old ≡ types_of lines
             → OnOk result (self.new ≡ types_of (lines ++ line.now ∷ [])) }
         ensures ok { OnOk result (self.new ≡ with_line self.old line.now) }
@@ -90,7 +90,7 @@ impl Types {
         Ok(())
     }
 
-    /// How many types a system has, by its letter.
+    /// Returns how many types a system has, by its letter, or `None` if it has none.
     #[inline(always)]
     #[tactic(auto, using(crate::proofs::Counts::absent_by_letter, crate::proofs::Counts::present_by_letter))]
     pub fn count(&self, letter: u8) -> Option<usize>
@@ -105,7 +105,7 @@ impl Types {
         Some(count as usize)
     }
 
-    /// How many systems have types: at most seven.
+    /// Returns how many systems have types: at most seven.
     #[tactic(auto, using(crate::proofs::Counts::systems_few))]
     pub fn systems(&self) -> usize
         ensures value { result ≡ length self.now }
@@ -114,7 +114,7 @@ impl Types {
         self.counts.len()
     }
 
-    /// The letter of the system that appeared at this place, from 0, and how many types it has.
+    /// Returns the letter of the system at place `index`, from 0, and how many types it has.
     #[inline(always)]
     pub fn entry(&self, index: usize) -> Option<(u8, usize)>
         ensures value { result ≡ slice_get self.now index }
@@ -125,8 +125,8 @@ impl Types {
     }
 }
 
-/// Replaces the count of a system, or puts it after those of the others. Where no system has types yet, room
-/// is asked for, for all systems; later no more is needed.
+/// Replaces the count of a system, or adds it after the other counts. Reserves room for all systems if none has
+/// types yet, or returns `Refused` if memory is refused; later no more room is needed.
 #[tactic(auto, using(crate::proofs::Counts::put_counts))]
 fn put(counts: &mut IndexMap<u8, usize>, letter: u8, count: usize) -> Result<(), Refused>
     requires counts { AreCounts counts.old.entries }
@@ -147,9 +147,9 @@ fn put(counts: &mut IndexMap<u8, usize>, letter: u8, count: usize) -> Result<(),
     Ok(())
 }
 
-/// Whether a line begins the list of a system's types: its label is `SYS / # / OBS TYPES`, and column 1 isn't
-/// blank (RINEX 3.05, table A2). Where column 1 is blank the line goes on with such a list, and counts
-/// nothing.
+/// Returns whether a line begins the list of a system's types: its label is `SYS / # / OBS TYPES`, and column 1
+/// isn't blank (RINEX 3.05, table A2). If column 1 is blank, the line continues such a list and declares no
+/// count.
 pub fn is_types(line: &[u8]) -> bool
     ensures value { result ≡ is_types_line line.now }
 {

@@ -1,12 +1,12 @@
--- What is before the header in compact text: Hatanaka's Compact RINEX 3.0, the two lines of CRINEX.
+-- The lines before the header in compact text: Hatanaka's Compact RINEX 3.0, the two lines of CRINEX.
 use Rattle.std.specs.Prelude.{ℕ, Bool, true, false, List, [], ◌∷◌, ◌++◌, take, replicate}
 use Rattle.crx_header.specs.declared.crinex.TheConstants.{CRINEX_VERSION_LINE, CRINEX_PROGRAM, CRINEX_PROGRAM_LABEL}
 
--- a text in so many columns, blanks after it
+-- a text in `width` columns, with blanks after it
 abbrev pub left_justified : ℕ → List ℕ → List ℕ
 left_justified width text = take width (text ++ replicate width 32)
 
--- the two lines that are before the header in compact text
+-- the two lines before the header in compact text
 abbrev pub version_line : List ℕ
 version_line = CRINEX_VERSION_LINE
 

@@ -23,7 +23,7 @@ is_observation_flag flag = (flag == 48) || (flag == 49)
 abbrev pub is_event_line : List ℕ → Bool
 is_event_line line = begins_epoch line && is_event_flag (character_at line 32)
 
--- the count of an event's records in columns 33 to 35; blank counts 0
+-- the count of an event's records in columns 33 to 35; blanks count 0
 abbrev pub records_in : List ℕ → Option ℕ
 records_in line = if list_all is_blank (columns line 33 3) then Some 0 else number_in (columns line 33 3)
 
@@ -34,8 +34,8 @@ count_within_limit count = if nat_le count SATELLITES_LIMIT then Some count else
 abbrev pub satellites_in : List ℕ → Option ℕ
 satellites_in line = option_and_then count_within_limit (number_in (columns line 33 3))
 
--- the count that an epoch line's columns before the clock announce, where they are those of an observation epoch: >, a
--- flag of 0 or 1, a count, and no character but those kept
+-- the count that columns 1 to 41 announce if they are those of an observation epoch: >, a flag of 0 or 1, a
+-- count, and only characters that are kept
 abbrev pub epoch_count : List ℕ → Option ℕ
 epoch_count head = if begins_epoch head
     && is_observation_flag (character_at head 32) && list_all is_kept head then satellites_in head else None

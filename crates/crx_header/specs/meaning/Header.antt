@@ -20,7 +20,7 @@ is_version_with_digit _ = false
 abbrev pub is_supported : List ℕ → Bool
 is_supported version = bytes_eq version (codes "3") || (bytes_eq version (codes "3.0") || is_version_with_digit version)
 
--- what is wrong with the first header line: its label, its version in columns 1 to 9, its type in column 21
+-- the fault of the first header line: its label, its version in columns 1 to 9, or its type in column 21
 abbrev pub first_header_fault : List ℕ → Option Fault
 first_header_fault line =
     has_label VERSION_LABEL line otherwise Some MissingVersion next

@@ -14,7 +14,7 @@ label_of line = without_end_blanks (columns line 61 20)
 abbrev pub has_label : List ℕ → List ℕ → Bool
 has_label label line = bytes_eq (label_of line) label
 
--- the number that digits spell; no digits spell none
+-- the number that digits spell; without digits there is none
 abbrev pub number_of_digits : List ℕ → Option ℕ
 number_of_digits [] = None
 number_of_digits (c ∷ cs) = if list_all is_ascii_digit (c ∷ cs) then Some (digits_value 10 (c ∷ cs)) else None

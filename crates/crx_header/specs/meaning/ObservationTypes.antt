@@ -15,7 +15,8 @@ system_letters = codes "GREJCIS"
 abbrev pub is_system : ℕ → Bool
 is_system letter = list_any (λ c. c == letter) system_letters
 
--- a line that begins the list of a system's types; where column 1 is blank it goes on with one, and counts nothing
+-- a line that begins the list of a system's types; if column 1 is blank, it continues a list and declares no
+-- count
 abbrev pub is_types_line : List ℕ → Bool
 is_types_line line = has_label TYPES_LABEL line && not (is_blank (character_at line 1))
 
@@ -23,7 +24,8 @@ is_types_line line = has_label TYPES_LABEL line && not (is_blank (character_at l
 abbrev pub Count : Type 0
 Count = ℕ × ℕ
 
--- what a types line says: the letter in column 1, and the count in columns 4 to 6, 1 to the limit
+-- the count that a types line declares: the letter in column 1, and the number in columns 4 to 6, from 1 to the
+-- limit
 abbrev pub count_if_allowed : ℕ → ℕ → Option Count
 count_if_allowed letter count =
     if is_system letter && (nat_le 1 count && nat_le count TYPES_LIMIT) then Some (letter, count) else None
@@ -31,14 +33,14 @@ count_if_allowed letter count =
 abbrev pub count_in : List ℕ → Option Count
 count_in line = option_and_then (count_if_allowed (character_at line 1)) (number_in (columns line 4 3))
 
--- what the types lines among some lines say, in order
+-- the counts that the types lines among some lines declare, in order
 abbrev pub count_of_types_line : List ℕ → Option Count
 count_of_types_line line = if is_types_line line then count_in line else None
 
 abbrev pub counts_in : List (List ℕ) → List Count
 counts_in lines = filter_map count_of_types_line lines
 
--- the last count of a letter, or else the one that is given
+-- the last count of a letter in a list, or `count` if the letter isn't in it
 abbrev pub last_count : ℕ → ℕ → List Count → ℕ
 last_count letter count [] = count
 last_count letter count (c ∷ cs) = if c.0 == letter then last_count letter c.1 cs else last_count letter count cs
@@ -47,7 +49,7 @@ last_count letter count (c ∷ cs) = if c.0 == letter then last_count letter c.1
 abbrev pub without : ℕ → List Count → List Count
 without letter counts = filter (λ c. not (c.0 == letter)) counts
 
--- each letter at its first appearance, with the count of its last
+-- each letter at its first appearance, with its last count
 abbrev pub last_counts : List Count → List Count
 last_counts [] = []
 last_counts (c ∷ cs) = (c.0, last_count c.0 c.1 cs) ∷ without c.0 (last_counts cs)
@@ -61,7 +63,7 @@ abbrev pub count_of : List Count → ℕ → Option ℕ
 count_of [] letter = None
 count_of (c ∷ cs) letter = if c.0 == letter then Some c.1 else count_of cs letter
 
--- a types line whose letter is no system's, or whose count isn't allowed
+-- a types line whose letter belongs to no system, or whose count isn't allowed
 abbrev pub is_bad_types_line : List ℕ → Bool
 is_bad_types_line line = is_types_line line && is_none (count_in line)
 

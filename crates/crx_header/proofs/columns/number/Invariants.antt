@@ -2,7 +2,7 @@ use Rattle.std.{proofs.Common.{◌≡◌, ◌<◌, drop}, specs.{Char.is_ascii_d
 use Rattle.std.specs.Str.Parse.{digits_value_after, digits_value}
 use Rattle.crx_header.proofs.columns.number.Given as goal
 
--- the digits that are left decide, and go on from the number so far, which has a digit for each one passed
+-- the remaining digits decide, and continue the number so far, which has a digit for each one passed
 abbrev pub invariant-loop-c : goal.invariant-loop-c
 invariant-loop-c l =
     (list_all is_ascii_digit (drop l.c-index l.digits) ≡ list_all is_ascii_digit l.digits)
