@@ -136,7 +136,7 @@ pub less_empty : (values : List (Option ℤ)) (flags : List ℕ) (first later : 
 less_empty values flags first later empty less within =
     grind (arith, later_empty values None first later, later_empty flags 32 (2 * first) (2 * later))
 
--- where they are missing, they aren't counted
+-- missing values aren't counted
 pub observed : (values : List (Option ℤ)) (flags : List ℕ) (first m : ℕ) → AreEmptyFrom first values flags
     → first ≤ m → length (filter is_some (take first values)) ≡ length (filter is_some (take m values))
 observed values flags first m empty within =
@@ -210,7 +210,7 @@ cut_columns line bytes start left is room cut rest =
     ∙ ap (λ k. take k xs ++ replicate (16 - k) 32) whole ∙ sym (columns_are line (start + 1) 16 ∙ rw
     (place, part, wide) refl)
 
--- where the line ends after a field, these are the field and two blanks
+-- if the line ends after a field, these are the field and two blanks
 pub field_columns : (xs : List ℕ) → length xs ≡ 16
     → pick_l 0 (xs ++ replicate 16 32) (0 ∷ 1 ∷ 2 ∷ 3 ∷ 4 ∷ 5 ∷ 6 ∷ 7 ∷ 8 ∷ 9 ∷ 10 ∷ 11 ∷ 12 ∷ 13 ∷ 16 ∷ 16 ∷
     [])
@@ -237,7 +237,7 @@ cells_past line n (suc d) vs fs short values flags =
     grind (arith, common_steps, place, pair, rest)
 cells_past line n d vs fs short values flags = grind (arith, common_steps, append-nil)
 
--- a field that spells nothing
+-- a field that spells no number
 pub cells_none : (line : List ℕ) (k m : ℕ) → k < m → observation_of (field line k) ≡ None
     → row_by_cells m line ≡ Err BadField
 cells_none line k m less none = ap (row_with m line) (values_in_none line k m less none)
@@ -246,14 +246,13 @@ all_kept_blanks : (n : ℕ) → list_all is_kept (replicate n 32) ≡ true
 all_kept_blanks zero = refl
 all_kept_blanks (suc n) = all_kept_blanks n
 
--- all up to a place past one from which all are the same
+-- the elements up to a place, if all from an earlier place on are the same
 take_past : {X : Type 0} (xs : List X) (x : X) (n d count : ℕ) → drop n xs ≡ replicate count x → d ≤ count
     → take (n + d) xs ≡ take n xs ++ replicate d x
 take_past xs x n d count same few =
     take-add n d xs ∙ rw same (ap (λ t. take n xs ++ t) (take-replicate d count x few))
 
--- a row whose cells that the line reaches were read, after which the others became empty: its indicators
--- decide
+-- a row whose cells in the line were read, and whose other cells then became empty: its indicators decide
 pub row_made : (line : List ℕ) (read_values values : List (Option ℤ)) (read_flags flags : List ℕ) (n m : ℕ)
     (b : Bool)
     → AreFirstRead n m line read_values read_flags → AreEmptyFrom n values flags → m ≤ length values
@@ -289,7 +288,7 @@ row_made line read_values values read_flags flags n m b read empty within same_v
     by_kept vs fs b found pairs ranged kept =
         let ended = read.ended in grind (arith, common_steps)
 
--- the same where each list was written through a slice of so many elements
+-- the same if each list was written through a slice of n elements
 pub sound-written : (name : List ℕ) (values old_values : List (Option ℤ)) (flags old_flags : List ℕ)
     (m n k : ℕ)
     → is_identifier name ≡ true → IsAllowedCount m → length values ≡ m → length flags ≡ 2 * m → n ≡ m

@@ -20,7 +20,7 @@ first_in line = character_by line 41 0 (omega arith)
 flag_in : (line : List ℕ) → character_at (columns line 1 41) 32 ≡ character_at line 32
 flag_in line = character_by line 41 31 (omega arith)
 
--- What they announce is told by their characters and their count.
+-- Their characters and their count decide the count that they announce.
 pub announced : (line : List ℕ) → begins_epoch line ≡ true → is_observation_flag (character_at line 32) ≡ true
     → epoch_count (columns line 1 41) ≡ (if list_all is_kept (columns line 1 41) then
     satellites_in (columns line 1 41) else None)
@@ -31,7 +31,7 @@ pub unannounced : (line : List ℕ) → is_observation_flag (character_at line 3
     → epoch_count (columns line 1 41) ≡ None
 unannounced line flag = grind (arith, common_steps, flag_in)
 
--- A line that ends before the clock's columns has no clock, and nothing behind them.
+-- A line that ends before the clock's columns has no clock, and nothing after them.
 pub clockless : (line : List ℕ) → length line ≤ 41
     → (list_all is_blank (drop 56 line) ≡ true) × (clock_of (columns line 42 15) ≡ Some None)
 unfolding number_of

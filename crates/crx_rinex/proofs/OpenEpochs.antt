@@ -1,4 +1,4 @@
--- Epochs whose lines come one after another.
+-- Epochs, one line after another.
 use Rattle.std.proofs.Common.{rules, ◌≡◌, ℕ, ◌-◌, ◌<◌, zero, suc, List, [], ◌∷◌, ◌++◌, length, Option, Some}
 use Rattle.std.proofs.Common.{None, Result, refl, inl, arith, append-nil}
 use Rattle.std.{proofs.lemmas.{Grind.common_steps, Option.none-some}, specs.Prelude.⊤}
@@ -15,7 +15,7 @@ use Rattle.crx_rinex.specs.meaning.{Places.{after_lines, then_place, one_line}, 
 use Rattle.crx_rinex.specs.meaning.Units.{Observation}
 use Rattle.crx_header.specs.meaning.ObservationTypes.{Count}
 
--- ---- what is found is certain
+-- ---- the result is certain
 
 pub steady-rows : (count : ℕ) (so_far : OpenEpoch) → IsSteady (rows_at so_far count)
 steady-rows zero so_far = steady-here _
@@ -51,7 +51,7 @@ rest_by_step n so_far (Content line) lines h = rw h (row_then_rest n so_far line
 
 -- ---- line after line
 
--- a step that leaves an epoch open wants a row more
+-- a step that leaves an epoch open needs one more row
 abbrev IsGoing : EpochStep → Type 0
 IsGoing (Going so_far) = 0 < rows_wanted so_far
 IsGoing (Whole epoch) = ⊤
@@ -67,7 +67,7 @@ step_at so_far line lines h = rest_by_step (rows_wanted so_far - 1) so_far line 
 nothing_yet : (so_far : OpenEpoch) → 0 < rows_wanted so_far → rest_at so_far [] ≡ NeedsMore
 nothing_yet so_far h = grind arith
 
--- an epoch that stays open over some lines goes on after them as the later one does
+-- an epoch that stays open over some lines continues after them as the later one does
 record GoesOn (so_far later : OpenEpoch) (lines : List ReadLine) : Type 0 where
   wants : 0 < rows_wanted later
   rest : (more : List ReadLine)
@@ -86,7 +86,7 @@ goes_on so_far later (line ∷ lines) h left =
     goes_on_after so_far later line lines _
     (λ next wants more. goes_on next later lines wants more) h refl (step_wants so_far line) left
 
--- where an epoch's lines want more, it is open
+-- an epoch whose lines need more is open
 abbrev IsOpen : Option OpenEpoch → List ReadLine → Type 0
 IsOpen begun lines = (later : OpenEpoch) × (open_after begun lines ≡ Some later)
 
@@ -107,7 +107,7 @@ open_where_wanted [] so_far wants h = (so_far, refl)
 open_where_wanted (line ∷ lines) so_far wants h =
     grind (arith, common_steps, open_by, step_at, open_where_wanted lines)
 
--- one line more
+-- one more line
 pub open_none : (begun : Option OpenEpoch) → open_after begun [] ≡ begun
 open_none = grind (arith, common_steps)
 
@@ -128,7 +128,7 @@ as_unit (Done epoch n) = Done (Observation epoch) n
 as_unit (Fails k fault) = Fails k fault
 as_unit NeedsMore = NeedsMore
 
--- an open epoch at a line goes on in the lines after it
+-- an open epoch at a line continues in the lines after it
 record Begins (types : List Count) (line : ReadLine) (so_far : OpenEpoch) : Type 0 where
   wants : 0 < rows_wanted so_far
   place : (lines : List ReadLine)
@@ -196,7 +196,7 @@ wanted-open types (line ∷ lines) =
       wanted_by_open types (line ∷ lines),
     )
 
--- what a step makes, so many lines after the epoch line
+-- the result of a step, `count` lines after the epoch line
 step_place : (count : ℕ) (step : EpochStep)
     → IsGoing step → after_lines 1 (as_unit (after_lines count (after_step step [])))
     ≡ place_after (suc count) step

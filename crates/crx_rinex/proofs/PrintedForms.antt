@@ -38,7 +38,7 @@ none_at : (lanes : List ℕ) (i : ℕ) → list_any (top 7) lanes ≡ false → 
 none_at (x ∷ xs) (suc i) none = grind (arith, common_steps, none_at xs i)
 none_at lanes i none = grind (arith, common_steps)
 
--- what a field spells is printed as it is
+-- the value that a field spells is printed as the field
 abbrev pub Prints : List ℕ → Type 0
 Prints field = (value : Option ℤ) → observation_of field ≡ Some value → observation_text value ≡ field
 

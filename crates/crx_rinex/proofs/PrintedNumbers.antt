@@ -18,7 +18,8 @@ use Rattle.crx_text.proofs.Sizes.{decimal_number_plain, decimal_number_minus}
 use Rattle.crx_text.specs.meaning.{Columns.without_first_blanks, Numbers.{size_of, size_text, zero_padded}}
 use Rattle.crx_text.specs.meaning.Numbers.{decimal_number, missing_or_number, number_text, spelling}
 
--- whether columns go on as printing does: so many of them are before the point, and this one is before them
+-- whether columns continue as printing does: `left` of them are before the point, and `before` is the column
+-- before them
 abbrev pub is_formed : ℕ → ℕ → List ℕ → Bool
 is_formed left before [] = true
 is_formed zero before (c ∷ cs) = not ((eqb before 32 || eqb before 45) && eqb c 46)
@@ -78,7 +79,7 @@ size_printed w z s long some few led reads =
       length-drop,
     )
 
--- behind a blank or a minus
+-- after a blank or a minus
 led_printed : (w z before c : ℕ) (cs : List ℕ) → (eqb before 32 || eqb before 45) ≡ true
     → length (c ∷ cs) ≡ w + 4
     → w ≤ 10 → is_formed w before (c ∷ cs) ≡ true → size_of 3 (c ∷ cs) ≡ Some z → size_text 3 z ≡ c ∷ cs
@@ -90,7 +91,7 @@ led_printed w z before c cs first long few formed reads =
 zero_first : (c : ℕ) (cs : List ℕ) → size_text 3 0 ≡ c ∷ cs → c ≡ 48
 zero_first c cs is = grind (arith, common_steps, decimal_digit, get_or)
 
--- a number behind a minus isn't 0
+-- a number after a minus isn't 0
 some_behind : (w z c : ℕ) (cs : List ℕ) → length (c ∷ cs) ≡ w + 4 → is_formed w 45 (c ∷ cs) ≡ true
     → size_of 3 (c ∷ cs) ≡ Some z → size_text 3 z ≡ c ∷ cs → 0 < z
 some_behind w z c cs long formed reads is =
@@ -99,7 +100,7 @@ some_behind w z c cs long formed reads is =
 long_enough : (z : ℕ) (s : List ℕ) → size_of 3 s ≡ Some z → 4 ≤ length s
 long_enough z s reads = grind (arith, common_steps, size_of_short)
 
--- a text of its own width, the columns of which are in form
+-- a text of its own width, whose columns are in form
 abbrev HasForm : List ℕ → Type 0
 HasForm s = (length s ≤ 14) × (4 ≤ length s → is_formed (length s - 4) 32 s ≡ true)
 
@@ -172,7 +173,7 @@ none_text : number_text 0 3 None ≡ []
 unfolding number_text
 none_text = refl
 
--- columns in form that spell something are what printing gives of it
+-- columns in form that spell a value are its printed text
 pub field_printed : (t : List ℕ) (v : Option ℤ) → HasForm t
     → missing_or_number 3 (without_first_blanks t) ≡ Some v → number_text (length t) 3 v ≡ t
 field_printed [] v form reads = subst (λ v. number_text 0 3 v ≡ []) (same_Some _ _ reads) none_text

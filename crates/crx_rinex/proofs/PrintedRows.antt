@@ -1,4 +1,4 @@
--- Satellite lines whose fields are all what printing gives of them.
+-- Satellite lines whose fields are all the printed texts of their values.
 use Rattle.std.proofs.Common.{rules}
 use Rattle.std.proofs.Common.{◌≡◌, ◌≢◌, inl, inr, ℕ, ℤ, zero, suc, ◌+◌}
 use Rattle.std.proofs.Common.{◌-◌, ◌*◌, ◌<◌, ◌≤◌, true, List, [], ◌∷◌, ◌++◌}
@@ -38,7 +38,7 @@ inside_prints line k within =
       drop-drop 2 (16 * k + 1) line,
     )
 
--- so are those before it
+-- so are the fields before it
 pub next_prints : (line : List ℕ) (k : ℕ) → ((j : ℕ) → j < k → Prints (field line j)) → Prints (field line k)
     → (j : ℕ) → j < k + 1 → Prints (field line j)
 next_prints line k before now j less = elim (cases_lt j k) [
@@ -51,7 +51,7 @@ pub past_prints : (line : List ℕ) (k : ℕ) → length line ≤ 16 * k + 3 →
 past_prints line k past value reads =
     grind (arith, common_steps, field, drop_all, field_past, printed_blank)
 
--- all, where the first ones are, and nothing of the others is in the line
+-- all fields, if the first ones are, and the line has nothing of the other ones
 pub all_print : (line : List ℕ) (k : ℕ) → ((j : ℕ) → j < k → Prints (field line j)) → length line ≤ 16 * k + 3
     → (j : ℕ) → Prints (field line j)
 all_print line k before past j = grind (arith, common_steps, cases_lt j k, past_prints)
@@ -99,7 +99,7 @@ cell_split line k n =
 
 -- ---- cells
 
--- where all fields are read, the first one is, and the others are
+-- if all fields are read, the first one is, and the others are
 first_read : (o : Option (Option ℤ)) (rest : List (Option (Option ℤ))) (values : List (Option ℤ))
     → all_some (o ∷ rest) ≡ Some values → (v : Option ℤ) × (vs : List (Option ℤ)) × (o ≡ Some v)
     × (all_some rest ≡ Some vs) × (v ∷ vs ≡ values)
@@ -161,6 +161,6 @@ module _ (line : List ℕ) (prints : (j : ℕ) → Prints (field line j)) where
     by_types row None is = grind (arith, common_steps)
     by_types row (Some m) is = by_values m row (values_in m line) refl is
 
-    -- what the line is read as is printed as the line
+    -- the row read from the line is printed as the line
     pub line_printed : (types : List Count) (row : Row) → row_of types line ≡ Ok row → printed_row row ≡ line
     line_printed types row is = by_types row (types_of_satellite types line) is

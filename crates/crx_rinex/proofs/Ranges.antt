@@ -1,4 +1,4 @@
--- What is read out of columns fits them.
+-- Numbers read from columns fit them.
 use Rattle.std.proofs.Common.{◌≡◌, ℕ, ◌-◌, ◌<◌, ◌≤◌, ◌^◌, Bool, true, false, cond, eqb, List, []}
 use Rattle.std.proofs.Common.{◌∷◌, ◌++◌, length, Option, Some, None, refl, subst, inl, inr, arith}
 use Rattle.std.proofs.lemmas.{Bool.{cases_Bool, and_parts, eqb-true}, Grind.common_steps, List.length-append}

@@ -1,4 +1,4 @@
--- What is printed of rows, epoch lines and epochs is read back.
+-- Printed rows, epoch lines and epochs are read back.
 use Rattle.std.proofs.{lemmas.Grind.common_steps, Common.{◌≡◌, ℕ, ℤ, ◌+◌, ◌-◌, ◌*◌, ◌<◌, suc, Bool, true}}
 use Rattle.std.proofs.Common.{false, cond, ◌&&◌, List, [], ◌∷◌, ◌++◌, length, drop, map, Option, Some, None}
 use Rattle.std.proofs.Common.{IfSome, Ok, refl, ap, sym, ◌∙◌, arith, append-nil, append_assoc, length-append}
@@ -49,7 +49,7 @@ value-width value h = decimal-width _ OBSERVATION_DECIMALS _ value (value-back v
 
 -- ---- the cells of a line
 
--- the values and indicators of the cells from one on
+-- the values and indicators of the cells from `k` on
 record AreCells (line : List ℕ) (k : ℕ) (values : List (Option ℤ)) (flags : List ℕ) : Type 0 where
   values_read : all_some (each_place (length values) (λ j. observation_of (field line (k + j)))) ≡ Some values
   flags_read : concat (each_place (length values) (λ j. flags_at line (k + j))) ≡ flags
@@ -72,12 +72,12 @@ pub cells-are : (values : List (Option ℤ)) (flags : List ℕ) (value : Option 
     ++ a ∷ b ∷ printed_cells values flags
 cells-are values flags value a b = grind (arith, common_steps, append_assoc, observation_text, printed_cells)
 
--- the place that is counted from, and those after it
+-- the place at which counting begins, and the places after it
 pub from-next : {X : Type 0} (n k : ℕ) (f : ℕ → X)
     → each_place (suc n) (λ j. f (k + j)) ≡ f k ∷ each_place n (λ j. f (k + 1 + j))
 from-next n k f = grind arith
 
--- places that are counted from 0
+-- places counted from 0
 pub from-none : {X : Type 0} (n : ℕ) (f : ℕ → X) → each_place n f ≡ each_place n (λ j. f (0 + j))
 from-none n f = grind arith
 

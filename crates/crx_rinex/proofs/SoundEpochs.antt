@@ -1,4 +1,4 @@
--- What is read of an observation epoch is sound.
+-- An observation epoch that is read is sound.
 use Rattle.std.proofs.Common.{rules, ◌≡◌, ℕ, ℤ, ◌+◌, ◌*◌, ◌≤◌, zero, suc, Bool, true, false, not, cond, List}
 use Rattle.std.proofs.Common.{[], ◌∷◌, length, drop, Option, Some, None, IfSome, unwrap_or, Result}
 use Rattle.std.proofs.{Common.{Ok, Err, refl, subst, arith}, lemmas.Bool.and_from}
@@ -58,7 +58,7 @@ flags_long line zero = refl
 flags_long line (suc m) =
     grind (arith, common_steps, flags_long line m, flags_in_more line m, length-append (flags_in m line))
 
--- what a satellite line is read as
+-- the reading of a satellite line
 abbrev IsSoundRead : List Count → Result Row Fault → Type 0
 IsSoundRead types (Ok row) = IsSoundRow row × HasItsTypes types row
 IsSoundRead types (Err fault) = ⊤
@@ -142,7 +142,7 @@ sound-head_of line = grind (arith, common_steps, cond, event_case, count_case)
 
 -- ---- rows after an epoch line
 
--- what is true of every open epoch
+-- true of every open epoch
 pub record IsSoundSoFar (so_far : OpenEpoch) : Type 0 where
   pub head : IsObservationHead so_far.head
   pub rows : All IsSoundRow so_far.rows
@@ -213,7 +213,7 @@ good_unit : (types : List Count) (count : ℕ) (p : Place Epoch) (lines : List R
     → IsReadWell types (after_lines 1 (then_place p lines (λ epoch rest. Done (Observation epoch) 0)))
 good_unit = grind (arith, common_steps)
 
--- what an epoch line begins is sound
+-- the beginning that an epoch line is, is sound
 abbrev pub IsSoundBeginning : Result Beginning Fault → Type 0
 IsSoundBeginning (Err fault) = ⊤
 IsSoundBeginning (Ok (EventBegins line)) = ⊤

@@ -1,4 +1,4 @@
--- Beside meaning/EpochPlaces: what code and proofs see of it.
+-- In addition to meaning/EpochPlaces: how code and proofs see it.
 use Rattle.std.specs.Prelude.{ℕ, zero, suc, List, [], ◌∷◌, Option, Some, None, Result, Ok, Err}
 use Rattle.crx_base.specs.meaning.AsRead.{ReadLine, Content, Overlong}
 use Rattle.crx_base.specs.declared.fault.Fault.{Fault}
@@ -12,13 +12,13 @@ use Rattle.crx_rinex.specs.meaning.EpochPlaces.{Beginning, EventBegins, EpochBeg
 
 -- ---- line by line
 
--- what one line more makes of an open epoch: it is still open, or whole, or the line has a fault
+-- an open epoch after one more line: it is still open, or whole, or the line has a fault
 pub data EpochStep : Type 0 where
   Going : OpenEpoch → EpochStep
   Whole : Epoch → EpochStep
   Faulty : Fault → EpochStep
 
--- an epoch is whole as soon as all rows have come
+-- an epoch is whole as soon as it has all its rows
 abbrev pub when_wanted : ℕ → OpenEpoch → EpochStep
 when_wanted zero so_far = Whole (epoch_of so_far)
 when_wanted (suc count) so_far = Going so_far
@@ -50,18 +50,18 @@ abbrev pub opened_at : List Count → ReadLine → Option OpenEpoch
 opened_at types Overlong = None
 opened_at types (Content line) = opened_by types (beginning_of line)
 
--- the epoch that is open after some lines more
+-- the epoch that is open after some more lines
 abbrev pub open_after : Option OpenEpoch → List ReadLine → Option OpenEpoch
 open_after None lines = None
 open_after (Some so_far) [] = Some so_far
 open_after (Some so_far) (line ∷ lines) = open_after (still_open (epoch_step so_far line)) lines
 
--- the epoch that some lines leave open, its epoch line being the first of them
+-- the epoch that some lines leave open; the first of them is its epoch line
 abbrev pub open_with : List Count → List ReadLine → Option OpenEpoch
 open_with types [] = None
 open_with types (line ∷ lines) = open_after (opened_at types line) lines
 
--- what is where an epoch began, so many lines before the one that this step took
+-- the result at the place where an epoch began, `before` lines before the line of this step
 abbrev pub place_after : ℕ → EpochStep → Place (Unit Epoch)
 place_after before (Going so_far) = NeedsMore
 place_after before (Whole epoch) = Done (Observation epoch) (suc before)

@@ -1,4 +1,4 @@
--- Beside meaning/Epochs: what code and proofs see of it.
+-- In addition to meaning/Epochs: how code and proofs see it.
 use Rattle.std.specs.Prelude.{◌≡◌, ◌≤◌, ◌+◌, ◌⊎◌, ℕ, List, Bool, [], ◌∷◌, ◌++◌, ◌==◌, length, map}
 use Rattle.crx_rinex.specs.meaning.Observations.{Row, Epoch}
 use Rattle.crx_rinex.specs.meaning.EpochLines.{IsObservationHead, ObservationHead}
@@ -13,18 +13,19 @@ begun head = record { head = head.head; clock = head.clock; rows = [] }
 abbrev pub with_row : Epoch → Row → Epoch
 with_row epoch row = record epoch { rows = epoch.rows ++ row ∷ [] }
 
--- whether an epoch has as many rows as its line announces
+-- whether an epoch has all rows that its line announces
 abbrev pub is_full_epoch : Epoch → Bool
 is_full_epoch epoch = length epoch.rows == satellites_of epoch.head
 
--- What holds of the parts of an epoch: its line is sound, and with these rows it is a sound epoch, and the identifiers are those of the rows.
+-- The parts of an epoch: its line is sound, with these rows it is a sound epoch, and the identifiers are those
+-- of the rows.
 abbrev pub AreEpochParts : ObservationHead → List (List ℕ) → List Row → Type 0
 AreEpochParts head names rows =
     IsSoundEpoch (record { head = head.head; clock = head.clock; rows = rows }) × IsObservationHead head
     × (names ≡ map (λ (row : Row). row.name) rows)
 
--- an epoch without rows may have no room for them; one with rows has room for as many as its line announces, by how many fit, and by how
--- many identifiers more do
+-- an epoch without rows may have no room for them; an epoch with rows has room for all that its line announces,
+-- by the `capacity` for rows and by the room for `spare` more identifiers
 abbrev pub HasRowsRoom : List ℕ → List Row → ℕ → ℕ → Type 0
 HasRowsRoom head rows capacity spare =
     (rows ≡ []) ⊎ ((satellites_of head ≤ capacity) × (satellites_of head ≤ length rows + spare))

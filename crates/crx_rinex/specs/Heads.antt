@@ -1,4 +1,4 @@
--- What a line where an epoch may begin is read as: RINEX 3.05, table A3, EPOCH record.
+-- The reading of a line where an epoch may begin: RINEX 3.05, table A3, EPOCH record.
 use Rattle.crx_rinex.specs.meaning.EpochLines.{HeadLine, EventHead, EpochHead}
 use Rattle.crx_rinex.specs.declared.epoch_line.Head.{Head}
 use Rattle.crx_rinex.specs.declared.epoch_line.Head.TheVariants.{Event, Epoch}

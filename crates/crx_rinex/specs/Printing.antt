@@ -1,4 +1,4 @@
--- Beside meaning/Printing: what code and proofs see of it.
+-- In addition to meaning/Printing: how code and proofs see it.
 use Rattle.std.specs.Prelude.{ℕ, List, [], ◌∷◌}
 
 -- the last of some lines

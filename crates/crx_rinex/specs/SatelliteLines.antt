@@ -1,4 +1,4 @@
--- Beside meaning/SatelliteLines: what code and proofs see of it.
+-- In addition to meaning/SatelliteLines: how code and proofs see it.
 use Rattle.std.specs.Prelude.{ℕ, ℤ, ◌≡◌, ◌≤◌, ◌+◌, ◌*◌, ◌-◌, ◌<◌, All, List, ◌++◌, Option, None, Some}
 use Rattle.std.specs.Prelude.{Bool, Result, Ok, true}
 use Rattle.std.specs.Prelude.{length, replicate, slice_set, take, drop}
@@ -23,28 +23,28 @@ with_value row k value = record row { values = slice_set row.values k value }
 abbrev pub with_flags : Row → List ℕ → Row
 with_flags row flags = record row { flags = flags ++ replicate (2 * length row.values - length flags) 32 }
 
--- as many indicators as two for each value, and no more values than a system may have types
+-- two indicators for each value, and no more values than a system may have types
 abbrev pub ArePaired : List (Option ℤ) → List ℕ → Type 0
 ArePaired values flags = (length flags ≡ 2 * length values) × (length values ≤ TYPES_LIMIT)
 
--- the values from one on are missing
+-- the values from `first` on are missing
 abbrev pub AreMissingFrom : ℕ → List (Option ℤ) → Type 0
 AreMissingFrom first values = (first ≤ length values) × (drop first values ≡ replicate (length values - first) None)
 
--- the cells from one on have no value, and blank indicators
+-- the cells from `first` on have no value, and blank indicators
 pub record AreEmptyFrom (first : ℕ) (values : List (Option ℤ)) (flags : List ℕ) : Type 0 where
   pub pairs : ArePaired values flags
   pub within : first ≤ length values
   pub missing : drop first values ≡ replicate (length values - first) None
   pub blank : drop (2 * first) flags ≡ replicate (2 * (length values - first)) 32
 
--- cells that were empty from one on, or from any later one on, still are
+-- cells that were empty from `first` on, or from any later one on, still are
 abbrev pub KeepsEmptyFrom : ℕ → List (Option ℤ) → List ℕ → List (Option ℤ) → List ℕ → Type 0
 KeepsEmptyFrom first values flags new_values new_flags =
     (n : ℕ) → first ≤ n → AreEmptyFrom n values flags → AreEmptyFrom n new_values new_flags
 
--- the first so many cells of a line are read: their values, which fit their columns, and their indicators
--- are at their places
+-- the first `count` cells of a line are read: their values, which fit their columns, and their indicators are
+-- at their places
 pub record AreCellsRead (count : ℕ) (line : List ℕ) (values : List (Option ℤ)) (flags : List ℕ) : Type 0 where
   pub pairs : ArePaired values flags
   pub within : count ≤ length values
@@ -52,11 +52,11 @@ pub record AreCellsRead (count : ℕ) (line : List ℕ) (values : List (Option �
   pub flags_read : take (2 * count) flags ≡ flags_in count line
   pub ranged : All IsValue (take count values)
 
--- if they were seen to be so, the indicators of the first so many cells may all be there
+-- if `is_seen`, the indicators of the first `count` cells are all allowed
 abbrev pub AreSeen : Bool → ℕ → List ℕ → Type 0
 AreSeen is_seen count flags = is_seen ≡ true → list_all is_kept (take (2 * count) flags) ≡ true
 
--- the first so many of m cells of a line are read, the line reaches no other, and nothing is after the
+-- the first ones of the m cells of a line are read, the line reaches no other cell, and only blanks follow the
 -- last of the m
 pub record AreFirstRead (first m : ℕ) (line : List ℕ) (values : List (Option ℤ))
     (flags : List ℕ) : Type 0 where
@@ -65,12 +65,12 @@ pub record AreFirstRead (first m : ℕ) (line : List ℕ) (values : List (Option
   pub ends : first < m → length line ≤ CELL_WIDTH * first + NAME_WIDTH
   pub ended : list_all is_blank (drop (CELL_WIDTH * m + NAME_WIDTH) line) ≡ true
 
--- what m cells make of a line: a row, or its first fault
+-- the row that m cells of a line make, or its first fault
 abbrev pub row_by_cells : ℕ → List ℕ → Result Row Fault
 row_by_cells m line = row_with m line (values_in m line)
 
--- the values and the indicators are those of the row that m cells make of a line; each value fits its
--- columns, and each indicator may be there
+-- the values and the indicators of the row that m cells of a line make; each value fits its columns, and each
+-- indicator is allowed
 pub record IsRowOf (m : ℕ) (line : List ℕ) (values : List (Option ℤ)) (flags : List ℕ) : Type 0 where
   pub row : row_by_cells m line ≡ Ok (record {
     name = columns line 1 NAME_WIDTH;

@@ -42,7 +42,7 @@ impl Model for Epoch {
 }
 
 impl Epoch {
-    /// An epoch with this line and no rows yet.
+    /// Returns an epoch with this line and no rows yet.
     pub fn new(alloc: Global, head: EpochLine) -> Epoch
         ensures value { result ≡ begun head }
     {
@@ -53,16 +53,16 @@ impl Epoch {
         }
     }
 
-    /// Puts a row after the others.
+    /// Adds a row after the others.
     ///
-    /// `RepeatedSatellite` comes where the epoch has a row of the same identifier already, else
-    /// `OutOfMemory`. Either hands the row back, and the epoch is as it was.
+    /// Returns `RepeatedSatellite` if the epoch has a row with the same identifier already, otherwise
+    /// `OutOfMemory` if memory is refused. Either returns the row too, and leaves the epoch unchanged.
     pub fn push(&mut self, row: SatRow) -> Result<(), (SatRow, Fault)>
         requires { is_full_epoch self.old ≡ false }
         ensures ok { OnOk result (self.new ≡ with_row self.old row) }
         ensures new { OnOk result (has_satellite row.name self.old.rows ≡ false) }
         ensures returned { IfErr result (λ refused. (refused.0 ≡ row) × (self.new ≡ self.old)) }
-        // The first row asks for the memory of as many rows as the line announces.
+        // The first row reserves memory for all rows that the line announces.
         ensures refused { IfErr result (λ refused.
             ((refused.1 ≡ Fault.RepeatedSatellite) × (has_satellite row.name self.old.rows ≡ true))
             ⊎ ((refused.1 ≡ Fault.OutOfMemory) × (self.old.rows ≡ []))) }
@@ -84,7 +84,7 @@ impl Epoch {
         Ok(())
     }
 
-    /// Whether the epoch has as many rows as its line announces.
+    /// Returns whether the epoch has all rows that its line announces.
     pub fn is_full(&self) -> bool
         ensures value { result ≡ is_full_epoch self.now }
         ensures sound { IsSoundEpoch self.now }
@@ -92,7 +92,7 @@ impl Epoch {
         self.rows.len() == self.head.count()
     }
 
-    /// The epoch's line.
+    /// Returns the epoch's line.
     pub fn head(&self) -> &EpochLine
         ensures head { result.now.head ≡ self.now.head }
         ensures clock { result.now.clock ≡ self.now.clock }
@@ -102,7 +102,7 @@ impl Epoch {
         &self.head
     }
 
-    /// The row at this place, from 0.
+    /// Returns the row at place `index`, from 0.
     pub fn row(&self, index: usize) -> Option<&SatRow>
         ensures value { option_copied result ≡ slice_get self.now.rows index }
         ensures sound { IfSome result (λ row. IsSoundRow row.now) }

@@ -39,10 +39,10 @@ impl Model for EpochLine {
 }
 
 impl EpochLine {
-    /// The line with these columns 1 to 41 and this receiver clock offset, in units of 10^-12 seconds.
+    /// Makes a line of columns 1 to 41 and a receiver clock offset, in units of 10^-12 seconds.
     ///
-    /// `BadEpoch` comes where the columns aren't those of an observation epoch: `>` in column 1, a flag of 0
-    /// or 1 in column 32, a count of satellites within the limit in columns 33 to 35, and no character but 32
+    /// Returns `BadEpoch` unless the columns are those of an observation epoch: `>` in column 1, a flag of 0 or
+    /// 1 in column 32, a count of satellites within the limit in columns 33 to 35, and only characters from 32
     /// to 126 other than `&` (RINEX 3.05, table A3).
     pub fn new(columns: [u8; HEAD_WIDTH], clock: Option<i64>) -> Result<EpochLine, Fault>
         requires { ForSome clock IsClock }
@@ -60,7 +60,7 @@ impl EpochLine {
         }
     }
 
-    /// Columns 1 to 41: `>`, date and time, flag, count of satellites, reserved columns.
+    /// Returns columns 1 to 41: `>`, date and time, flag, count of satellites, reserved columns.
     pub fn columns(&self) -> &[u8; HEAD_WIDTH]
         ensures value { result.now ≡ self.now.head }
         ensures sound { IsObservationHead self.now }
@@ -68,7 +68,7 @@ impl EpochLine {
         &self.head
     }
 
-    /// How many satellites the epoch has.
+    /// Returns how many satellites the epoch has.
     pub fn count(&self) -> usize
         ensures value { result ≡ self.now.count }
         ensures sound { IsObservationHead self.now }
@@ -76,7 +76,7 @@ impl EpochLine {
         self.count
     }
 
-    /// The receiver clock offset, in units of 10^-12 seconds; `None` where there is none.
+    /// Returns the receiver clock offset, in units of 10^-12 seconds, or `None` if the line has none.
     pub fn clock(&self) -> Option<i64>
         ensures value { result ≡ self.now.clock }
         ensures sound { IsObservationHead self.now }
@@ -85,7 +85,7 @@ impl EpochLine {
     }
 }
 
-/// What is in a line where an epoch may begin.
+/// The first line of an event or of an observation epoch.
 #[derive(Drop)]
 pub enum Head {
     /// An event: its flag, from 2 to 6, and how many records follow it.
@@ -102,10 +102,10 @@ pub enum Head {
 impl Head {
     /// Reads a line where an epoch may begin (RINEX 3.05, table A3).
     ///
-    /// `NotAnEpoch` comes where column 1 isn't `>`; then `BadEpoch` where the flag in column 32 is none of 0
-    /// to 6, the count in columns 33 to 35 is none, or, in an observation epoch, columns 1 to 41 hold a
-    /// character that may not be there or something is after column 56; then `BadClock` where columns 42 to
-    /// 56 hold neither blanks nor a number of format F15.12.
+    /// Returns `NotAnEpoch` if column 1 isn't `>`; otherwise `BadEpoch` if the flag in column 32 is none of 0
+    /// to 6, if columns 33 to 35 hold no count, or if an observation epoch has a character in columns 1 to 41
+    /// that isn't allowed, or more than blanks after column 56; otherwise `BadClock` if columns 42 to 56 hold
+    /// neither blanks nor a number of format F15.12.
     #[inline(always)]
     #[tactic(auto, using(crate::proofs::HeadColumns::announced, crate::proofs::HeadColumns::unannounced))]
     pub fn read(line: &[u8]) -> Result<Head, Fault>
@@ -134,7 +134,7 @@ impl Head {
         let Some(count) = satellites_by_count(&head) else {
             return Err(Fault::BadEpoch);
         };
-        // Most lines end before the clock's columns, which takes some 150 instructions less.
+        // Most lines end before the clock's columns: nothing to copy or read there.
         if line.len() <= HEAD_WIDTH {
             let clock = None;
             return Ok(Head::Epoch(EpochLine { head, count, clock }));

@@ -14,7 +14,7 @@ use crx_text::appending::append;
 use crx_text::{Text, clock_print};
 use std::marker::Model;
 
-/// The lines of an epoch that are pending: the epoch line, then a line for each satellite.
+/// The pending lines of an epoch: the epoch line, then a line for each satellite.
 #[derive(Drop)]
 pub struct Printed {
     epoch: Epoch,
@@ -35,7 +35,7 @@ impl Model for Printed {
 }
 
 impl Printed {
-    /// The lines of an epoch, all of them pending.
+    /// Returns the lines of an epoch, all of them pending.
     pub fn new(epoch: Epoch) -> Printed
         ensures value { result ≡ printed_epoch epoch }
     {
@@ -46,7 +46,7 @@ impl Printed {
         }
     }
 
-    /// Hands out the next line, without its line end; `None` once none is pending.
+    /// Returns the next line, without its line end, or `None` if none is pending.
     #[tactic(auto, using(crate::proofs::Lines::each_line))]
     pub fn next_line(&mut self) -> Option<&[u8]>
         ensures value { option_copied result ≡ slice_get self.old 0 }
@@ -62,7 +62,7 @@ impl Printed {
     }
 }
 
-/// Replaces a text by the printed epoch line, without blanks at its end.
+/// Replaces `text` by the printed epoch line, without blanks at its end.
 pub fn print_head(head: &EpochLine, text: &mut Text)
     ensures value { text.new ≡ printed_head head.now.head head.now.clock }
 {

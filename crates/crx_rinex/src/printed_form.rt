@@ -1,4 +1,4 @@
-//! Whether a satellite line is in the form that printing gives, by its bytes alone. RINEX 3.05, table A3,
+//! Whether a satellite line has the form in which it is printed, by its bytes only. RINEX 3.05, table A3,
 //! OBSERVATION record, A1,I2.2,m(F14.3,I1,I1).
 
 ghost use Rattle.std.specs.Prelude.{◌≡◌, List, ℤ, Option, Some, Ok, drop};
@@ -15,16 +15,16 @@ use std::simd::prelude::*;
 // How many columns are before a field in its lanes, so that the last lane has its last column.
 const BEFORE: usize = CELL_WIDTH - OBSERVATION_WIDTH;
 
-// What the column before an odd one has, where it has no minus. The first column is odd by itself, and a zero
-// in the last column before the point only after a minus.
+// The byte before an odd column, unless that is a minus. The first column is odd by itself, and a zero in the
+// last column before the point only after a minus.
 const AFTER: [u8; CELL_WIDTH] = *b"--0        - ---";
 
-// What an odd column has: a zero, and in the point's column the point.
+// The byte in an odd column: a zero, and in the point's column the point.
 const ODD: [u8; CELL_WIDTH] = *b"000000000000.000";
 
-/// Whether a satellite line is surely what printing gives of it, as nearly every one is: it ends with a field
-/// or an indicator that isn't blank, and no field has a zero in front of its number, no digit before the
-/// point, or a zero after a minus. `false` says nothing.
+/// Returns `true` only if the satellite line is surely its own printed text, as nearly every one is: it ends
+/// with a field or an indicator that isn't blank, and each field has a digit before its point, and no zero
+/// before its number or after a minus. `false` says nothing.
 #[inline(always)]
 pub fn has_printed_form(line: &[u8]) -> bool
     ensures form { OnTrue result ((types : List Count) (row : Row) → row_of types line.now ≡ Ok row → printed_row row ≡ line.now) }
@@ -42,7 +42,7 @@ pub fn has_printed_form(line: &[u8]) -> bool
     true
 }
 
-/// Whether a field, in the last lanes, is surely what printing gives of its value.
+/// Returns `true` only if a field, in the last lanes, is surely the printed text of its value.
 #[inline(always)]
 fn is_printed_field(columns: u8x16) -> bool
     ensures form { OnTrue result ((value : Option ℤ) → observation_of (drop BEFORE columns) ≡ Some value

@@ -27,8 +27,8 @@ pub struct RowBuffer {
     name: [u8; NAME_WIDTH],
     /// How many types the row has.
     count: usize,
-    /// How many of the first cells may have something. All behind them are empty, so that a row costs what
-    /// its line costs, and not what its types cost.
+    /// How many of the first cells may have a value or an indicator. All cells after them are empty, so that
+    /// the cost of a row depends on its line, and not on its types.
     filled: usize,
     values: [Option<i64>; TYPES_LIMIT],
     flags: [u8; 2 * TYPES_LIMIT],
@@ -49,7 +49,8 @@ impl Model for RowBuffer {
 }
 
 impl RowBuffer {
-    /// A buffer before the first line: it has the row of a satellite with one type, whose value is missing.
+    /// Returns a buffer before the first line: it has the row of a satellite with one type, whose value is
+    /// missing.
     pub fn new() -> RowBuffer
         ensures value { result ≡ blank_row (codes "G01") 1 }
     {
@@ -62,12 +63,12 @@ impl RowBuffer {
         }
     }
 
-    /// Reads a satellite line, with the counts of types that the header declared, in place of the row before.
+    /// Reads a satellite line over the row before, with the counts of types that the header declared.
     ///
-    /// `BadSatellite` comes where columns 1 to 3 hold no identifier of a system that has types; then
-    /// `BadField` where a field is neither blank nor a number of format F14.3, or something is after the last
-    /// cell; then `BadFlags` where an indicator is outside the characters 32 to 126, or is `&`. The row after
-    /// a fault means nothing.
+    /// Returns `BadSatellite` if columns 1 to 3 hold no identifier of a system that has types; otherwise
+    /// `BadField` if a field is neither blank nor a number of format F14.3, or more than blanks follow the last
+    /// cell; otherwise `BadFlags` if an indicator is outside the characters 32 to 126, or is `&`. After a fault
+    /// the row may be any row.
     #[inline(always)]
     pub fn read(&mut self, types: &Types, line: Padded<'_>) -> Result<(), Fault>
         ensures ok { OnOk result (row_of types.now (line_in line.entry) ≡ Ok self.new) }
@@ -89,7 +90,7 @@ impl RowBuffer {
                 Fault::BadFlags
             }
         };
-        // As before the first line, with the name and the count, since cells of another count may have been
+        // As before the first line, with the name and the count, because cells of another count may have been
         // read.
         self.name = *b"G01";
         self.count = 1;
@@ -99,7 +100,7 @@ impl RowBuffer {
         Err(fault)
     }
 
-    /// The identifier: the system's letter and the satellite's number.
+    /// Returns the identifier: the system's letter and the satellite's number.
     #[inline(always)]
     pub fn name(&self) -> &[u8; NAME_WIDTH]
         ensures value { result.now ≡ self.now.name }
@@ -108,7 +109,8 @@ impl RowBuffer {
         &self.name
     }
 
-    /// The values, one for each type, in thousandths of its unit; `None` where the observation is missing.
+    /// Returns the values, one for each type, in thousandths of its unit, or `None` if the observation is
+    /// missing.
     #[inline(always)]
     pub fn values(&self) -> &[Option<i64>]
         ensures value { result.now ≡ self.now.values }
@@ -117,7 +119,7 @@ impl RowBuffer {
         &self.values[..self.count]
     }
 
-    /// How many of the first values may be there: those behind them are missing.
+    /// Returns how many of the first values may exist: those after them are missing.
     #[inline(always)]
     pub fn filled(&self) -> usize
         ensures missing { AreMissingFrom result self.now.values }
@@ -125,7 +127,7 @@ impl RowBuffer {
         self.filled
     }
 
-    /// The indicators, two for each type: loss of lock and signal strength.
+    /// Returns the indicators, two for each type: loss of lock and signal strength.
     #[inline(always)]
     pub fn flags(&self) -> &[u8]
         ensures value { result.now ≡ self.now.flags }
@@ -134,8 +136,8 @@ impl RowBuffer {
         &self.flags[..2 * self.count]
     }
 
-    /// How many of the values aren't missing. The loop becomes one of vectors; an iterator's count takes some
-    /// ten instructions for each value.
+    /// Returns how many values aren't missing. The loop is compiled to vectors: no step per value, as an
+    /// iterator's count has.
     pub fn observations(&self) -> usize
         ensures value { result ≡ observations_of self.now }
         ensures within { result ≤ TYPES_LIMIT }
@@ -148,7 +150,7 @@ impl RowBuffer {
         count
     }
 
-    /// Replaces a text by the printed satellite line, without blanks at its end.
+    /// Replaces `text` by the printed satellite line, without blanks at its end.
     pub fn print(&self, text: &mut Text)
         ensures value { text.new ≡ printed_row self.now }
     {
@@ -161,8 +163,8 @@ impl RowBuffer {
     }
 }
 
-/// Whether indicators may all be there. Those that were seen to be so, as their cells were read, aren't
-/// looked at again: a look at many bytes waits until all are stored (some instructions a line less, too).
+/// Returns whether all indicators are allowed. If `is_seen`, this was found when their cells were read, and
+/// they aren't tested again: a load of many bytes waits until all are stored.
 #[inline(always)]
 fn are_kept(is_seen: bool, flags: &[u8]) -> bool
     requires { is_seen ≡ true → list_all is_kept flags.now ≡ true }
@@ -171,10 +173,9 @@ fn are_kept(is_seen: bool, flags: &[u8]) -> bool
     is_seen || all_kept(flags)
 }
 
-/// Reads as many of the cells as the line reaches, and gives how many: the whole ones, and the one that the
-/// line's end cuts. Beside that it gives whether all their indicators were seen to be ones that may be there.
-/// Where all are whole it looks at what is after the last. `None` comes where a field is neither blank nor a
-/// number, or where something is after the last cell.
+/// Reads the cells that the line reaches, the whole ones and the one that the line's end cuts, and returns
+/// their number, and whether all their indicators were seen to be allowed. Returns `None` if a field is neither
+/// blank nor a number, or if more than blanks follow the last cell.
 #[inline(always)]
 fn read_first_cells(
     line: Padded<'_>,
@@ -207,9 +208,9 @@ fn read_first_cells(
     Some((whole + 1, is_seen & is_last_seen))
 }
 
-/// Puts the value and the indicators of a cell's columns at the cell's place, and gives whether these two
-/// were seen to be ones that may be there, as [`obs_read_cell`] does. So all up to them were, where those
-/// before were. `None` comes where its field is neither blank nor a number. The two indicators are one store.
+/// Stores the value and the indicators of cell `k`, and returns whether these two were seen to be allowed, as
+/// [`obs_read_cell`] does. Returns `None` if the field is neither blank nor a number. The two indicators are
+/// one store.
 #[inline(always)]
 pub(crate) fn read_cell(
     cell: u8x16,
@@ -233,7 +234,7 @@ pub(crate) fn read_cell(
     Some(is_seen)
 }
 
-/// The columns after those of the last whole cell: the ones that are behind the line's end are blank.
+/// Returns the columns after the last whole cell, with blanks after the line's end.
 #[inline(always)]
 fn cut_columns(line: Padded<'_>) -> u8x16
     ensures { result ≡ columns (line_in line.entry) (CELL_WIDTH * ((length (line_in line.entry) - NAME_WIDTH) / CELL_WIDTH)
@@ -242,7 +243,7 @@ fn cut_columns(line: Padded<'_>) -> u8x16
     let after_name = line.len().saturating_sub(NAME_WIDTH);
     let left = after_name % CELL_WIDTH;
     let cell = u8x16::from_slice(&line.padded()[after_name - left + NAME_WIDTH..]);
-    // Where the line ends after a field, as most do, no mask is made: 17 instructions a line less.
+    // If the line ends after a field, as most do, no mask is made.
     if left == OBSERVATION_WIDTH {
         return cell.shuffle(
             u8x16::splat(b' '),
@@ -255,8 +256,8 @@ fn cut_columns(line: Padded<'_>) -> u8x16
         .select(cell, u8x16::splat(b' '))
 }
 
-/// Makes the cells between two places empty, so that all cells from the first place on are, where those from
-/// the greater one on were.
+/// Empties the cells from `first` to `end`, so that all cells from `first` on are empty, if those from the
+/// greater one on were.
 #[inline(always)]
 fn empty_cells(first: usize, end: usize, values: &mut [Option<i64>], flags: &mut [u8])
     requires others { AreEmptyFrom (max first end) values.old flags.old }

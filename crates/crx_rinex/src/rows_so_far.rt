@@ -1,4 +1,4 @@
-//! The rows of an epoch that have come, which contracts alone read.
+//! The rows of an epoch that have been read, for contracts only.
 
 ghost use Rattle.std.specs.Prelude.{◌≡◌, ◌++◌, ◌∷◌, [], List};
 ghost use Rattle.std.specs.Borrow.{ftrue};
@@ -7,7 +7,7 @@ ghost use Rattle.crx_rinex.specs.meaning.Observations.{Row};
 use crate::row_buffer::RowBuffer;
 use std::marker::{Model, PhantomData};
 
-/// The rows of an epoch that have come. It takes no memory, and its methods do nothing at run time.
+/// The rows of an epoch that have been read. It takes no memory, and its methods do nothing at run time.
 #[derive(Drop)]
 pub struct RowsSoFar {
     marker: PhantomData<u8>,
@@ -19,7 +19,7 @@ impl Model for RowsSoFar {
 }
 
 impl RowsSoFar {
-    /// No rows.
+    /// Returns an empty list of rows.
     pub fn new() -> RowsSoFar
         ensures rows { result.rows ≡ [] }
     {
@@ -28,7 +28,7 @@ impl RowsSoFar {
         }
     }
 
-    /// Adds a row after those that are there.
+    /// Adds a row after the others.
     #[inline(always)]
     pub fn add(&mut self, _row: &RowBuffer)
         ensures rows { self.new.rows ≡ self.old.rows ++ _row.now ∷ [] }

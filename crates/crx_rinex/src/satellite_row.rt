@@ -51,10 +51,10 @@ impl SatRow {
     /// Reads a satellite line of any length, with the counts of types that the header declared (RINEX 3.05,
     /// table A3).
     ///
-    /// `BadSatellite` comes where columns 1 to 3 hold no identifier (a letter that has types, a digit or a
-    /// blank, a digit); then `OutOfMemory`; then `BadField` where a field is neither blank nor a number of
-    /// format F14.3, or something is after the last cell; then `BadFlags` where an indicator is outside the
-    /// characters 32 to 126, or is `&`.
+    /// Returns `BadSatellite` if columns 1 to 3 hold no identifier (a letter that has types, a digit or a
+    /// blank, a digit); otherwise `OutOfMemory` if memory is refused; otherwise `BadField` if a field is
+    /// neither blank nor a number of format F14.3, or more than blanks follow the last cell; otherwise
+    /// `BadFlags` if an indicator is outside the characters 32 to 126, or is `&`.
     pub fn read(alloc: Global, types: &Types, line: &[u8]) -> Result<SatRow, Fault>
         ensures ok { IfOk result (λ row. row_of types.now line.now ≡ Ok row) }
         ensures sound { IfOk result IsSoundRow }
@@ -86,7 +86,7 @@ impl SatRow {
         })
     }
 
-    /// A row of m missing values, with blank indicators. `OutOfMemory` is its one refusal.
+    /// Returns a row of `m` missing values, with blank indicators, or `OutOfMemory`, its only error.
     pub fn blank(alloc: Global, name: [u8; NAME_WIDTH], m: usize) -> Result<SatRow, Fault>
         requires named { is_identifier name ≡ true }
         requires allowed { IsAllowedCount m }
@@ -101,7 +101,7 @@ impl SatRow {
         })
     }
 
-    /// The identifier: the system's letter and the satellite's number.
+    /// Returns the identifier: the system's letter and the satellite's number.
     pub fn name(&self) -> [u8; NAME_WIDTH]
         ensures value { result ≡ self.now.name }
         ensures sound { IsSoundRow self.now }
@@ -109,8 +109,8 @@ impl SatRow {
         self.name
     }
 
-    /// The value of type k, from 0, in thousandths of its unit: `Some(None)` where the observation is
-    /// missing, `None` from the count of types on.
+    /// Returns the value of type `k`, from 0, in thousandths of its unit: `Some(None)` if the observation is
+    /// missing, and `None` from the count of types on.
     pub fn value(&self, k: usize) -> Option<Option<i64>>
         ensures value { result ≡ slice_get self.now.values k }
         ensures sound { IsSoundRow self.now }
@@ -118,7 +118,7 @@ impl SatRow {
         self.values.get(k).copied()
     }
 
-    /// The values, one for each type, as [`SatRow::value`] gives them.
+    /// Returns the values, one for each type, as [`SatRow::value`] does.
     pub fn values(&self) -> &[Option<i64>]
         ensures value { result.now ≡ self.now.values }
         ensures sound { IsSoundRow self.now }
@@ -126,7 +126,7 @@ impl SatRow {
         &self.values
     }
 
-    /// The indicators, two for each type: loss of lock and signal strength.
+    /// Returns the indicators, two for each type: loss of lock and signal strength.
     pub fn flags(&self) -> &[u8]
         ensures value { result.now ≡ self.now.flags }
         ensures sound { IsSoundRow self.now }
@@ -134,7 +134,7 @@ impl SatRow {
         &self.flags
     }
 
-    /// Replaces the value of type k, from 0.
+    /// Replaces the value of type `k`, from 0.
     pub fn set(&mut self, k: usize, value: Option<i64>)
         requires within { k < length self.old.values }
         requires ranged { ForSome value IsObservation }
@@ -143,7 +143,7 @@ impl SatRow {
         self.values[k] = value;
     }
 
-    /// Replaces the indicators: those past the given ones become blank.
+    /// Replaces the indicators; those after `flags` become blank.
     pub fn set_flags(&mut self, flags: &[u8])
         requires fitting { length flags.now ≤ 2 * length self.old.values }
         requires kept { list_all is_kept flags.now ≡ true }
@@ -152,7 +152,7 @@ impl SatRow {
         put_flags(&mut self.flags, flags);
     }
 
-    /// Replaces a text by the printed satellite line, without blanks at its end.
+    /// Replaces `text` by the printed satellite line, without blanks at its end.
     pub fn print(&self, text: &mut Text)
         ensures value { text.new ≡ printed_row self.now }
         ensures sound { IsSoundRow self.now }
@@ -161,7 +161,7 @@ impl SatRow {
     }
 }
 
-/// Returns `m` missing values, and two blank indicators for each.
+/// Returns `m` missing values, and two blank indicators for each, or `Refused` if memory is refused.
 fn blank_cells(alloc: Global, m: usize) -> Result<(Vec<Option<i64>>, Vec<u8>), Refused>
     requires allowed { m ≤ TYPES_LIMIT }
     ensures values { IfOk result (λ cells. cells.0.items ≡ replicate m None) }
@@ -177,7 +177,7 @@ fn blank_cells(alloc: Global, m: usize) -> Result<(Vec<Option<i64>>, Vec<u8>), R
     Ok((values, flags))
 }
 
-/// Replaces a text by the printed line of a row, without blanks at its end.
+/// Replaces `text` by the printed line of a row, without blanks at its end.
 pub(crate) fn print_row(
     name: [u8; NAME_WIDTH],
     values: &[Option<i64>],
@@ -193,8 +193,8 @@ pub(crate) fn print_row(
     text.trim_end_blanks();
 }
 
-/// Prints cells in place of the bytes from an index on, each value in its columns, and its two indicators,
-/// and gives the index after them.
+/// Prints cells over the bytes from `at` on, each value in its columns, and its two indicators, and returns the
+/// index after them.
 fn print_cells(values: &[Option<i64>], flags: &[u8], bytes: &mut [u8], at: usize) -> usize
     requires ranged { All IsValue values.now }
     requires paired { length flags.now ≡ 2 * length values.now }

@@ -10,8 +10,8 @@ use Rattle.crx_base.specs.declared.fault.Fault.TheVariants.{NotAnEpoch, BadEpoch
 use Rattle.crx_header.specs.meaning.InOrder.{◌otherwise◌next◌, ◌or_else◌with◌}
 use Rattle.crx_header.specs.meaning.EpochColumns.{begins_epoch, is_event_flag, records_in, epoch_count}
 
--- what a line that begins with > stands for: an event with its flag and the count of its records, or an observation
--- epoch with columns 1 to 41, the count of its satellites, and the receiver clock offset
+-- the meaning of a line that begins with >: an event with its flag and the count of its records, or an
+-- observation epoch with columns 1 to 41, the count of its satellites, and the receiver clock offset
 pub data HeadLine : Type 0 where
   EventHead : ℕ → ℕ → HeadLine
   EpochHead : List ℕ → ℕ → Option ℤ → HeadLine
@@ -30,8 +30,8 @@ epoch_head line satellites =
     clock_of (columns line (HEAD_WIDTH + 1) CLOCK_WIDTH) or_else Err BadClock with λ clock.
     Ok (EpochHead (columns line 1 HEAD_WIDTH) count clock)
 
--- what is in a line where an epoch may begin, or its first fault: no >, then the flag, the count and the columns,
--- then the clock
+-- the meaning of a line where an epoch may begin, or its first fault: no >, then the flag, the count and the
+-- columns, then the clock
 abbrev pub head_of : List ℕ → Result HeadLine Fault
 head_of line =
     begins_epoch line otherwise Err NotAnEpoch next
@@ -49,7 +49,7 @@ pub record ObservationHead : Type 0 where
 abbrev pub IsClockOffset : Option ℤ → Type 0
 IsClockOffset clock = IsMissingOrWithin CLOCK_WIDTH clock
 
--- what is true of every observation epoch's line: its columns are those of one, and its clock fits its columns
+-- true of every observation epoch's line: its columns are those of one, and its clock fits its columns
 pub record IsObservationHead (line : ObservationHead) : Type 0 where
   pub width : length line.head ≡ HEAD_WIDTH
   pub counted : epoch_count line.head ≡ Some line.count

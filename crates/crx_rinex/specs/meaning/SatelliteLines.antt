@@ -34,7 +34,7 @@ abbrev pub flags_at : List ℕ → ℕ → List ℕ
 flags_at line k = character_at line (CELL_WIDTH * k + (NAME_WIDTH + OBSERVATION_WIDTH + 1))
     ∷ character_at line (CELL_WIDTH * k + (NAME_WIDTH + OBSERVATION_WIDTH + 2)) ∷ []
 
--- those of each of m types
+-- the indicators of each of m types
 abbrev pub flags_in : ℕ → List ℕ → List ℕ
 flags_in m line = concat (each_place m (flags_at line))
 
@@ -55,8 +55,9 @@ row_of_types line types =
 abbrev pub row_of : List Count → List ℕ → Result Row Fault
 row_of types line = row_of_types line (types_of_satellite types line)
 
--- what is true of every row: its identifier has the form of one; it has as many values as a system may have types, each
--- within its columns; and two indicators for each, of the characters that may be there
+-- true of every row: its identifier has the form of one; the number of its values is allowed for the types of a
+-- system, and each value is within its columns; and it has two indicators for each value, of the allowed
+-- characters
 pub record IsSoundRow (row : Row) : Type 0 where
   pub named : is_identifier row.name ≡ true
   pub counted : IsAllowedCount (length row.values)

@@ -7,7 +7,7 @@ use Rattle.crx_rinex.proofs.row_buffer.read_first_cells.Goals.{Joined-not-branch
 use Rattle.crx_rinex.proofs.row_buffer.read_first_cells.Goals.{then-not-branch, else-not-branch}
 use Rattle.crx_rinex.proofs.row_buffer.read_first_cells.Goals as goal
 
--- with one cell more all were seen where the cell's were
+-- with one more cell all indicators were seen, if the cell's were
 seen : (c : Joined-not-branch) → AreSeen c.if-not-branch.is_seen (c.loop-k.k + 1) c.read_cell.new.flags
 seen c = elim c.if-not-branch.branch [
   | then-not-branch w ↦ grind (arith, common_steps)

@@ -2,7 +2,7 @@ use Rattle.std.proofs.Common.{◌≡◌, ◌+◌, ◌*◌, ◌++◌, length, dro
 use Rattle.crx_text.specs.meaning.PrintedCells.{printed_cells}
 use Rattle.crx_rinex.proofs.satellite_row.print_cells.Given as goal
 
--- the cells that are left complete the bytes up to the end
+-- the remaining cells complete the bytes up to the end
 abbrev pub invariant-loop-k : goal.invariant-loop-k
 invariant-loop-k l = record {
   cells : take l.end l.bytes ++ printed_cells (drop l.k l.values) (drop (2 * l.k) l.flags)

@@ -1,5 +1,5 @@
--- An empty body. The borrow is opened, and closed at another list. The row behind the second reference is
--- read by contracts alone.
+-- An empty body. The borrow is opened, and closed at another list. Only contracts read the row of the second
+-- reference.
 use Rattle.std.proofs.Common.{List, [], ◌∷◌, ◌++◌, refl}
 use mir.{Syntax.named, Val.{Val, vunit, vptr}}
 use base.{Fml.{ftrue, flft}, Logic.{SProp, id⊢}}

@@ -1,4 +1,4 @@
--- `new` makes a value of no rows, at the empty list.
+-- `new` makes a value without rows, at the empty list.
 use mathlib.Core.{List.{[], ◌∷◌}, Path.refl}
 use mir.Val.{Val, vstruct, vcons, vnil}
 use types.{ByLocal.{alloc_all, pass_all, free_all, look_at, get, sets}, Kit.{raw, ◌$◌, ◌∵◌, !, qed, keep}}

@@ -11,7 +11,7 @@ before c = record {
   flags = c.self.inside.flags.items;
 }
 
--- the indicators are those that were given, and blanks
+-- the indicators are `flags`, and blanks after them
 whole : (c : goal.After-self-1) → take c.self.inside.flags.len (c.put_flags.new.held ++ drop
     (length c.put_flags.new.held) c.self.inside.flags.items) ≡ c.args.flags.now ++ replicate
     (2 * length (before c).values - length c.args.flags.now) 32
