@@ -1,4 +1,4 @@
--- The kinds of error that a parse may have at some words come to one plan: help is never among others.
+-- The kinds of error that a parse may have at some words lead to one plan: help is never one of several.
 use Rattle.std.proofs.{Common.rules, Math.Bool.and-false}
 use Rattle.std.proofs.lemmas.Grind.{common_steps}
 use Rattle.std.proofs.Common.{arith, ◌≡◌, ℕ, Bool, zero, suc, true, cond, refl}
@@ -19,7 +19,7 @@ use Rattle.clap.specs.{declared.builder.{ArgAction.ArgAction, ValueParser.ValueP
 use Rattle.clap.specs.declared.error.ErrorKind.{ErrorKind}
 use Rattle.crx_command.specs.meaning.{Commands.program, Planning.{Plan, by_kind, by_kinds}}
 
--- each of the kinds comes to the plan of the first
+-- each of the kinds leads to the plan of the first
 pub record Alike (kinds : Kinds) : Type 0 where
   pub same : (k : ErrorKind) (plan : Plan) → IsAmong k kinds → by_kind k ≡ by_kinds kinds plan
 

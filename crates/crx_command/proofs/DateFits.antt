@@ -10,7 +10,7 @@ use Rattle.jiff.specs.{Types.DateTime, declared.timestamp.Timestamp.Timestamp}
 use Rattle.crx_base.specs.meaning.{Choices.is_date, Lines.is_printable}
 use Rattle.crx_command.specs.meaning.Dates.{IsDateOf, date_text_of, two_digits}
 
--- a text of so many bytes at most, each printable
+-- a text of at most `most` bytes, each printable
 record Fits (most : ℕ) (text : List ℕ) : Type 0 where
   short : length text ≤ most
   printable : list_all is_printable text ≡ true
@@ -42,7 +42,7 @@ month_ends = grind arith
 pub date_fits : (at : DateTime) → is_date (date_text_of at) ≡ true
 date_fits = search (rules, three, named, month_ends, digits, joined, nat_le, le-leb)
 
--- the date of a run that has none among its words
+-- the date of a run that has none among its arguments
 pub default_fits : (moment : Option Timestamp) (text : List ℕ) → IsDateOf moment text → is_date text ≡ true
 default_fits None text none = ap is_date none
 default_fits (Some at) text h = ap is_date h.2 ∙ date_fits h.0

@@ -1,4 +1,4 @@
--- The date of a job that words ask for fits its columns.
+-- The date of a job that arguments lead to fits its columns.
 use Rattle.std.proofs.lemmas.Grind.{common_steps}
 use Rattle.std.proofs.Common.{arith, ◌≡◌, ◌∙◌, ap, true, Bool, ℕ, List, Option}
 use Rattle.std.specs.Option.{option_map_or}
@@ -8,7 +8,7 @@ use Rattle.crx_command.specs.{declared.job.{Job.Job, Tool.Tool}, meaning.{Comman
 use Rattle.crx_command.specs.meaning.Planning.{Plan, Help, Run, Refused, by_kinds, decide}
 use Rattle.crx_command.specs.meaning.Planning.{of_subcommand, plan_of}
 
--- whether the date of a plan fits, where it has one
+-- whether the date of a plan fits, if it has one
 abbrev date_is : Option (List ℕ) → Bool
 date_is date = option_map_or is_date date true
 

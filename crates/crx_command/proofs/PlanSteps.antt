@@ -1,4 +1,4 @@
--- From what the parser of command lines answers to a plan.
+-- From the parser's answer to a plan.
 use Rattle.std.proofs.Common.{arith, ◌≡◌, ◌≢◌, refl, Option, Some, option_map, true}
 use Rattle.std.{proofs.lemmas.Option.none-some}
 use Rattle.clap.{proofs.OnLiterals.clap_on_literals, specs.{Faults.is_simple_and_free, Kinds.HasKind}}

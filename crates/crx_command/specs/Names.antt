@@ -1,4 +1,4 @@
--- Beside meaning/Names: what code and proofs see of it.
+-- In addition to meaning/Names: how code and proofs see it.
 use Rattle.crx_command.specs.declared.names.Ending.{Ending}
 use Rattle.crx_command.specs.meaning.Names.{Renaming}
 

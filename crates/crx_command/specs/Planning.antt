@@ -1,4 +1,4 @@
--- Beside meaning/Planning: what code and proofs see of it.
+-- In addition to meaning/Planning: how code and proofs see it.
 use Rattle.std.specs.Prelude.{Option, Some, None, Result, Ok, Err, option_map}
 use Rattle.crx_command.specs.declared.job.Decision.{Decision}
 use Rattle.crx_command.specs.declared.plan.Arguments.{Arguments}
@@ -19,7 +19,7 @@ given_of a = record {
   date = option_map (λ date. date.now) a.date;
 }
 
--- the plan in an answer, where it isn't that memory ran out
+-- the plan in an answer, unless memory ran out
 abbrev pub plan_in : Result Decision UsageFault → Option Plan
 plan_in (Ok (decision.Help text)) = Some Help
 plan_in (Ok (decision.Run job)) = Some (Run job)

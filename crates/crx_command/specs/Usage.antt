@@ -1,10 +1,10 @@
--- Beside meaning/ErrorLines: what a fault of the arguments shows of itself.
+-- In addition to meaning/ErrorLines: how a fault of the arguments shows itself.
 use Rattle.std.specs.Prelude.{ℕ, List, [], codes}
 use Rattle.crx_command.specs.declared.job.UsageFault.{UsageFault}
 use Rattle.crx_command.specs.declared.job.UsageFault.TheVariants as usage_fault
 
--- what is wrong, as the value shows it of itself, and the text or the name after it. Of words that the parser refuses,
--- and where memory ran out, the program shows another line
+-- the words of the fault, and the text or the name after them. If the parser refuses the arguments, or memory
+-- ran out, the program shows another line
 abbrev pub words_of_usage : UsageFault → List ℕ
 words_of_usage (usage_fault.Parse text) = []
 words_of_usage usage_fault.DashTwice = codes "- given twice"

@@ -91,7 +91,7 @@ const COMPACT_FILE: &str = "At most one compact file, and `-`, in any order";
 
 const CHECKED_FILE: &str = "At most one observation file, and `-`, which changes nothing";
 
-/// `-e N`.
+/// Returns the option `-e N`.
 fn every_option<'a>(alloc: Global) -> Arg<'a>
     ensures { HasRule result every_rule }
 {
@@ -102,7 +102,7 @@ fn every_option<'a>(alloc: Global) -> Arg<'a>
         .help("Start everything anew at every N epochs, at most 1000000")
 }
 
-/// `--date TEXT`.
+/// Returns the option `--date TEXT`.
 fn date_option<'a>(alloc: Global) -> Arg<'a>
     ensures { HasRule result date_rule }
 {
@@ -112,7 +112,7 @@ fn date_option<'a>(alloc: Global) -> Arg<'a>
         .help("The date in line 2, at most 20 bytes [default: now]")
 }
 
-/// `-` and a file's name, in any order.
+/// Returns the argument of `-` and a file's name, in any order.
 fn names_of_files<'a>(alloc: Global, help: &'a str) -> Arg<'a>
     ensures { HasRule result names_rule }
 {
@@ -123,14 +123,14 @@ fn names_of_files<'a>(alloc: Global, help: &'a str) -> Arg<'a>
         .help(help)
 }
 
-/// A command without arguments: its name, what it does, and more help.
+/// Returns a command without arguments: its name, a line about it, and more help.
 fn titled<'a>(alloc: Global, name: &'a str, about: &'a str, help: &'a str) -> Command<'a>
     ensures { app_of result ≡ new_app name.now }
 {
     Command::new(alloc, name).about(about).after_help(help)
 }
 
-/// A flag of one letter.
+/// Returns a flag of one letter.
 fn flag<'a>(alloc: Global, id: &'a str, letter: char, help: &'a str) -> Arg<'a>
     ensures { HasRule result (flag_rule id.now letter) }
 {
@@ -140,7 +140,7 @@ fn flag<'a>(alloc: Global, id: &'a str, letter: char, help: &'a str) -> Arg<'a>
         .help(help)
 }
 
-/// A command with `-s` and `-f` after its other arguments.
+/// Adds `-s` and `-f` to a command after its other arguments, or returns `AllocError` if memory is refused.
 fn with_flags<'a>(alloc: Global, command: Command<'a>) -> Result<Command<'a>, AllocError>
     ensures { IfOk result (λ c. app_of c ≡ with_rule (with_rule (app_of command.entry)
         (flag_rule (codes "skip") 115)) (flag_rule (codes "force") 102)) }
@@ -160,7 +160,7 @@ fn with_flags<'a>(alloc: Global, command: Command<'a>) -> Result<Command<'a>, Al
         ))
 }
 
-/// `rnx2crx`.
+/// Returns the subcommand `rnx2crx`, or `AllocError` if memory is refused.
 fn rnx2crx<'a>(alloc: Global) -> Result<Command<'a>, AllocError>
     ensures { IfOk result (λ c. shape_of c ≡ rnx2crx) }
 {
@@ -172,7 +172,7 @@ fn rnx2crx<'a>(alloc: Global) -> Result<Command<'a>, AllocError>
         .arg(names_of_files(alloc, OBSERVATION_FILE))
 }
 
-/// `crx2rnx`.
+/// Returns the subcommand `crx2rnx`, or `AllocError` if memory is refused.
 fn crx2rnx<'a>(alloc: Global) -> Result<Command<'a>, AllocError>
     ensures { IfOk result (λ c. shape_of c ≡ crx2rnx) }
 {
@@ -182,7 +182,7 @@ fn crx2rnx<'a>(alloc: Global) -> Result<Command<'a>, AllocError>
     with_flags(alloc, start)?.arg(names_of_files(alloc, COMPACT_FILE))
 }
 
-/// `check`.
+/// Returns the subcommand `check`, or `AllocError` if memory is refused.
 fn checker<'a>(alloc: Global) -> Result<Command<'a>, AllocError>
     ensures { IfOk result (λ c. shape_of c ≡ checker) }
 {
@@ -191,8 +191,8 @@ fn checker<'a>(alloc: Global) -> Result<Command<'a>, AllocError>
         .arg(names_of_files(alloc, CHECKED_FILE))
 }
 
-/// The whole command line: `rnx2crx`, `crx2rnx` and `check`, each with its options and its help. The
-/// arguments come without the program's name.
+/// Returns the whole command line, or `AllocError` if memory is refused: `rnx2crx`, `crx2rnx` and `check`, each
+/// with its options and its help. Its arguments don't include the program's name.
 pub(crate) fn command<'a>(alloc: Global) -> Result<Command<'a>, AllocError>
     ensures { IfOk result (λ c. app_of c ≡ program) }
 {

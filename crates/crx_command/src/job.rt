@@ -1,4 +1,4 @@
-//! What the arguments can ask for.
+//! Decisions that arguments can lead to.
 
 ghost use Rattle.std.specs.Prelude.{◌≡◌};
 ghost use Rattle.crx_command.specs.declared.job.UsageFault.TheVariants as usage_fault;
@@ -9,7 +9,7 @@ use crx_base::Refused;
 use std::alloc::AllocError;
 use thiserror::Error;
 
-/// What the program can do.
+/// A tool of the program.
 #[derive(Clone, Copy, Debug, PartialEq, Eq)]
 pub enum Tool {
     /// Compacts a RINEX 3.0x observation file.
@@ -23,23 +23,23 @@ pub enum Tool {
 /// One run of the program.
 #[derive(Debug, Drop)]
 pub struct Job {
-    /// What is to be done.
+    /// The tool that runs.
     pub tool: Tool,
-    /// The file that is read; `None` for standard input.
+    /// The file to read, or `None` for standard input.
     pub source: Option<Word>,
-    /// The file that is written; `None` for standard output.
+    /// The file to write, or `None` for standard output.
     pub target: Option<Word>,
-    /// Whether a file that exists is overwritten.
+    /// Whether an existing file is overwritten.
     pub force: bool,
-    /// At every how many epochs one is in full; `None` where only those are that must be.
+    /// One epoch in this number of epochs is full; `None` if only those are full that must be.
     pub every: Option<u32>,
     /// Whether an epoch with a fault is skipped with a warning.
     pub skip: bool,
-    /// The date of the second line of Compact RINEX 3.0; `None` for the date of the run.
+    /// The date in the second line of Compact RINEX 3.0; `None` for the date of the run.
     pub date: Option<Word>,
 }
 
-/// What the arguments ask for.
+/// The decision that arguments lead to.
 #[derive(Debug, Drop)]
 pub enum Decision {
     /// To show this help text.
@@ -48,14 +48,14 @@ pub enum Decision {
     Run(Job),
 }
 
-/// Why the arguments ask for nothing that can be done.
+/// The reason for refusing arguments.
 #[derive(Debug, Drop, Error)]
 #[error("{}{}", self.words(), self.subject())]
 pub enum UsageFault {
-    /// The arguments aren't those of the program, or an option's value isn't one that it takes. It holds
-    /// the text for the user.
+    /// The arguments aren't those of the program, or an option doesn't take its value. Holds the text for the
+    /// user.
     Parse(Word),
-    /// `-` is there twice.
+    /// `-` is given twice.
     DashTwice,
     /// There is more than one file name.
     TwoFiles,
@@ -68,7 +68,7 @@ pub enum UsageFault {
 }
 
 impl UsageFault {
-    /// What is wrong, in words for the user; of `Parse` nothing, since its text says all.
+    /// Returns the words for the user, which are empty for `Parse`, because its text says everything.
     pub fn words(&self) -> &'static str
         ensures value { result.now ≡ words_of_usage self.now }
     {
@@ -82,7 +82,8 @@ impl UsageFault {
         }
     }
 
-    /// The text or the name that it holds, which is after what is wrong; empty where it holds none.
+    /// Returns the text or the name that the fault holds, which follows the words, or an empty text if it holds
+    /// none.
     pub fn subject(&self) -> &str
         ensures value { result.now ≡ subject_of_usage self.now }
     {
@@ -102,7 +103,7 @@ impl From<Refused> for UsageFault {
     }
 }
 
-/// For clap's refusals, which come as `AllocError`.
+/// For clap's refusals, which are `AllocError`s.
 impl From<AllocError> for UsageFault {
     ghost from_gives = { λ _ fault. fault ≡ usage_fault.Memory };
 

@@ -1,4 +1,4 @@
-//! The command line: what the program's arguments ask for.
+//! The command line: from the program's arguments to a decision.
 #![tactic(auto)]
 
 pub mod command;

@@ -1,4 +1,4 @@
-//! The name of the output file, made from that of the input file.
+//! The name of the output file, made from the name of the input file.
 
 ghost use Rattle.std.specs.Prelude.{◌≡◌, IfOk};
 ghost use Rattle.crx_command.specs.meaning.Names.{ends_in_year, output_name};
@@ -8,7 +8,7 @@ use crate::word::Word;
 use crx_base::Refused;
 use std::alloc::Global;
 
-/// An ending of a file that is read, and the one of the file that is written from it.
+/// An ending of an input file, and the ending of its output file.
 struct Ending {
     old: &'static str,
     new: &'static str,
@@ -62,7 +62,7 @@ static EXPANDING: [Ending; 4] = [
     },
 ];
 
-/// Whether the last three bytes are a point and two digits.
+/// Returns whether the last three bytes are a point and two digits.
 fn ends_in_year(stem: &str) -> bool
     ensures { result ≡ ends_in_year stem.now }
 {
@@ -75,11 +75,11 @@ fn ends_in_year(stem: &str) -> bool
     }
 }
 
-/// The name of the output file: that of the input file with another ending.
+/// Returns the name of the output file: the name of the input file with another ending.
 ///
-/// `rnx2crx` makes `.crx` of `.rnx`, `.CRX` of `.RNX`, and after a point and a year in two digits
-/// `d` of `o` and `D` of `O`, as `abcd0010.24d` of `abcd0010.24o`; `crx2rnx` goes the other way.
-/// `None` comes for any other name, and for each name with `check`.
+/// `rnx2crx` makes `.crx` of `.rnx`, `.CRX` of `.RNX`, and after a point and a year in two digits `d` of `o`
+/// and `D` of `O`, for example `abcd0010.24d` of `abcd0010.24o`; `crx2rnx` does the opposite. Returns `None`
+/// for any other name, and for each name with `check`, and `Refused` if memory is refused.
 pub fn output_name(alloc: Global, tool: Tool, name: &str) -> Result<Option<Word>, Refused>
     ensures value { IfOk result (λ target. target ≡ output_name tool name.now) }
 {

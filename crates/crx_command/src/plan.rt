@@ -1,4 +1,4 @@
-//! From the arguments to what is to be done.
+//! From the arguments to a decision.
 
 ghost use Rattle.std.specs.Prelude.{◌≡◌, IfOk, IfSome, drop, find, map, option_map, string_bytes};
 ghost use Rattle.std.specs.Vec.Iter.{into_iter_items};
@@ -16,12 +16,12 @@ use crx_base::{Options, Refused};
 use std::alloc::{AllocError, Global};
 use std::env::Args;
 
-/// What is after a subcommand.
+/// The arguments after a subcommand.
 #[derive(Clone, Copy)]
 struct Arguments<'a> {
-    /// How often `-` is there.
+    /// How often `-` is given.
     dashes: usize,
-    /// How many names of files are there, and the first of them.
+    /// How many names of files are given, and the first of them.
     files: usize,
     file: Option<&'a str>,
     every: Option<u32>,
@@ -30,7 +30,7 @@ struct Arguments<'a> {
     date: Option<&'a str>,
 }
 
-/// The first name that isn't `-`.
+/// Returns the first name that isn't `-`.
 fn file_among<'a>(names: &[&'a str]) -> Option<&'a str>
     ensures { option_map (λ name. name.now) result ≡ find is_file (map (λ name. name.now) names.now) }
 {
@@ -42,7 +42,7 @@ fn file_among<'a>(names: &[&'a str]) -> Option<&'a str>
     None
 }
 
-/// Whether a flag was given.
+/// Returns whether a flag was given.
 fn is_set(found: &ArgMatches<'_>, flag: &str) -> bool
     ensures { result ≡ is_set flag.now (rows_of (found_of found.now)) }
 {
@@ -52,7 +52,7 @@ fn is_set(found: &ArgMatches<'_>, flag: &str) -> bool
     }
 }
 
-/// What is after a subcommand.
+/// Returns the arguments after a subcommand.
 fn arguments_of<'a>(found: &ArgMatches<'a>) -> Arguments<'a>
     ensures { given_of result ≡ given_in (rows_of (found_of found.now)) }
 {
@@ -69,7 +69,7 @@ fn arguments_of<'a>(found: &ArgMatches<'a>) -> Arguments<'a>
     }
 }
 
-/// A copy of a text, where there is one.
+/// Returns a copy of a text, if there is one.
 fn copied(alloc: Global, text: Option<&str>) -> Result<Option<Word>, Refused>
     ensures { IfOk result (λ word. word ≡ option_map (λ text. text.now) text.entry) }
 {
@@ -79,7 +79,7 @@ fn copied(alloc: Global, text: Option<&str>) -> Result<Option<Word>, Refused>
     }
 }
 
-/// The run that the arguments ask for, with its input and its output.
+/// Returns the run of a tool with these arguments, its input and its output.
 fn job(
     alloc: Global,
     tool: Tool,
@@ -101,7 +101,7 @@ fn job(
     })
 }
 
-/// What the arguments of a subcommand ask for: the first refusal that fits, else the run.
+/// Returns the decision for a subcommand's arguments: the first refusal that fits, otherwise the run.
 fn decide_for(alloc: Global, tool: Tool, given: &Arguments<'_>) -> Result<Decision, UsageFault>
     ensures { IfSome (plan_in result) (λ plan. plan ≡ decide tool (given_of given.now)) }
 {
@@ -140,24 +140,24 @@ fn tool_named(name: &str) -> Tool
     }
 }
 
-/// All arguments of a process but the first, which is the program's name: in order, and each once.
+/// Returns all arguments of a process except the first, which is the program's name: in order, and each once.
 pub fn words_given(alloc: Global, arguments: Args) -> Result<Vec<String>, AllocError>
     ensures words { IfOk result (λ words. words.items ≡ drop 1 (into_iter_items arguments)) }
 {
     arguments.skip(1).collect(alloc)
 }
 
-/// What the arguments ask for; they come without the program's name.
+/// Returns the decision for the arguments, which don't include the program's name.
 ///
-/// `Help` holds the help that `-h` or `--help` asks for. Arguments that aren't those of the command
-/// line are `Parse`, with the text for the user. Then come, in this order: `DashTwice` where `-` is
-/// more than once, `TwoFiles` where there is more than one file name, `BadDate` where the date has
-/// more than `DATE_LIMIT` bytes or a byte outside 32 to 126, and `NoName` where the output would go to a file
-/// but the input's name has no ending that can be changed (see [`output_name`]). `Memory` comes where
-/// the system refused memory, at any of these places.
+/// `Help` holds the help of `-h` or `--help`. Returns `Parse`, with the text for the user, if the arguments
+/// aren't those of the command line. Otherwise the first of these faults is returned: `DashTwice` if `-` is
+/// given more than once, `TwoFiles` if there is more than one file name, `BadDate` if the date has more than
+/// `DATE_LIMIT` bytes or a byte outside 32 to 126, and `NoName` if the output would go to a file but the
+/// input's name has no ending that can be changed (see [`output_name`]). At any of these places `Memory` is
+/// returned if memory is refused.
 ///
-/// Without a file name standard input is read. `check`, and the others without a file name or with
-/// `-`, write to standard output.
+/// Without a file name standard input is read. `check`, and the others without a file name or with `-`, write
+/// to standard output.
 #[inline(never)]
 pub fn plan(alloc: Global, words: Vec<String>) -> Result<Decision, UsageFault>
     ensures value { IfSome (plan_in result) (λ plan. plan ≡ plan_of (map string_bytes words.items)) }

@@ -1,4 +1,4 @@
-//! Texts that come from the command line or go to the user.
+//! Texts from the command line, or for the user.
 
 ghost use Rattle.std.specs.Prelude.{◌≡◌, ◌++◌, IfOk};
 ghost use Rattle.crx_command.specs.meaning.ErrorLines.{error_line};
@@ -9,7 +9,7 @@ use std::alloc::{AllocError, Global};
 use std::fmt;
 use std::marker::Model;
 
-/// A text, as a file's name or a help text. Contracts see it as its bytes.
+/// A text, such as a file's name or a help text. Contracts see its bytes.
 #[derive(Debug, Drop)]
 pub struct Word {
     text: String,
@@ -24,14 +24,14 @@ impl Model for Word {
 }
 
 impl Word {
-    /// A copy of a text.
+    /// Returns a copy of a text, or `Refused` if memory is refused.
     pub fn new(alloc: Global, text: &str) -> Result<Word, Refused>
         ensures value { IfOk result (λ w. w ≡ text.now) }
     {
         Word::joined(alloc, text, "")
     }
 
-    /// A text with another one after it.
+    /// Returns `start` followed by `end`, or `Refused` if memory is refused.
     pub fn joined(alloc: Global, start: &str, end: &str) -> Result<Word, Refused>
         ensures value { IfOk result (λ w. w ≡ start.now ++ end.now) }
     {
@@ -41,7 +41,8 @@ impl Word {
         Ok(Word { text })
     }
 
-    /// The line of an error, as `ERROR: file exists: a.crx`, with its LF: what is wrong, and a name.
+    /// Returns the line of an error, as `ERROR: file exists: a.crx`, with its LF: its words and a name. Returns
+    /// `Refused` if memory is refused.
     pub fn error_line(alloc: Global, words: &str, name: &str) -> Result<Word, Refused>
         ensures value { IfOk result (λ w. w ≡ error_line words.now name.now) }
     {
@@ -53,14 +54,14 @@ impl Word {
         Ok(Word { text })
     }
 
-    /// Returns the text that clap shows for an error or for its help; the refusal is clap's.
+    /// Returns the text that clap shows for an error or for its help, or clap's refusal.
     pub fn shown<T: fmt::Display>(alloc: Global, value: &T) -> Result<Word, AllocError> {
         Ok(Word {
             text: format!(in alloc; "{value}")?,
         })
     }
 
-    /// The text.
+    /// Returns the text.
     pub fn text(&self) -> &str
         ensures value { result.now ≡ self.now }
     {

@@ -1,4 +1,4 @@
--- The command line, as the parser of command lines sees it: the program's subcommands and what each of them takes.
+-- The command line, as the parser of command lines sees it: the program's subcommands and their arguments.
 use Rattle.std.specs.Prelude.{ℕ, true, List, [], ◌∷◌, Some, codes, pos}
 use Rattle.clap.specs.Lexer.{usize_max}
 use Rattle.clap.specs.Simple.{App, Shape, new_app, new_rule, new_shape, on_top, with_subcommand}
@@ -44,7 +44,8 @@ crx2rnx = with_rules (flag_rule (codes "skip") 115 ∷ flag_rule (codes "force")
 abbrev pub checker : Shape
 checker = with_rules (names_rule ∷ []) (new_shape (codes "check"))
 
--- the arguments come without the program's name, one of the three subcommands is asked for, and none is called `help`
+-- the arguments don't include the program's name, one of the three subcommands is required, and none is called
+-- `help`
 abbrev pub top : App
 top = on_top (λ s. record s { no_binary_name = true; disable_help_subcommand = true; subcommand_required = true })
     (new_app (codes "rnxcmp"))

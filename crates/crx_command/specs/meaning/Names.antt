@@ -1,5 +1,6 @@
--- The names of files: an observation file and its compact form have one name but for its ending. The endings are those
--- of RINEX 3.05's section on the names of files, and those that Hatanaka's programs RNX2CRX and CRX2RNX give.
+-- The names of files: an observation file and its compact form have the same name except for its ending. The
+-- endings are those of RINEX 3.05's section on the names of files, and those that Hatanaka's programs RNX2CRX
+-- and CRX2RNX give.
 use Rattle.std.specs.Prelude.{ℕ, Bool, true, false, not, ◌&&◌, ◌==◌, ◌-◌, List, [], ◌∷◌, ◌++◌, map, length, take, drop}
 use Rattle.std.specs.Prelude.{Option, Some, None, if◌then◌else◌, codes, option_map, option_and_then}
 use Rattle.std.specs.Char.{is_ascii_digit}
@@ -8,7 +9,7 @@ use Rattle.std.specs.Option.{option_or}
 use Rattle.crx_command.specs.declared.job.Tool.{Tool}
 use Rattle.crx_command.specs.declared.job.Tool.TheVariants.{Compact, Expand, Check}
 
--- a name without its ending, where it has that ending
+-- a name without this ending, if it has it
 abbrev pub without_ending : List ℕ → List ℕ → Option (List ℕ)
 without_ending ending name =
     if bytes_eq (drop (length name - length ending) name) ending
@@ -22,7 +23,7 @@ is_year _ = false
 abbrev pub ends_in_year : List ℕ → Bool
 ends_in_year stem = is_year (drop (length stem - 3) stem)
 
--- an ending of a file that is read, and the one that takes its place; after a year the last letter alone is changed
+-- an ending of an input file, and the one that replaces it; after a year only the last letter changes
 pub record Renaming : Type 0 where
   pub old : List ℕ
   pub new : List ℕ
@@ -47,16 +48,16 @@ renamings Check = []
 abbrev pub kept_stem : Renaming → List ℕ → Option (List ℕ)
 kept_stem r stem = if r.after_year && not (ends_in_year stem) then None else Some stem
 
--- what is kept of a name with the ending
+-- the rest of a name that has the ending
 abbrev pub stem_of : Renaming → List ℕ → Option (List ℕ)
 stem_of r name = option_and_then (kept_stem r) (without_ending r.old name)
 
--- the name that the first ending that fits gives
+-- the name by the first ending that fits
 abbrev pub first_renamed : List Renaming → List ℕ → Option (List ℕ)
 first_renamed [] name = None
 first_renamed (r ∷ rest) name =
     option_or (option_map (λ stem. stem ++ r.new) (stem_of r name)) (first_renamed rest name)
 
--- the name of the file that is written, where there is one for the file that is read
+-- the name of the output file, if the input file's name has an ending that can be changed
 abbrev pub output_name : Tool → List ℕ → Option (List ℕ)
 output_name tool name = first_renamed (renamings tool) name

@@ -1,4 +1,4 @@
--- What the arguments ask for.
+-- The plans that arguments lead to.
 use Rattle.std.specs.Prelude.{ℕ, Bool, true, false, not, ◌&&◌, ◌==◌, ◌^◌, List, [], ◌∷◌, Option, Some, None}
 use Rattle.std.specs.Prelude.{if◌then◌else◌, nat_lt, codes, count_by, find, unwrap_or, option_and_then}
 use Rattle.std.specs.Option.{option_map_or}
@@ -18,7 +18,7 @@ use Rattle.crx_command.specs.declared.job.Tool.{Tool}
 use Rattle.crx_command.specs.declared.job.Tool.TheVariants.{Compact, Expand, Check}
 use Rattle.crx_command.specs.declared.job.Job.{Job}
 
--- why words are refused
+-- why arguments are refused
 pub data Refusal : Type 0 where
   Parse : Refusal
   DashTwice : Refusal
@@ -26,13 +26,13 @@ pub data Refusal : Type 0 where
   BadDate : Refusal
   NoName : List ℕ → Refusal
 
--- what the words ask for: a help text, a run, or nothing that can be done
+-- the plan of some arguments: a help text, a run, or a refusal
 pub data Plan : Type 0 where
   Help : Plan
   Run : Job → Plan
   Refused : Refusal → Plan
 
--- what is after a subcommand
+-- the arguments after a subcommand
 pub record Given : Type 0 where
   pub dashes : ℕ
   pub files : ℕ
@@ -99,7 +99,7 @@ with_source tool given (Some source) =
     if writes_file tool given.dashes then with_target tool given source (output_name tool source)
     else Run (job_of tool given (Some source) None)
 
--- the first refusal that fits, else the run
+-- the first refusal that fits, otherwise the run
 abbrev pub decide : Tool → Given → Plan
 decide tool given =
     if nat_lt 1 given.dashes then Refused DashTwice
@@ -115,16 +115,16 @@ abbrev pub of_subcommand : Option (List ℕ × List Row) → Plan
 of_subcommand None = Refused Parse
 of_subcommand (Some found) = decide (tool_named found.0) (given_in found.1)
 
--- what the parser's answer comes to where it has a kind of error: help was asked for, or the words are refused
+-- the plan if the parser returns an error of this kind: help, or a refusal
 abbrev pub by_kind : ErrorKind → Plan
 by_kind DisplayHelp = Help
 by_kind _ = Refused Parse
 
--- what the words come to where the first of these kinds is what the parser answers, and else
+-- the plan of the first of these kinds, if there is one, otherwise this plan
 abbrev pub by_kinds : Kinds → Plan → Plan
 by_kinds [] plan = plan
 by_kinds (kind ∷ more) plan = by_kind kind
 
--- what the words ask for; they come without the program's name
+-- the plan of the arguments, which don't include the program's name
 abbrev pub plan_of : List (List ℕ) → Plan
 plan_of words = by_kinds (fault_of program words) (of_subcommand (subcommand_of program words))

@@ -12,7 +12,7 @@ use Rattle.crx_command.proofs.plan.arguments_of.Goals as goal
 abbrev texts : List (Bor (List ℕ)) → List (List ℕ)
 texts names = map (λ name. name.now) names
 
--- names that were given, and else none
+-- the names that were given, otherwise none
 given : (names : Option (Bor (List (Bor (List ℕ))))) (none : Bor (List (Bor (List ℕ)))) → none.now ≡ []
     → texts (unwrap_or names none).now ≡ unwrap_or (option_map (λ given. texts given.now) names) []
 given = grind arith

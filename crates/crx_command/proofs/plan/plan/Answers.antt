@@ -15,12 +15,12 @@ module _ (app : App) (texts words : List (List ℕ)) (is : app ≡ program) (sam
   free : is_simple_and_free app ≡ true
   free = ap is_simple_and_free is ∙ program_is_free
 
-  -- where the words fit the command line
+  -- if the words fit the command line
   accepted : (m : ArgMatches) → (is_simple_and_free app ≡ true → fault_of app texts ≡ [])
       → HasMatchesOf app texts m → of_subcommand (subcommand_rows_of m) ≡ plan_of words
   accepted = grind (arith, common_steps, program_is_simple, free)
 
-  -- where the parser answers with an error
+  -- if the parser returns an error
   answered : (e : Error) (p : Plan) → (is_simple_and_free app ≡ true → HasKind (fault_of app texts) e)
       → p ≡ by_kind (kind_of e) → kind_of e ≢ OutOfMemory → p ≡ plan_of words
   answered e p kinds shown other = not_run_plan p e _ _ (program_alike words)
