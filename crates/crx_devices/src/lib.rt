@@ -1,5 +1,4 @@
-//! Devices over memory that fail where their plans say, and only there: for tests of what a
-//! failing reader or writer leaves.
+//! Devices over memory that fail if and only if their plans say so: for tests of failing readers and writers.
 #![tactic(auto)]
 
 pub mod plan;

@@ -6,13 +6,13 @@ ghost use Rattle.std.specs.Prelude.{◌≡◌, false, is_none, IfSome};
 pub enum When {
     /// No call fails.
     Never,
-    /// The call before which so many calls of its kind were made: 0 is the first one.
+    /// After this number of calls of its kind: 0 is the first one.
     AfterCalls(u64),
-    /// The call before which the device gave or took so many bytes.
+    /// After the device read or took this number of bytes.
     AfterBytes(usize),
 }
 
-/// When the calls of one kind fail, and whether one failure is all.
+/// When the calls of one kind fail, and whether only one does.
 #[derive(Clone, Copy, Debug, PartialEq, Eq)]
 pub struct Plan {
     /// The point from which a call fails.
@@ -22,7 +22,7 @@ pub struct Plan {
 }
 
 impl Plan {
-    /// No call fails.
+    /// Returns the plan by which no call fails.
     pub fn never() -> Self
         ensures when { result.when ≡ When.Never }
     {
@@ -32,7 +32,7 @@ impl Plan {
         }
     }
 
-    /// The first call from this point on fails, and no other one.
+    /// Returns the plan by which only the first call from this point on fails.
     pub fn once(when: When) -> Self
         ensures when { result.when ≡ when }
         ensures once { result.once ≡ true }
@@ -40,7 +40,7 @@ impl Plan {
         Plan { when, once: true }
     }
 
-    /// Each call from this point on fails.
+    /// Returns the plan by which each call from this point on fails.
     pub fn from_then_on(when: When) -> Self
         ensures when { result.when ≡ when }
         ensures once { result.once ≡ false }
@@ -49,7 +49,7 @@ impl Plan {
     }
 }
 
-/// A plan, and what became of it so far.
+/// A plan, and its state so far.
 #[derive(Clone, Copy, Debug, PartialEq, Eq)]
 pub struct Watch {
     /// When a call fails.
@@ -65,7 +65,7 @@ ghost use Rattle.crx_devices.specs.declared.plan.When.{When};
 ghost use Rattle.crx_devices.specs.Plans.{after_call, fails, up_to_failure};
 
 impl Watch {
-    /// Watches a device on which no such call was made yet.
+    /// Watches a device before its first call of this kind.
     pub fn new(plan: Plan) -> Self
         ensures plan { result.plan ≡ plan }
         ensures calls { result.calls ≡ 0 }
@@ -78,8 +78,8 @@ impl Watch {
         }
     }
 
-    /// Counts a call on a device that gave or took so many bytes so far. `None`: the call fails.
-    /// Else how many of the `wanted` bytes are given or taken before the next failure.
+    /// Counts a call on a device that has read or taken `moved` bytes. Returns `None` if the call fails,
+    /// otherwise how many of the `wanted` bytes are read or taken before the next failure.
     pub fn next_call(&mut self, moved: usize, wanted: usize) -> Option<usize>
         ensures fails { is_none result ≡ fails self.old moved }
         ensures count { IfSome result (λ n. n ≡ up_to_failure self.old moved wanted) }

@@ -1,4 +1,4 @@
-//! A sink over memory that fails where its plans say.
+//! A sink over memory that fails when its plans say so.
 ghost use Rattle.std.specs.Prelude.{⊤, ◌≡◌, [], ◌++◌, ◌+◌, ◌-◌, ◌<◌, ◌≤◌, length, take, min, is_err, true, false, ◌||◌, IfOk, OnOk, OnErr};
 ghost use Rattle.crx_devices.specs.Joining.{taken_both, taken_none};
 ghost use Rattle.crx_lines.specs.meaning.Devices.{one_more};
@@ -7,7 +7,7 @@ use crate::plan::{Plan, Watch};
 use crx_lines::{Sink, WriteFailed};
 use std::alloc::{AllocError, Global};
 
-/// Takes as many bytes as it has room for, and fails where its plans say.
+/// A sink that takes bytes while it has room, and fails when its plans say so.
 #[derive(Drop)]
 pub struct FailingSink {
     memory: Vec<u8>,
@@ -23,8 +23,9 @@ pub struct FailingSink {
 ghost use Rattle.crx_devices.specs.Plans.{after_call, fails, is_stuck, up_to_failure};
 
 impl FailingSink {
-    /// A sink with room for so many bytes, that takes at most `at_most` a call (0: none), and whose
-    /// writes and flushes fail by these plans. It takes its memory here and none later.
+    /// Returns a sink with room for `room` bytes, which takes at most `at_most` per call (0: none), and whose
+    /// writes and flushes fail by these plans. It allocates its memory here and none later, and returns
+    /// `AllocError` if that is refused.
     pub fn new(
         alloc: Global,
         room: usize,
@@ -55,35 +56,35 @@ impl FailingSink {
         })
     }
 
-    /// The bytes that were taken.
+    /// Returns the bytes taken.
     pub fn contents(&self) -> &[u8]
         ensures value { result.now ≡ take self.now.len self.now.memory.items }
     {
         &self.memory[..self.len]
     }
 
-    /// How many writes were made; the count stops at the greatest value of 64 bits.
+    /// Returns how many writes were made; the count stops at the greatest value of 64 bits.
     pub fn writes(&self) -> u64
         ensures value { result ≡ self.now.writes.calls }
     {
         self.writes.calls
     }
 
-    /// How many flushes were made; the count stops at the greatest value of 64 bits.
+    /// Returns how many flushes were made; the count stops at the greatest value of 64 bits.
     pub fn flushes(&self) -> u64
         ensures value { result ≡ self.now.flushes.calls }
     {
         self.flushes.calls
     }
 
-    /// How many writes and flushes failed; the count stops at the greatest value of 64 bits.
+    /// Returns how many writes and flushes failed; the count stops at the greatest value of 64 bits.
     pub fn failures(&self) -> u64
         ensures value { result ≡ self.now.failures }
     {
         self.failures
     }
 
-    /// Whether the last call was a flush that succeeded.
+    /// Returns whether the last call was a flush that succeeded.
     pub fn is_flushed(&self) -> bool
         ensures value { result ≡ self.now.flushed }
     {

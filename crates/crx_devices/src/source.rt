@@ -1,4 +1,4 @@
-//! A source over memory that fails where its plan says.
+//! A source over memory that fails when its plan says so.
 ghost use Rattle.std.specs.Prelude.{◌≡◌, [], ◌++◌, ◌+◌, ◌^◌, ◌-◌, ◌<◌, ◌≤◌, length, take, min, is_err, true, IfOk, OnOk, OnErr};
 ghost use Rattle.crx_devices.specs.Joining.{given_both};
 ghost use Rattle.crx_lines.specs.meaning.Devices.{ends_after, one_more};
@@ -6,7 +6,7 @@ ghost use Rattle.crx_lines.specs.meaning.Devices.{ends_after, one_more};
 use crate::plan::{Plan, Watch};
 use crx_lines::{ReadFailed, Source};
 
-/// Gives the bytes that it was made with, and fails where its plan says.
+/// A source of the bytes that it was made with, which fails when its plan says so.
 #[derive(Drop)]
 pub struct FailingSource<'a> {
     left: &'a [u8],
@@ -19,7 +19,7 @@ pub struct FailingSource<'a> {
 }
 
 impl<'a> FailingSource<'a> {
-    /// A source of these bytes, that gives at most so many a call and fails by this plan.
+    /// Returns a source of `bytes` that returns at most `at_most` per call and fails by this plan.
     pub fn new(bytes: &'a [u8], at_most: usize, plan: Plan) -> Self
         requires { 0 < at_most }
         ensures left { result.left.now ≡ bytes.now }
@@ -41,28 +41,28 @@ impl<'a> FailingSource<'a> {
         }
     }
 
-    /// How many reads were made; the count stops at the greatest value of 64 bits.
+    /// Returns how many reads were made; the count stops at the greatest value of 64 bits.
     pub fn calls(&self) -> u64
         ensures value { result ≡ self.now.reads.calls }
     {
         self.reads.calls
     }
 
-    /// How many reads failed; the count stops at the greatest value of 64 bits.
+    /// Returns how many reads failed; the count stops at the greatest value of 64 bits.
     pub fn failures(&self) -> u64
         ensures value { result ≡ self.now.failures }
     {
         self.failures
     }
 
-    /// How many reads reported the end; the count stops at the greatest value of 64 bits.
+    /// Returns how many reads reported the end; the count stops at the greatest value of 64 bits.
     pub fn ends(&self) -> u64
         ensures value { result ≡ self.now.ends }
     {
         self.ends
     }
 
-    /// The bytes that were not given yet.
+    /// Returns the bytes that haven't been read yet.
     pub fn left(&self) -> &'a [u8]
         ensures value { result.now ≡ self.now.left.now }
     {
