@@ -1,4 +1,4 @@
--- A line with a blank and more bytes behind it.
+-- A line with a blank and more bytes after it.
 use Rattle.std.specs.Prelude.{ℕ, List, take}
 use Rattle.crx_base.specs.declared.padded.Padded.{Padded}
 

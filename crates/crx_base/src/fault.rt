@@ -1,11 +1,11 @@
-//! What can be wrong with an input or a device: the one table of numbers and words.
+//! The faults of an input or a device: the one table of numbers and words.
 
 ghost use Rattle.std.specs.Prelude.{◌≡◌};
 
 use std::fmt;
 use thiserror::Error;
 
-/// A fault of an input, of a device, or of memory. It is shown by its words.
+/// A fault of an input, of a device, or of memory. It is shown as its words.
 #[derive(Clone, Copy, Debug, PartialEq, Eq, Error)]
 pub enum Fault {
     /// A line's content is longer than the limit.
@@ -42,9 +42,9 @@ pub enum Fault {
     NoArc,
     /// A number that does not fit its columns.
     OutOfRange,
-    /// An indicator that is no printable character, or a mark where none may be.
+    /// An indicator that is no printable character, or a mark that isn't allowed at its place.
     BadFlags,
-    /// The input ends, or another epoch begins, where lines are still expected.
+    /// The input ends, or another epoch begins, although more lines are expected.
     Truncated,
     /// The reader failed.
     ReadFailed,
@@ -57,7 +57,7 @@ pub enum Fault {
 impl Fault {
     ghost use Rattle.crx_base.specs.meaning.Faults.{code_of_fault, is_skippable, words_of_fault};
 
-    /// The fault's number in messages, from 1 on.
+    /// Returns the fault's number in messages, from 1 on.
     pub fn code(&self) -> u8
         ensures value { result ≡ code_of_fault self.now }
     {
@@ -87,7 +87,7 @@ impl Fault {
         }
     }
 
-    /// The fault's words in messages.
+    /// Returns the fault's words in messages.
     pub fn words(&self) -> &'static str
         ensures value { result.now ≡ words_of_fault self.now }
     {
@@ -117,7 +117,8 @@ impl Fault {
         }
     }
 
-    /// Whether a run that skips faults goes on after this one, with a warning: numbers 1 and 10 to 19.
+    /// Returns whether a run that skips faults continues after this one, with a warning: numbers 1 and 10 to
+    /// 19.
     pub fn is_skippable(&self) -> bool
         ensures value { result ≡ is_skippable self.now }
     {
@@ -136,7 +137,7 @@ impl fmt::Display for Fault {
 #[derive(Clone, Copy, Debug, PartialEq, Eq, Error)]
 #[error("line {line} code {}: {fault}", self.fault.code())]
 pub struct At {
-    /// The line's number, from 1; 0 where no line was read.
+    /// The line's number, from 1; 0 if no line was read.
     pub line: u64,
     /// The fault.
     pub fault: Fault,

@@ -1,5 +1,5 @@
-//! What every other crate stands on: the faults that a message can name, the limits of the formats, what the
-//! lines of an input are, and what the user chose for a run.
+//! The base of every other crate: the faults that a message can name, the limits of the formats, the lines of
+//! an input, and the user's choices for a run.
 #![tactic(auto)]
 
 pub mod fault;

@@ -1,6 +1,6 @@
-//! The limits of this project's profile. Code and definitions cite them from here alone.
+//! The limits of this project's profile. Code and definitions cite only these.
 //!
-//! They depend on each other, and the law [`limits_fit`](crate::laws::limits_fit) says how: each line that is
+//! They depend on each other, as the law [`limits_fit`](crate::laws::limits_fit) states: each line that is
 //! written has to fit into a line that is read, each count into its columns, and each sum of an arc into 64
 //! bits. The prover refuses a number that breaks it.
 

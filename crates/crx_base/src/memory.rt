@@ -1,5 +1,5 @@
-//! Memory that the system refused, as a value. Every call that may run out of memory asks through this module
-//! and returns [`Refused`], which nothing else can make.
+//! Memory that the system refused, as a value. Every call that may run out of memory reserves it through this
+//! module and returns [`Refused`], which nothing else can make.
 
 ghost use Rattle.std.specs.Prelude.{◌≡◌, ◌≤◌, ◌+◌, ◌++◌, [], IfOk, OnErr, OnOk, max, string_bytes, vec_capacity, vec_len};
 ghost use Rattle.indexmap.specs.IndexMap.{spare};
@@ -16,8 +16,8 @@ use std::hash::Hash;
 /// which std refuses without asking the system.
 pub const RESERVED_LIMIT: usize = 1 << 24;
 
-/// The system refused memory in this call. Only the functions of this module make one, and each only when std
-/// reports that an allocation failed: the field is private, and a value can't be copied.
+/// The system's refusal of memory in this call. Only the functions of this module make one, and each only when
+/// std reports that an allocation failed: the field is private, and a value can't be copied.
 #[must_use]
 #[derive(Debug, Drop)]
 pub struct Refused {
@@ -38,7 +38,7 @@ impl From<Refused> for AllocError {
     }
 }
 
-/// Reserves memory for `more` items after those that a vector has.
+/// Reserves memory for `more` items after those that a vector has, or returns `Refused`.
 #[inline(always)]
 pub fn reserve<T>(items: &mut Vec<T>, more: usize) -> Result<(), Refused>
     requires bounded { more ≤ RESERVED_LIMIT }
@@ -52,7 +52,7 @@ pub fn reserve<T>(items: &mut Vec<T>, more: usize) -> Result<(), Refused>
     }
 }
 
-/// Reserves memory for `more` items after those that a vector has, and for no others.
+/// Reserves memory for exactly `more` items after those that a vector has, or returns `Refused`.
 #[inline(always)]
 pub fn reserve_exact<T>(items: &mut Vec<T>, more: usize) -> Result<(), Refused>
     requires bounded { more ≤ RESERVED_LIMIT }
@@ -67,7 +67,7 @@ pub fn reserve_exact<T>(items: &mut Vec<T>, more: usize) -> Result<(), Refused>
     }
 }
 
-/// Reserves memory for `more` entries after those that a map has.
+/// Reserves memory for `more` entries after those that a map has, or returns `Refused`.
 #[inline(always)]
 pub fn reserve_entries<K: Eq + Hash, V>(
     map: &mut IndexMap<K, V>,
@@ -84,7 +84,7 @@ pub fn reserve_entries<K: Eq + Hash, V>(
     }
 }
 
-/// Reserves memory for `more` keys after those that a set has.
+/// Reserves memory for `more` keys after those that a set has, or returns `Refused`.
 #[inline(always)]
 pub fn reserve_keys<T: Eq + Hash>(set: &mut IndexSet<T>, more: usize) -> Result<(), Refused>
     requires bounded { more ≤ RESERVED_LIMIT }
@@ -98,7 +98,7 @@ pub fn reserve_keys<T: Eq + Hash>(set: &mut IndexSet<T>, more: usize) -> Result<
     }
 }
 
-/// Puts a value on the heap.
+/// Puts a value on the heap, or returns `Refused`.
 #[inline(always)]
 pub fn boxed<T: Drop>(alloc: Global, value: T) -> Result<Box<T>, Refused>
     ensures value { IfOk result (λ place. place.value ≡ value) }
@@ -109,7 +109,7 @@ pub fn boxed<T: Drop>(alloc: Global, value: T) -> Result<Box<T>, Refused>
     }
 }
 
-/// Appends a text to another.
+/// Appends a text to another, or returns `Refused`.
 pub fn append_text(text: &mut String, more: &str) -> Result<(), Refused>
     ensures text { OnOk result (string_bytes text.new ≡ string_bytes text.old ++ more.now) }
 {

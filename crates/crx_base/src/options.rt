@@ -1,4 +1,4 @@
-//! What the user chose for a compaction.
+//! The user's choices for a compaction.
 
 ghost use Rattle.std.specs.Prelude.{◌≡◌, ◌-◌, ◌≤◌, ◌++◌, length, replicate, false, true, IsTrue, MatchResult};
 ghost use Rattle.crx_base.specs.declared.limits.TheConstants.{DATE_LIMIT};
@@ -8,13 +8,13 @@ use crate::limits::DATE_LIMIT;
 use std::marker::Model;
 use thiserror::Error;
 
-/// A date that has more than [`DATE_LIMIT`] bytes, or a byte outside 32 to 126.
+/// The error of a date that has more than [`DATE_LIMIT`] bytes, or a byte outside 32 to 126.
 #[derive(Clone, Copy, Debug, PartialEq, Eq, Error)]
 #[error("bad date")]
 pub struct BadDate;
 
-/// Where epochs are in full, whether faults are skipped, and the date of the second line of
-/// Compact RINEX 3.0. It takes no memory elsewhere.
+/// Which epochs are full, whether faults are skipped, and the date in the second line of Compact RINEX 3.0. It
+/// takes no memory elsewhere.
 #[derive(Clone, Copy)]
 pub struct Options {
     every: Option<u32>,
@@ -47,14 +47,14 @@ impl Model for Options {
     } };
 }
 
-/// Whether a date has at most [`DATE_LIMIT`] bytes, each from 32 to 126.
+/// Returns whether a date has at most [`DATE_LIMIT`] bytes, each from 32 to 126.
 fn is_date(date: &[u8]) -> bool
     ensures { result ≡ is_date date.now }
 {
     date.len() <= DATE_LIMIT && date.iter().all(|byte| *byte >= 32 && *byte <= 126)
 }
 
-/// The date in its columns of the second line, with blanks after it.
+/// Returns the date in its columns of the second line, with blanks after it.
 pub fn in_columns(date: &[u8]) -> [u8; DATE_LIMIT]
     requires { length date.now ≤ DATE_LIMIT }
     ensures value { result ≡ date.now ++ replicate (DATE_LIMIT - length date.now) 32 }
@@ -65,12 +65,12 @@ pub fn in_columns(date: &[u8]) -> [u8; DATE_LIMIT]
 }
 
 impl Options {
-    /// The choices: an epoch in full at each that `every` divides (0 is the same as `None`),
-    /// counted from 0; whether an epoch with a fault is skipped with a warning; and the date, as it
-    /// is to be in columns 41 to 60 of the second line.
+    /// Returns the choices. `every`: an epoch is full if this divides its index, which counts from 0 (0 is the
+    /// same as `None`); `skip`: whether an epoch with a fault is skipped with a warning; `date`: the text in
+    /// columns 41 to 60 of the second line.
     ///
-    /// `BadDate` comes where the date has more than [`DATE_LIMIT`] bytes or a byte outside 32 to
-    /// 126, and only there.
+    /// Returns `BadDate` if and only if the date has more than [`DATE_LIMIT`] bytes or a byte outside 32 to
+    /// 126.
     pub fn new(every: Option<u32>, skip: bool, date: &[u8]) -> Result<Options, BadDate>
         ensures value { MatchResult result
             (λ o. (o ≡ choices_of every skip date.now) × IsTrue (is_date date.now))
@@ -87,22 +87,22 @@ impl Options {
         })
     }
 
-    /// At every how many epochs one is in full; `None` where only those are that must be: the first, and the
-    /// first after each event or warning.
+    /// Returns the number of epochs of which one is full; `None` if only those are full that must be: the
+    /// first, and the first after each event or warning.
     pub fn every(&self) -> Option<u32>
         ensures value { result ≡ self.now.every }
     {
         self.every
     }
 
-    /// Whether an epoch with a fault is skipped with a warning.
+    /// Returns whether an epoch with a fault is skipped with a warning.
     pub fn skip(&self) -> bool
         ensures value { result ≡ self.now.skip }
     {
         self.skip
     }
 
-    /// The date, at most [`DATE_LIMIT`] bytes, each from 32 to 126.
+    /// Returns the date, at most [`DATE_LIMIT`] bytes, each from 32 to 126.
     pub fn date(&self) -> &[u8]
         ensures value { result.now ≡ self.now.date }
         ensures within { length result.now ≤ DATE_LIMIT }

@@ -1,5 +1,5 @@
-//! A line as its reader's buffer holds it: a blank is behind it, and more bytes behind that, so that whatever
-//! reads the line asks nowhere where it ends.
+//! A line as its reader's buffer holds it: a blank and more bytes follow it, so that code which reads the line
+//! needs no test for its end.
 
 ghost use Rattle.std.specs.Prelude.{◌≡◌, ◌≤◌, ◌+◌, length, slice_index};
 ghost use Rattle.crx_base.specs.declared.limits.TheConstants.{LINE_LIMIT};
@@ -7,11 +7,11 @@ ghost use Rattle.crx_base.specs.declared.padded.TheConstants.{PADDING};
 
 use crate::limits::LINE_LIMIT;
 
-/// How many bytes are behind a line at least, its blank among them.
+/// How many bytes follow a line, at least, with its blank.
 pub const PADDING: usize = 64;
 
-/// A line of a file with a blank behind it, as columns past a line's end are blank, and bytes behind that,
-/// which mean nothing.
+/// A line of a file, followed by a blank, because columns past a line's end are blank, and then by bytes
+/// without a meaning.
 #[derive(Clone, Copy)]
 pub struct Padded<'a> {
     bytes: &'a [u8],
@@ -24,7 +24,7 @@ impl<'a> Padded<'a> {
     ghost use Rattle.std.specs.Prelude.{take};
     ghost use Rattle.crx_base.specs.Padded.{line_in};
 
-    /// The line of the first so many of some bytes.
+    /// Returns the line of the first `len` bytes.
     #[inline(always)]
     pub fn of(bytes: &'a [u8], len: usize) -> Padded<'a>
         requires room { len + PADDING ≤ length bytes.now }
@@ -35,7 +35,7 @@ impl<'a> Padded<'a> {
         Padded { bytes, len }
     }
 
-    /// The line itself.
+    /// Returns the line itself.
     #[inline(always)]
     pub fn line(&self) -> &'a [u8]
         ensures value { result.now ≡ line_in self.now }
@@ -43,7 +43,7 @@ impl<'a> Padded<'a> {
         &self.bytes[..self.len]
     }
 
-    /// How many bytes the line has.
+    /// Returns how many bytes the line has.
     #[inline(always)]
     pub fn len(&self) -> usize
         ensures value { result ≡ length (line_in self.now) }
@@ -51,7 +51,7 @@ impl<'a> Padded<'a> {
         self.len
     }
 
-    /// The line with what is behind it: its blank, and at least `PADDING - 1` bytes after that.
+    /// Returns the line and the bytes after it: its blank, and at least `PADDING - 1` more.
     #[inline(always)]
     pub fn padded(&self) -> &'a [u8]
         ensures line { take (length (line_in self.now)) result.now ≡ line_in self.now }
@@ -62,7 +62,7 @@ impl<'a> Padded<'a> {
     }
 }
 
-/// Room for the copy of a line that comes without anything behind it. It takes no memory elsewhere.
+/// Room for the copy of a line that no bytes follow. It takes no memory elsewhere.
 #[derive(Drop)]
 pub struct PaddedCopy {
     bytes: [u8; LINE_LIMIT + PADDING],
@@ -71,14 +71,14 @@ pub struct PaddedCopy {
 impl PaddedCopy {
     ghost use Rattle.crx_base.specs.Padded.{line_in};
 
-    /// Room without a line.
+    /// Returns room without a line.
     pub fn new() -> PaddedCopy {
         PaddedCopy {
             bytes: [b' '; LINE_LIMIT + PADDING],
         }
     }
 
-    /// Copies a line of at most [`LINE_LIMIT`] bytes, and lends the copy.
+    /// Copies a line of at most [`LINE_LIMIT`] bytes, and returns the copy.
     pub fn of<'a>(&'a mut self, line: &[u8]) -> Padded<'a>
         requires short { length line.now ≤ LINE_LIMIT }
         ensures line { line_in result ≡ line.now }

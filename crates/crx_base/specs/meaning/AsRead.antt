@@ -1,4 +1,4 @@
--- What a reader of lines holds of an input: RINEX files are text, read line by line.
+-- An input as a reader of lines reads it: RINEX files are text, read line by line.
 use Rattle.std.specs.Prelude.{ℕ, List, [], ◌∷◌, if◌then◌else◌, map}
 use Rattle.crx_base.specs.meaning.Lines.{InputLine, Piece, pieces_of, line_of, is_long}
 
@@ -7,7 +7,7 @@ pub data ReadLine : Type 0 where
   Content : List ℕ → ReadLine
   Overlong : ReadLine
 
--- what is read of a line
+-- a line of an input, as it is read
 abbrev pub as_read : InputLine → ReadLine
 as_read l = if is_long l then Overlong else Content l.content
 

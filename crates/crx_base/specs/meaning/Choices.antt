@@ -1,11 +1,11 @@
--- What the user chose for a run, and what a date may be.
+-- The user's choices for a run, and the dates that are allowed.
 use Rattle.std.specs.Prelude.{ℕ, Bool, ◌&&◌, ◌==◌, List, Option, Some, None, if◌then◌else◌, nat_le, length}
 use Rattle.std.specs.List.{list_all}
 use Rattle.crx_base.specs.meaning.Lines.{is_printable}
 use Rattle.crx_base.specs.declared.limits.TheConstants.{DATE_LIMIT}
 
--- what the user chose: an epoch in full at every so many, whether faults are skipped, and the date of the second line
--- of compact text; expansion uses the second alone
+-- the user's choices: the number of epochs of which one is full, whether faults are skipped, and the date in
+-- the second line of compact text; expansion uses only the second choice
 pub record Choices : Type 0 where
   pub every : Option ℕ
   pub skip : Bool
@@ -15,11 +15,11 @@ pub record Choices : Type 0 where
 abbrev pub is_date : List ℕ → Bool
 is_date date = nat_le (length date) DATE_LIMIT && list_all is_printable date
 
--- every 0 epochs is the same as no such choice
+-- every 0 epochs is the same as no choice
 abbrev pub kept_every : Option ℕ → Option ℕ
 kept_every None = None
 kept_every (Some count) = if count == 0 then None else Some count
 
--- the choices that some words make
+-- the choices that some arguments make
 abbrev pub choices_of : Option ℕ → Bool → List ℕ → Choices
 choices_of every skip date = record { every = kept_every every; skip = skip; date = date }

@@ -58,6 +58,6 @@ words_of_fault ReadFailed = codes "read failed"
 words_of_fault WriteFailed = codes "write failed"
 words_of_fault OutOfMemory = codes "out of memory"
 
--- the faults that can be skipped: code 1, and codes 10 to 19
+-- the faults that can be skipped: numbers 1, and 10 to 19
 abbrev pub is_skippable : Fault → Bool
 is_skippable fault = (code_of_fault fault == 1) || (nat_le 10 (code_of_fault fault) && nat_le (code_of_fault fault) 19)
