@@ -1,10 +1,10 @@
-//! Codes: their forms, and what is printed of them.
+//! Codes: their forms and their printed texts.
 
 use crate::expecting::expect;
 use crate::texts::shown;
 use crx_text::{BadField, Code, Text, code_print, code_read};
 
-/// Differences, and what is printed of them.
+/// Differences, and their printed texts.
 const STEPS: &[(i64, &[u8])] = &[
     (0, b"0"),
     (-907, b"-907"),
@@ -12,7 +12,7 @@ const STEPS: &[(i64, &[u8])] = &[
     (-999_999_999_999_999_999, b"-999999999999999999"),
 ];
 
-/// Whether this is printed of a difference.
+/// Returns whether this is the printed text of a difference.
 fn prints(difference: i64, digits: &[u8]) -> bool {
     let mut text = Text::new();
     difference.unsigned_abs() < 1_000_000_000_000_000_000
@@ -27,7 +27,7 @@ fn texts_of_steps(rt: HostRuntime) {
     }
 }
 
-/// Texts, and the codes that they are.
+/// Texts, and the codes that they spell.
 const FORMS: &[(&[u8], Result<Code, BadField>)] = &[
     (b"", Ok(Code::Missing)),
     (b"-007", Ok(Code::Step(-7))),

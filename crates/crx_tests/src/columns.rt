@@ -1,5 +1,5 @@
 //! Epochs to compact lines and back by the calls of [`Columns`], one epoch after another as files have them,
-//! with memory at hand.
+//! with enough memory.
 
 ghost use Rattle.std.specs.Prelude.{◌≡◌, None};
 ghost use Rattle.crx_compact.specs.OpenEpochs.ColumnsState.{Idle};
@@ -19,21 +19,21 @@ mod writing;
 const ONE_TYPE: &[u8] =
     b"G    1 C1C                                                  SYS / # / OBS TYPES";
 
-/// Counts of types that a line declares.
+/// Returns the counts of types that a line declares.
 fn types_of(alloc: Global, line: &[u8]) -> Result<Owned<Types>, Fault> {
     let mut types = Owned::of(Types::new(alloc));
     types.value.accept_line(line)?;
     Ok(types)
 }
 
-/// Columns that keep nothing.
+/// Returns columns that keep nothing.
 fn no_columns(alloc: Global) -> Owned<Columns>
     ensures { result.value.state ≡ Idle None }
 {
     Owned::of(Columns::new(alloc))
 }
 
-/// The epoch of RINEX lines that are separated by `|`.
+/// Returns the epoch of RINEX lines that are separated by `|`.
 fn epoch_of(alloc: Global, types: &Types, lines: &str) -> Result<Owned<Epoch>, Fault> {
     let mut rows = lines.split('|');
     let Some(first) = rows.next() else {

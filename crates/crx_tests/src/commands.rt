@@ -1,4 +1,4 @@
-//! The calls of the command line: what arguments ask for, and the date of a moment or of a clock.
+//! The calls of the command line: the decision for arguments, and the date of a moment or of a clock.
 
 use crate::expecting::expect;
 use crx_command::date::{date_text, default_date};
@@ -18,8 +18,7 @@ const MOMENTS: &[(i64, i32, &str)] = &[
     (0, -1, "31-Dec-69 23:59"),
 ];
 
-/// What a clock gives in seconds after 1970 began, or that it gives none, and the date of a run at that
-/// moment.
+/// A clock's seconds after 1970 began, or none, and the date of a run at that moment.
 const CLOCKS: &[(Option<u64>, &str)] = &[
     (Some(1_704_067_199), "31-Dec-23 23:59"),
     // the year 14645, which no date has
@@ -27,8 +26,8 @@ const CLOCKS: &[(Option<u64>, &str)] = &[
     (None, ""),
 ];
 
-/// Arguments with blanks between them, and the names of the files that the run reads and writes; an empty one
-/// for standard streams.
+/// Arguments with blanks between them, and the names of the files that the run reads and writes; an empty name
+/// means a standard stream.
 const RUNS: &[(&str, &str, &str)] = &[
     ("crx2rnx abcd0010.24d", "abcd0010.24d", "abcd0010.24o"),
     ("check - a.rnx", "a.rnx", ""),
@@ -56,7 +55,7 @@ const REFUSALS: &[(&str, Refused)] = &[
     ("rnx2crx --date abcdefghijklmnopqrstu", Refused::BadDate),
 ];
 
-/// A clock that stands at one moment, or gives none.
+/// A clock that stays at one moment, or has none.
 #[derive(Drop)]
 struct Standing {
     moment: Option<u64>,
@@ -75,7 +74,7 @@ impl Clock for Standing {
     }
 }
 
-/// The arguments in a text.
+/// Returns the arguments in a text.
 fn words_of(alloc: Global, text: &str) -> Result<Vec<String>, AllocError> {
     let mut words = Vec::new(alloc);
     for word in text.split(' ') {
@@ -86,7 +85,7 @@ fn words_of(alloc: Global, text: &str) -> Result<Vec<String>, AllocError> {
     Ok(words)
 }
 
-/// Whether the date of a moment is this one.
+/// Returns whether the date of a moment is this one.
 fn is_date_of(alloc: Global, seconds: i64, nanoseconds: i32, wanted: &str) -> bool {
     match Timestamp::new(seconds, nanoseconds) {
         Ok(at) => match date_text(alloc, at) {
@@ -97,7 +96,7 @@ fn is_date_of(alloc: Global, seconds: i64, nanoseconds: i32, wanted: &str) -> bo
     }
 }
 
-/// Whether the default date by a clock is this one.
+/// Returns whether the default date by a clock is this one.
 fn is_default(alloc: Global, moment: Option<u64>, wanted: &str) -> bool {
     match default_date(&Standing { moment }, alloc) {
         Ok(text) => text.as_str() == wanted,
@@ -105,7 +104,7 @@ fn is_default(alloc: Global, moment: Option<u64>, wanted: &str) -> bool {
     }
 }
 
-/// Whether a name is the one of a word; an empty one where there is no word.
+/// Returns whether a word is this name; an empty name means no word.
 fn is_named(word: &Option<Word>, name: &str) -> bool {
     match word {
         Some(word) => word.text() == name,
@@ -113,7 +112,7 @@ fn is_named(word: &Option<Word>, name: &str) -> bool {
     }
 }
 
-/// Whether a decision is a run over these files.
+/// Returns whether a decision is a run over these files.
 fn is_run(decision: &Decision, source: &str, target: &str) -> bool {
     match decision {
         Decision::Run(job) => is_named(&job.source, source) && is_named(&job.target, target),
@@ -121,7 +120,7 @@ fn is_run(decision: &Decision, source: &str, target: &str) -> bool {
     }
 }
 
-/// Whether a decision is to show a help that says something.
+/// Returns whether a decision is to show a help text that isn't empty.
 fn is_help(decision: &Decision) -> bool {
     match decision {
         Decision::Help(text) => !text.text().is_empty(),
@@ -129,7 +128,7 @@ fn is_help(decision: &Decision) -> bool {
     }
 }
 
-/// Whether arguments were refused so.
+/// Returns whether arguments were refused for this reason.
 fn is_refused(fault: &UsageFault, wanted: Refused) -> bool {
     match (fault, wanted) {
         (UsageFault::Parse(_), Refused::Parse) => true,

@@ -1,4 +1,4 @@
-//! Which calls reach a device of std: `Std` neither repeats nor leaves out a call, and before a failure
+//! The calls that reach a device of std: `Std` neither repeats nor leaves out a call, and before a failure
 //! `UntilFailure` doesn't either; `Uninterrupted` repeats a call that a signal interrupted.
 
 use crate::expecting::{expect, expect_at};
@@ -9,8 +9,8 @@ use std::io;
 use std::io::{ErrorKind, Read, Write};
 use std::process::Abort;
 
-/// Counts the calls. A signal interrupts the first one of each kind, the second write takes nothing, the
-/// third read gives nothing; each other read gives one byte, and each other write takes one.
+/// Counts the calls. A signal interrupts the first one of each kind, the second write takes no byte, the third
+/// read returns none; each other read returns one byte, and each other write takes one.
 #[derive(Drop)]
 struct Counting {
     reads: u32,
@@ -55,13 +55,13 @@ impl Write for Counting {
 
 /// A call of a device.
 enum Call<'a> {
-    /// A read into so many bytes, at most four.
+    /// A read into a buffer of this length, at most four.
     Read(usize),
     Write(&'a [u8]),
     Flush,
 }
 
-/// What a call answers; of a flush that is done, 0.
+/// Returns a call's result, or 0 for a good flush.
 fn answer(device: &mut Std<Counting>, call: &Call<'_>) -> Result<usize, Fault> {
     let mut buffer = [0; 4];
     let room = match call {
@@ -79,7 +79,7 @@ fn answer(device: &mut Std<Counting>, call: &Call<'_>) -> Result<usize, Fault> {
         .map_err(|_| Fault::ReadFailed)
 }
 
-/// Calls one after another, what each answers, and the counts after it.
+/// Calls one after another, each with its result and the counts after it.
 const CALLS: &[(Call<'_>, Result<usize, Fault>, [u32; 3])] = &[
     (Call::Read(4), Err(Fault::ReadFailed), [1, 0, 0]),
     (Call::Read(4), Ok(1), [2, 0, 0]),
@@ -132,7 +132,7 @@ fn repeats_a_call_that_was_interrupted(rt: HostRuntime) {
     expect(&rt, is_so, "each call is made twice");
 }
 
-/// Counts the calls into numbers of the caller's; each of them is done.
+/// Counts the calls into the caller's numbers; each of them succeeds.
 #[derive(Drop)]
 struct Noting<'a> {
     writes: &'a mut u32,
@@ -151,7 +151,7 @@ impl Write for Noting<'_> {
     }
 }
 
-/// Writes two bytes, of which one is taken, and flushes where that is asked for: how many writes and flushes
+/// Writes two bytes, of which one is taken, and flushes if `is_flushed`. Returns how many writes and flushes
 /// the inner writer saw.
 fn counts_of_calls(rt: &impl Abort, is_flushed: bool) -> (u32, u32) {
     let (mut writes, mut flushes) = (0, 0);

@@ -6,7 +6,7 @@ use crx_base::limits::LINE_LIMIT;
 use crx_text::{Text, diff_text, patch_text, trim_end};
 use std::process::Abort;
 
-/// The text before each of those in the tables.
+/// The text before each new text in the tables.
 const OLD: &[u8] = b"> 21 01 01  0 30";
 
 /// New texts, whether each is allowed, and the marks after it.
@@ -17,7 +17,7 @@ const MARKS: &[(&[u8], bool, &[u8])] = &[
     (b"a\tb", false, b""),
 ];
 
-/// Whether a new text has these marks.
+/// Returns whether a new text has these marks.
 fn has_marks(old: &Text, marks: &mut Text, row: &(&[u8], bool, &[u8])) -> bool {
     let (new, may_stand, wanted) = *row;
     new.len() <= LINE_LIMIT
@@ -42,7 +42,7 @@ const PATCHES: &[(&[u8], bool, &[u8])] = &[
     (b"a\tb", false, b"> 21 01 01  0"),
 ];
 
-/// Whether marks give this text.
+/// Returns whether marks make this text.
 fn gives(old: &Text, text: &mut Text, row: &(&[u8], bool, &[u8])) -> bool {
     let (marks, may_stand, wanted) = *row;
     marks.len() <= LINE_LIMIT
@@ -60,7 +60,7 @@ fn texts_of_marks(rt: HostRuntime) {
     }
 }
 
-// A letter for each place, no two neighbours alike.
+// Returns a letter for each place, with different neighbours.
 fn letters() -> [u8; LINE_LIMIT] {
     let mut text = [b' '; LINE_LIMIT];
     for place in 0..LINE_LIMIT {
@@ -69,7 +69,7 @@ fn letters() -> [u8; LINE_LIMIT] {
     text
 }
 
-// Lengths around those of vectors, and the greatest.
+// Returns lengths near those of vectors, and the greatest one.
 fn lengths() -> [usize; 135] {
     let mut lengths = [0; 135];
     for index in 0..131 {
@@ -82,8 +82,8 @@ fn lengths() -> [usize; 135] {
     lengths
 }
 
-/// Whether two texts that differ at one place have this mark there and no other, and the mark gives the new
-/// text back.
+/// Returns whether two texts that differ at one place have this mark there and no other, and the mark makes the
+/// new text again.
 fn is_marked(old: &Text, new: &[u8], place: usize, mark: u8) -> bool {
     let mut marks = Text::new();
     let mut back = Text::new();
@@ -96,7 +96,7 @@ fn is_marked(old: &Text, new: &[u8], place: usize, mark: u8) -> bool {
         && back.bytes() == trim_end(new)
 }
 
-/// Whether a new text isn't allowed, and this is so of it as marks.
+/// Returns whether a new text isn't allowed. `may_be_marks`: whether it is allowed as marks.
 fn is_refused(old: &Text, new: &[u8], may_be_marks: bool) -> bool {
     let mut out = Text::new();
     new.len() <= LINE_LIMIT
@@ -104,13 +104,13 @@ fn is_refused(old: &Text, new: &[u8], may_be_marks: bool) -> bool {
         && patch_text(old, new, &mut out).is_ok() == may_be_marks
 }
 
-/// Characters in place of another one: the mark of each, and those that aren't allowed, with whether they may
-/// be marks.
+/// Characters that replace another one: the mark of each, and those that aren't allowed, with whether they are
+/// allowed as marks.
 const MARKED: &[(u8, u8)] = &[(b'#', b'#'), (b' ', b'&')];
 
 const REFUSED: &[(u8, bool)] = &[(b'&', true), (127, false), (31, false)];
 
-/// Expects what is so with each of these characters at a place of a text.
+/// Expects the results for each of these characters at a place of a text.
 fn expect_others(rt: &impl Abort, old: &Text, new: &mut [u8], place: usize) {
     if place >= new.len() {
         return;

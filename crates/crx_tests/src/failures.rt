@@ -1,5 +1,4 @@
-//! Whole runs over devices that fail, at each point in turn: what was written, what was reported, and how the
-//! run ended.
+//! Whole runs over devices that fail, at each point in turn: the output, the messages, and the end of the run.
 
 ghost use Rattle.std.specs.Prelude.{◌≡◌, ◌<◌};
 
@@ -21,7 +20,7 @@ mod reads;
 mod rows;
 mod writes;
 
-/// Which filter runs, or the check.
+/// The filter that runs, or the check.
 #[derive(Clone, Copy)]
 enum Tool {
     Compact,
@@ -29,8 +28,7 @@ enum Tool {
     Check,
 }
 
-/// A run over devices that don't fail, and what is written as its lines come.
-/// The texts are those of [`text`].
+/// A run over devices that don't fail, and its output after each line. The texts are those of [`text`].
 struct Case {
     name: &'static str,
     tool: Tool,
@@ -38,15 +36,15 @@ struct Case {
     input: &'static str,
     output: &'static str,
     messages: &'static str,
-    /// How many lines are written once none, one, two .. lines of the input were read; what is written at the
-    /// end alone doesn't count.
+    /// How many lines are written after none, one, two .. lines of the input were read, without those written
+    /// only at the end.
     after: &'static [usize],
-    /// The line that gives a warning.
+    /// The line that causes a warning.
     warned_at: Option<u64>,
     outcome: Outcome,
 }
 
-/// The length of the first lines of a text.
+/// Returns the length of the first `count` lines of a text.
 fn length_of_lines(text: &[u8], count: usize) -> usize {
     let mut left = count;
     for (place, byte) in text.iter().enumerate() {
@@ -60,7 +58,7 @@ fn length_of_lines(text: &[u8], count: usize) -> usize {
     text.len()
 }
 
-/// The texts of a case: its input, and what is written and reported where nothing fails.
+/// The texts of a case: its input, and its output and messages if nothing fails.
 #[derive(Drop)]
 struct Texts {
     input: Vec<u8>,
@@ -77,7 +75,7 @@ impl Texts {
         })
     }
 
-    /// Whether an output is that of the first lines of the input.
+    /// Returns whether an output is the text for the first `lines` lines of the input.
     fn is_output_after(&self, case: &Case, lines: usize, output: &[u8]) -> bool {
         let count = case.after.get(lines).copied().unwrap_or(0);
         output.len() == length_of_lines(self.output.as_slice(), count)
@@ -85,11 +83,11 @@ impl Texts {
     }
 }
 
-/// Room for all that a case writes.
+/// Room for everything that a case writes.
 const ROOM: usize = 4096;
 
-/// How the devices of a run go: how many bytes they give and take a call, how many of these the writer takes,
-/// and when they fail.
+/// The devices of a run: how many bytes they read and take per call, how many of these the writer takes, and
+/// when they fail.
 #[derive(Clone, Copy)]
 struct Devices {
     at_most: usize,
@@ -100,7 +98,7 @@ struct Devices {
     reports: Plan,
 }
 
-/// Devices that give and take so many bytes a call, and never fail.
+/// Returns devices that read and take at most `at_most` bytes per call, and never fail.
 fn good(at_most: usize) -> Devices
     ensures { result.at_most ≡ at_most }
 {
@@ -114,7 +112,7 @@ fn good(at_most: usize) -> Devices
     }
 }
 
-/// What a run left.
+/// The results of a run.
 #[derive(Drop)]
 struct Left {
     outcome: Outcome,
@@ -122,7 +120,7 @@ struct Left {
     messages: FailingSink,
 }
 
-/// Runs a filter over any devices; it skips faults where that is asked for.
+/// Runs a filter over any devices. `skip`: whether faults are skipped.
 fn run_over<R: Source, W: Sink, M: Sink>(
     alloc: Global,
     tool: Tool,
@@ -168,7 +166,7 @@ fn run_case(alloc: Global, case: &Case, texts: &Texts, devices: Devices) -> Resu
     run(alloc, case.tool, case.skip, texts.input.as_slice(), devices)
 }
 
-/// How many lines end within the first bytes of a text.
+/// Returns how many lines end within the first `bytes` bytes of a text.
 fn lines_within(text: &[u8], bytes: usize) -> usize {
     let mut lines: usize = 0;
     for byte in text.iter().take(bytes) {
@@ -179,7 +177,7 @@ fn lines_within(text: &[u8], bytes: usize) -> usize {
     lines
 }
 
-/// The outcome of a run that a fault ended.
+/// Returns the outcome of a run that a fault ended.
 fn ended(at: At) -> Outcome {
     Outcome {
         status: 1,
@@ -187,7 +185,7 @@ fn ended(at: At) -> Outcome {
     }
 }
 
-/// The messages of a run that a device ended once so many lines were read: the warning, if it was among them,
+/// Returns the messages of a run that a device ended after `lines` lines: the warning, if it was among them,
 /// and the error.
 fn messages_until(alloc: Global, case: &Case, lines: u64, at: At) -> Result<Vec<u8>, Fail> {
     let mut messages = match case.warned_at {

@@ -1,4 +1,4 @@
-//! The texts of all faults, alone and at a line.
+//! The texts of all faults, by themselves and at a line.
 
 use crate::expecting::expect;
 use crx_base::{At, Fault};
@@ -47,7 +47,8 @@ const TABLE: &[(Fault, u8, &str)] = &[
     (Fault::OutOfMemory, 22, "line 7 code 22: out of memory"),
 ];
 
-/// Whether a fault has this number, this text at line 7, and the words at the end of that as its text alone.
+/// Returns whether a fault has this number and this text at line 7, and whether the words at the end of this
+/// are the fault's own text.
 fn is_shown(alloc: Global, fault: Fault, code: u8, text: &str) -> Result<bool, AllocError> {
     let Some((_, words)) = text.split_once(": ") else {
         return Ok(false);

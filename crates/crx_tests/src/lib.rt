@@ -1,6 +1,6 @@
-//! Tests of the libraries, for what a run of the program can't show: single calls of each layer, with memory
-//! at hand; the engines line by line; and runs over devices that fail, at each point in turn. What runs write
-//! and report of whole files is shown by the program itself (tests/cases).
+//! Tests of the libraries that no run of the program can replace: single calls of each layer, with enough
+//! memory; the engines line by line; and runs over devices that fail, at each point in turn. The program itself
+//! shows the output and messages of runs over whole files (tests/cases).
 #![tactic(auto)]
 
 #[cfg(test)]

@@ -5,7 +5,7 @@ use std::alloc::Global;
 use std::process::Abort;
 use std::test::Fail;
 
-/// The length of the next line, if there is one; of a fault the greatest number.
+/// Returns the length of the next line, if there is one, and the greatest number for a fault.
 fn next_length(lines: &mut LineReader, reader: &mut Std<&[u8]>) -> Option<usize> {
     match lines.next_line(reader) {
         Ok(Some(line)) => Some(line.bytes().len()),
@@ -32,7 +32,7 @@ fn expect_lengths(
     Ok(())
 }
 
-/// How long the text is.
+/// The length of the text.
 const LENGTH: usize = 130;
 
 #[test]

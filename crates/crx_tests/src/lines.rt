@@ -1,4 +1,4 @@
-//! Lines with each kind of line end, out of a slice and out of a reader that fails.
+//! Lines with each kind of line end, from a slice and from a reader that fails.
 
 use crate::expecting::expect_at;
 use crx_base::limits::LINE_LIMIT;
@@ -9,10 +9,10 @@ use std::alloc::{AllocError, Global};
 use std::process::Abort;
 use std::test::Fail;
 
-/// What a call is to answer.
+/// The expected result of a call.
 #[derive(Clone, Copy)]
 enum Answer<'a> {
-    /// A line's content, its number, and whether LF alone ends it.
+    /// A line's content, its number, and whether only LF ends it.
     Line(&'a [u8], u64, bool),
     /// No line is left.
     End,
@@ -45,7 +45,7 @@ fn expect_answers<R: Source>(
     Ok(())
 }
 
-/// Bytes, and the answers to calls one after another.
+/// Bytes, and the results of calls one after another.
 const LINE_ENDS: &[(&[u8], &[Answer<'_>])] = &[
     (b"", &[Answer::End, Answer::End]),
     (
@@ -100,7 +100,7 @@ fn stops_at_a_failed_read(rt: HostRuntime) -> Result<(), Fail> {
     Ok(())
 }
 
-/// Puts a line of one character after a text.
+/// Appends a line of one character to a text.
 fn push_line(
     text: &mut Vec<u8>,
     character: u8,
@@ -113,7 +113,7 @@ fn push_line(
     text.extend_from_slice(end)
 }
 
-/// A line at the limit, two that are longer, and a short one.
+/// Returns a line at the limit, two that are longer, and a short one.
 fn long_lines(alloc: Global) -> Result<Vec<u8>, AllocError> {
     let mut text = Vec::new(alloc);
     push_line(&mut text, b'x', LINE_LIMIT, b"\r\n")?;

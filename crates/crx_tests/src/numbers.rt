@@ -4,7 +4,7 @@ use crate::expecting::expect;
 use crate::texts::shown;
 use crx_text::{BadField, clock_read, obs_read};
 
-/// Fields, and the values that they are read as.
+/// Fields, and their values.
 type Fields<'a> = &'a [(&'a [u8], Result<Option<i64>, BadField>)];
 
 const OBSERVATIONS: Fields<'_> = &[

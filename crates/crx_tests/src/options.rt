@@ -1,10 +1,10 @@
-//! Which dates are taken.
+//! Dates that are accepted or refused.
 
 use crate::expecting::expect;
 use crate::texts::shown;
 use crx_filter::Options;
 
-/// Dates, and whether they are taken.
+/// Dates, and whether they are accepted.
 const DATES: &[(&[u8], bool)] = &[
     (b"", true),
     (b"D", true),
@@ -16,7 +16,7 @@ const DATES: &[(&[u8], bool)] = &[
     (b"a\x7f", false),
 ];
 
-/// Whether a date is refused, or taken as it is beside the choice to skip.
+/// Returns whether a date is refused, or accepted unchanged with the choice to skip.
 fn is_so(date: &[u8], good: bool) -> bool {
     match Options::new(None, true, date) {
         Ok(options) => good && options.date() == date && options.skip(),

@@ -1,5 +1,5 @@
-//! A value that is dropped by a call. Where tests drop a large value themselves, the prover goes through all
-//! of its parts in each of them.
+//! A value that a call drops. If tests drop a large value themselves, the prover goes through all of its parts
+//! in each of them.
 
 ghost use Rattle.std.specs.Prelude.{◌≡◌};
 

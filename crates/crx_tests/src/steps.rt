@@ -1,4 +1,4 @@
-//! The engines line by line: what they answer to each line of a text, and how many lines are ready then.
+//! The engines line by line: their answers to each line of a text, and how many lines are ready then.
 
 ghost use Rattle.std.specs.Prelude.{◌≡◌, ◌<◌};
 ghost use Rattle.crx_runs.specs.Engines.{taken_after};
@@ -16,8 +16,8 @@ use std::test::Fail;
 mod compactor;
 mod expander;
 
-/// What is answered to a line, and how many lines are ready then; and the same where the line is to be fed
-/// once more.
+/// The answer to a line, and how many lines are ready then; and the second answer, if the line has to be fed
+/// again.
 struct Answer {
     step: Step,
     ready: usize,
@@ -32,7 +32,7 @@ struct Run {
     answers: &'static [Answer],
 }
 
-/// Nothing is to be written.
+/// Nothing to write.
 const QUIET: Answer = Answer {
     step: Step::Quiet,
     ready: 0,
@@ -60,7 +60,7 @@ const THREE: Answer = Answer {
     again: None,
 };
 
-/// A line that gives two warnings.
+/// A line that causes two warnings.
 const TWICE: Answer = Answer {
     step: Step::Warned {
         notice: At {
@@ -79,7 +79,7 @@ const TWICE: Answer = Answer {
     }),
 };
 
-/// The number of the last line that counts, after a line that was fed once.
+/// Returns the number of the last line that counts, after a line that was fed once.
 fn counted(step: Step, taken: u64) -> u64
     requires { taken < 1000 }
     ensures { result ≡ taken_after step taken }

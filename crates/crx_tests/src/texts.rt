@@ -1,9 +1,8 @@
-//! Texts of whole files, line by line, and the lines that several tests are about: each is here once, under a
-//! name.
+//! Texts of whole files, line by line, and the lines that several tests use: each is here once, under a name.
 
 use std::alloc::{AllocError, Global};
 
-/// Names in texts, and the lines that they stand for, with `|` between lines.
+/// Names in texts, and their lines, with `|` between lines.
 const NAMED: &[(&str, &str)] = &[
     // A header of one system and one type
     (
@@ -41,7 +40,7 @@ const NAMED: &[(&str, &str)] = &[
         "B2",
         "> 2024 01 01 00 00  1.0000000  0  1|G01  20000100.500&",
     ),
-    // The compact lines of three of them in full
+    // The compact lines of three of them, each full
     (
         "F1",
         "> 2024 01 01 00 00  0.0000000  0  1      G01||3&20000000000",
@@ -83,7 +82,7 @@ const NAMED: &[(&str, &str)] = &[
     ),
 ];
 
-/// The lines that a name stands for, with `|` between them; what is no name stands for itself.
+/// Returns the lines of a name, with `|` between them; any other text is its own lines.
 pub fn lines_of<'a>(name: &'a str) -> &'a str {
     for (known, lines) in NAMED {
         if *known == name {
@@ -93,7 +92,7 @@ pub fn lines_of<'a>(name: &'a str) -> &'a str {
     name
 }
 
-/// Puts lines after a text, LF after each.
+/// Appends lines to a text, each with LF.
 fn push_lines(text: &mut Vec<u8>, lines: &str) -> Result<(), AllocError> {
     for line in lines.split('|') {
         text.extend_from_slice(line.as_bytes())?;
@@ -102,8 +101,8 @@ fn push_lines(text: &mut Vec<u8>, lines: &str) -> Result<(), AllocError> {
     Ok(())
 }
 
-/// The text of lines and of names of lines that are separated by `|`: each line ends with LF, and no lines
-/// are no text.
+/// Returns the text of lines and of names of lines that are separated by `|`: each line ends with LF. Without
+/// lines the text is empty.
 pub fn text(alloc: Global, names: &str) -> Result<Vec<u8>, AllocError> {
     let mut text = Vec::new(alloc);
     if names.is_empty() {
@@ -115,7 +114,7 @@ pub fn text(alloc: Global, names: &str) -> Result<Vec<u8>, AllocError> {
     Ok(text)
 }
 
-/// Bytes as a text for a message; nothing where they are none.
+/// Returns bytes as a text for a message, or an empty text if they are none.
 pub fn shown(bytes: &[u8]) -> &str {
     match str::from_utf8(bytes) {
         Ok(text) => text,

@@ -6,15 +6,15 @@ use crate::texts::lines_of;
 pub struct Table {
     /// What they show.
     pub shows: &'static str,
-    /// 0: none of them is asked to be in full; 1: each one is; 2: every second one is, from the first one on.
+    /// 0: no epoch is requested to be full; 1: each one is; 2: every second one is, from the first one on.
     pub full: usize,
-    /// Of each epoch the RINEX lines, `=`, and the compact lines that stand for them, or the names of such
-    /// lines, with `|` between lines.
+    /// The RINEX lines of each epoch, `=`, and its compact lines, or the names of such lines, with `|` between
+    /// lines.
     pub epochs: &'static [&'static str],
 }
 
 impl Table {
-    /// Whether an epoch is asked to be in full, by its place in the table.
+    /// Returns whether the epoch at `place` in the table is requested to be full.
     pub fn is_full(&self, place: usize) -> bool {
         self.full != 0 && place % self.full == 0
     }
@@ -58,7 +58,7 @@ const BOTH_WAYS: &[Table] = &[
     },
 ];
 
-/// Epochs whose compact lines others write: see [`read_alone`].
+/// Epochs whose compact lines other writers made: see [`read_alone`].
 const READ_ALONE: &[Table] = &[Table {
     shows: "marks past the last identifier",
     full: 0,
@@ -69,7 +69,7 @@ const READ_ALONE: &[Table] = &[Table {
     ],
 }];
 
-/// The RINEX lines of an epoch of a table, and its compact lines.
+/// Returns the RINEX lines of an epoch of a table, and its compact lines.
 pub fn both_forms<'a>(epoch: &'a str) -> (&'a str, &'a str) {
     match epoch.split_once('=') {
         Some((rinex, compact)) => (lines_of(rinex), lines_of(compact)),
@@ -77,13 +77,13 @@ pub fn both_forms<'a>(epoch: &'a str) -> (&'a str, &'a str) {
     }
 }
 
-/// Epochs that are written as they are read. One function names the table: the prover goes through it
-/// wherever it is named.
+/// Returns the epochs that are written as they are read. Only this function names the table, because the prover
+/// goes through it wherever it is named.
 pub fn both_ways() -> &'static [Table] {
     BOTH_WAYS
 }
 
-/// Epochs whose compact lines others write.
+/// Returns the epochs whose compact lines other writers made.
 pub fn read_alone() -> &'static [Table] {
     READ_ALONE
 }

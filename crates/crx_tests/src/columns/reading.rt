@@ -14,7 +14,7 @@ use crx_rinex::{Printed, is_event_line};
 use std::process::Abort;
 use std::test::Fail;
 
-/// Whether a line may be fed: it isn't too long, and begins no event.
+/// Returns whether a line may be fed: it isn't too long, and begins no event.
 fn may_be_fed(line: &[u8]) -> bool
     ensures short { OnTrue result (length line.now ≤ LINE_LIMIT) }
     ensures no_event { OnTrue result (is_event_line line.now ≡ false) }
@@ -22,7 +22,7 @@ fn may_be_fed(line: &[u8]) -> bool
     line.len() <= LINE_LIMIT && !is_event_line(line)
 }
 
-/// Takes one line, the first one of an epoch or a later one.
+/// Feeds one line, the first one of an epoch or a later one.
 fn take(columns: &mut Columns, types: &Types, line: &[u8]) -> Result<Option<Owned<Epoch>>, Fault> {
     if !may_be_fed(line) {
         return Err(Fault::LineTooLong);
@@ -37,8 +37,8 @@ fn take(columns: &mut Columns, types: &Types, line: &[u8]) -> Result<Option<Owne
     }
 }
 
-/// Takes lines one after another: the epoch that the last one completes. An epoch before the last line is a
-/// fault.
+/// Feeds lines one after another, and returns the epoch that the last one completes. Returns a fault if an
+/// epoch is complete before the last line.
 fn take_all(
     columns: &mut Columns,
     types: &Types,
@@ -54,7 +54,7 @@ fn take_all(
     Ok(given)
 }
 
-/// Whether an epoch was given that has these RINEX lines.
+/// Returns whether there is an epoch, and it has these RINEX lines.
 fn prints(given: Option<Owned<Epoch>>, want: &str) -> bool {
     let Some(epoch) = given else {
         return false;
@@ -68,7 +68,7 @@ fn prints(given: Option<Owned<Epoch>>, want: &str) -> bool {
     printed.value.next_line().is_none()
 }
 
-/// Whether compact lines are read as the epoch that has these RINEX lines.
+/// Returns whether compact lines are read as the epoch that has these RINEX lines.
 fn is_read(columns: &mut Columns, types: &Types, compact: &str, rinex: &str) -> bool {
     match take_all(columns, types, compact) {
         Ok(given) => prints(given, rinex) && columns.is_idle(),

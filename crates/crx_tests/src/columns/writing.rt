@@ -7,7 +7,7 @@ use crx_compact::Coded;
 use std::process::Abort;
 use std::test::Fail;
 
-/// Whether these lines come next, and no others.
+/// Returns whether these lines are next, and no others.
 fn are_next(coded: &mut Coded, lines: &str) -> bool {
     for line in lines.split('|') {
         if coded.next_line() != Some(line.as_bytes()) {
@@ -17,7 +17,7 @@ fn are_next(coded: &mut Coded, lines: &str) -> bool {
     coded.next_line().is_none()
 }
 
-/// Whether an epoch, in full or not, has these compact lines.
+/// Returns whether an epoch, full or not, has these compact lines.
 fn is_encoded(
     alloc: Global,
     columns: &mut Columns,

@@ -139,7 +139,8 @@ const CASES: &[Case] = &[
     },
 ];
 
-/// All of them. One function names the table: the prover goes through it wherever it is named.
+/// Returns all cases. Only this function names the table, because the prover goes through it wherever it is
+/// named.
 pub fn cases() -> &'static [Case] {
     CASES
 }

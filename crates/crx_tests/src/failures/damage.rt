@@ -3,7 +3,7 @@
 use super::cases::cases;
 use super::*;
 
-/// Whether a run has the first lines of a text among what it wrote.
+/// Returns whether the output of a run begins with the first `lines` lines of a text.
 fn has_written(left: &Left, whole: &[u8], lines: usize) -> bool {
     match whole.get(..length_of_lines(whole, lines)) {
         Some(wanted) => left.writer.contents().starts_with(wanted),
@@ -11,8 +11,8 @@ fn has_written(left: &Left, whole: &[u8], lines: usize) -> bool {
     }
 }
 
-/// Whether a run with ample memory and room ended as runs do: without a message, or with one and another
-/// status.
+/// Returns whether a run with enough memory and room ended as runs do: without a message, or with one and
+/// another status.
 fn has_ended(left: &Left) -> bool {
     if let Some(at) = left.outcome.fault {
         if at.fault == Fault::OutOfMemory || at.fault == Fault::WriteFailed {
@@ -26,7 +26,7 @@ fn has_ended(left: &Left) -> bool {
     }
 }
 
-/// Whether an input is expanded to an end, and to so many lines of a text at least.
+/// Returns whether an input is expanded to an end, and at least to `lines` lines of a text.
 fn is_expanded(
     alloc: Global,
     skip: bool,
@@ -38,7 +38,7 @@ fn is_expanded(
     Ok(has_ended(&left) && has_written(&left, whole, lines))
 }
 
-/// The same with and without faults that are skipped.
+/// Does the same both with and without skipping faults.
 fn is_expanded_always(
     alloc: Global,
     input: &[u8],
@@ -51,7 +51,7 @@ fn is_expanded_always(
     )
 }
 
-/// Whether a prefix of a case's input is expanded to what its whole lines make at least.
+/// Returns whether a prefix of a case's input is expanded at least to the output for its whole lines.
 fn is_expanded_from(
     alloc: Global,
     case: &Case,
@@ -82,7 +82,7 @@ fn each_prefix_is_expanded(rt: HostRuntime) -> Result<(), Fail> {
 /// Compact text with a satellite that is absent once, and with types that change in an event.
 const TEXTS: &[&str] = &["K|H|A1|A2|A3", "K|H|CT"];
 
-/// A text with another byte at a place.
+/// Returns a text with another byte at a place.
 fn with_byte(alloc: Global, text: &[u8], place: usize, byte: u8) -> Result<Vec<u8>, AllocError> {
     let mut damaged = Vec::new(alloc);
     for (at, old) in text.iter().enumerate() {
@@ -91,13 +91,13 @@ fn with_byte(alloc: Global, text: &[u8], place: usize, byte: u8) -> Result<Vec<u
     Ok(damaged)
 }
 
-/// Whether a text with another byte at a place is expanded to an end.
+/// Returns whether a text with another byte at a place is expanded to an end.
 fn has_ends(alloc: Global, text: &[u8], place: usize, byte: u8) -> Result<bool, Fail> {
     let input = with_byte(alloc, text, place, byte)?;
     is_expanded_always(alloc, input.as_slice(), b"", 0)
 }
 
-/// The bytes that are put in place of others.
+/// The bytes that replace others.
 const BYTES: &[u8] = &[0, b'&', b'>', 255];
 
 #[test]

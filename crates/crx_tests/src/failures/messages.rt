@@ -3,8 +3,8 @@
 use super::cases::cases;
 use super::*;
 
-/// Whether a run whose messages failed after so many bytes reported just these, kept the fault of an error,
-/// and ended at a warning's line with a failed write.
+/// Returns whether a run whose messages failed after `taken` bytes reported just these, kept the fault of an
+/// error, and ended at a warning's line with a failed write.
 fn is_so(case: &Case, texts: &Texts, left: &Left, taken: usize) -> bool {
     let reported = left.messages.contents();
     if reported.len() != taken || !texts.messages.as_slice().starts_with(reported) {
@@ -29,7 +29,7 @@ fn is_so(case: &Case, texts: &Texts, left: &Left, taken: usize) -> bool {
     }
 }
 
-/// A writer of messages that fails after so many bytes.
+/// Returns whether this holds of a writer of messages that fails after `taken` bytes.
 fn fails_after(alloc: Global, case: &Case, texts: &Texts, taken: usize) -> Result<bool, Fail> {
     let devices = Devices {
         reports: Plan::from_then_on(When::AfterBytes(taken)),

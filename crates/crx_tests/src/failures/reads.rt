@@ -3,7 +3,7 @@
 use super::cases::cases;
 use super::*;
 
-/// Whether a run ended with the failed read after so many lines, or before it as the case does.
+/// Returns whether a run ended with the failed read after `lines` lines, or before it as the case does.
 fn has_stopped(alloc: Global, case: &Case, left: &Left, lines: u64) -> Result<bool, Fail> {
     if matches!(case.outcome.fault, Some(at) if at.line <= lines) {
         return Ok(left.outcome == case.outcome);
@@ -16,8 +16,8 @@ fn has_stopped(alloc: Global, case: &Case, left: &Left, lines: u64) -> Result<bo
     Ok(left.outcome == ended(at) && left.messages.contents() == wanted.as_slice())
 }
 
-/// A source that gives one byte a call, and fails after so many: the output is that of the lines whose LF was
-/// given.
+/// Returns whether a source that returns one byte per call and fails after `given` bytes leaves the output for
+/// the lines whose LF was read.
 fn fails_after(alloc: Global, case: &Case, texts: &Texts, given: usize) -> Result<bool, Fail> {
     let devices = Devices {
         reads: Plan::from_then_on(When::AfterBytes(given)),

@@ -1,17 +1,17 @@
-//! Single failures, with what is written and reported typed out.
+//! Single failures, with their output and messages typed out.
 
 ghost use Rattle.std.specs.Prelude.{◌<◌};
 
 use super::*;
 
-/// The device that fails, after so many bytes.
+/// The device that fails, after this number of bytes.
 enum Failing {
     Reader(usize),
     Writer(usize),
     Messages(usize),
 }
 
-/// A compaction over a device that fails, and what it leaves.
+/// A compaction over a device that fails, and its results.
 struct Row {
     name: &'static str,
     input: &'static str,
@@ -24,7 +24,7 @@ struct Row {
     at: At,
 }
 
-/// Devices of which one fails: a reader that gives one byte a call, and the others.
+/// Returns devices of which one fails; the reader returns one byte per call.
 fn devices(failing: &Failing) -> Devices
     ensures { 0 < result.at_most }
 {
@@ -48,7 +48,7 @@ fn devices(failing: &Failing) -> Devices
     }
 }
 
-/// Whether a row is as it is to be.
+/// Returns whether a row's run has the row's results.
 fn passes(alloc: Global, row: &Row) -> Result<bool, Fail> {
     let input = text(alloc, row.input)?;
     let mut output = text(alloc, row.lines)?;

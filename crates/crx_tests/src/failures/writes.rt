@@ -1,11 +1,11 @@
-//! Each write fails in turn, and the flush; a writer that takes one byte a call, or none.
+//! Each write fails in turn, and the flush; a writer that takes one byte per call, or none.
 
 ghost use Rattle.std.specs.Prelude.{◌<◌};
 
 use super::cases::cases;
 use super::*;
 
-/// The line of the input at which a byte of the output is written: the last one where that is at the end.
+/// Returns the line of the input at which a byte of the output is written: the last one if that is at the end.
 fn line_of_byte(case: &Case, texts: &Texts, place: usize) -> u64 {
     for (lines, count) in case.after.iter().enumerate() {
         if place < length_of_lines(texts.output.as_slice(), *count) {
@@ -15,12 +15,12 @@ fn line_of_byte(case: &Case, texts: &Texts, place: usize) -> u64 {
     last_line(case)
 }
 
-/// The number of the last line of the input.
+/// Returns the number of the last line of the input.
 fn last_line(case: &Case) -> u64 {
     (case.after.len() as u64).saturating_sub(1)
 }
 
-/// Whether a run ended with a failed write at a line, and reported that.
+/// Returns whether a run ended with a failed write at a line, and reported that.
 fn has_failed_at(alloc: Global, case: &Case, left: &Left, line: u64) -> Result<bool, Fail> {
     let at = At {
         line,
@@ -30,7 +30,7 @@ fn has_failed_at(alloc: Global, case: &Case, left: &Left, line: u64) -> Result<b
     Ok(left.outcome == ended(at) && left.messages.contents() == wanted.as_slice())
 }
 
-/// A writer that fails after so many bytes: just these were written.
+/// Returns whether just `taken` bytes were written if the writer fails after them.
 fn fails_after(alloc: Global, case: &Case, texts: &Texts, taken: usize) -> Result<bool, Fail> {
     let devices = Devices {
         writes: Plan::from_then_on(When::AfterBytes(taken)),
@@ -59,7 +59,8 @@ fn each_write_fails(rt: HostRuntime) -> Result<(), Fail> {
     Ok(())
 }
 
-/// Devices that take and give so many bytes a call: the run is the good one, with one flush.
+/// Returns whether the run over devices that take and return at most `at_most` bytes per call is the good one,
+/// with one flush.
 fn goes_well(alloc: Global, case: &Case, texts: &Texts, at_most: usize) -> Result<bool, Fail>
     requires { 0 < at_most }
 {
@@ -84,8 +85,8 @@ fn a_few_bytes_a_call(rt: HostRuntime) -> Result<(), Fail> {
     Ok(())
 }
 
-/// A writer that takes no byte, though none of its calls is made to fail: the first write ends the run, and
-/// none is tried after it.
+/// Returns whether the first write ends the run, and no write follows it, if the writer takes no byte, though
+/// none of its calls is made to fail.
 fn takes_none(alloc: Global, case: &Case, texts: &Texts) -> Result<bool, Fail> {
     let devices = Devices {
         written_at_most: 0,
@@ -112,8 +113,8 @@ fn no_byte_is_taken(rt: HostRuntime) -> Result<(), Fail> {
     Ok(())
 }
 
-/// A flush that fails: all is written, and the failure is reported at the last line, where there is no fault
-/// before.
+/// Returns whether all output is written if the flush fails, and this is reported at the last line, unless a
+/// fault was before.
 fn flush_fails(alloc: Global, case: &Case) -> Result<bool, Fail> {
     let texts = Texts::of(alloc, case)?;
     let devices = Devices {

@@ -7,7 +7,7 @@ use super::*;
 use crate::owned::Owned;
 use crx_filter::Expander;
 
-/// Takes the lines that are ready, at most four: how many there were.
+/// Takes the lines that are ready, at most four, and returns how many there were.
 fn take_ready(engine: &mut Expander) -> usize
     ensures { expander_state engine.new ≡ expander_state engine.old }
 {
@@ -26,7 +26,7 @@ fn take_ready(engine: &mut Expander) -> usize
     4
 }
 
-/// Feeds a line, which has the number after the last one that counts, and takes the lines that are ready: the
+/// Feeds a line, whose number follows the last one that counts, and takes the lines that are ready. Returns the
 /// number of the last line that counts then.
 fn feed_one(
     rt: &impl Abort,
@@ -86,7 +86,7 @@ fn feed_all(
     expect_at(rt, is_last && is_quiet, run.name, taken as usize);
 }
 
-/// Expects that an engine gives the answers of a run to the lines of its text.
+/// Expects that an engine returns the answers of a run for the lines of its text.
 fn expect_answers(rt: &impl Abort, alloc: Global, run: &Run) -> Result<(), Fail> {
     let input = text(alloc, run.lines)?;
     let options = Options::new(None, run.skip, b"D")?;

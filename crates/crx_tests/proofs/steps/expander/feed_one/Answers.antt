@@ -12,7 +12,7 @@ same-number : {O K : Type 0} (before after : RunState O K) (n : ℕ) → after �
     → after.number ≡ n
 same-number {O = O} {K = K} before after n is h = subst (λ (s : RunState O K). s.number ≡ n) (sym is) h
 
--- the lines that are ready are taken without a change of what is seen, and the line counts as its answer says
+-- the ready lines are taken without a change of the state, and the line counts as its answer says
 pub returns-in-Ok-clause-counted : goal.returns-in-Ok-clause-counted
 returns-in-Ok-clause-counted g c =
     let self = c.args.engine.now in
