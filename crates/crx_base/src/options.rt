@@ -87,8 +87,8 @@ impl Options {
         })
     }
 
-    /// Returns the number of epochs of which one is full; `None` if only those are full that must be: the
-    /// first, and the first after each event or warning.
+    /// Returns N if every N-th epoch is full; `None` if only those are full that must be: the first, and the
+    /// first after each event or warning.
     pub fn every(&self) -> Option<u32>
         ensures value { result ≡ self.now.every }
     {

@@ -112,7 +112,7 @@ fn date_option<'a>(alloc: Global) -> Arg<'a>
         .help("The date in line 2, at most 20 bytes [default: now]")
 }
 
-/// Returns the argument of `-` and a file's name, in any order.
+/// Returns the argument for `-` and a file's name, in any order.
 fn names_of_files<'a>(alloc: Global, help: &'a str) -> Arg<'a>
     ensures { HasRule result names_rule }
 {

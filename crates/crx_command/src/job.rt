@@ -31,7 +31,7 @@ pub struct Job {
     pub target: Option<Word>,
     /// Whether an existing file is overwritten.
     pub force: bool,
-    /// One epoch in this number of epochs is full; `None` if only those are full that must be.
+    /// N if every N-th epoch is full; `None` if only those are full that must be.
     pub every: Option<u32>,
     /// Whether an epoch with a fault is skipped with a warning.
     pub skip: bool,
@@ -52,8 +52,8 @@ pub enum Decision {
 #[derive(Debug, Drop, Error)]
 #[error("{}{}", self.words(), self.subject())]
 pub enum UsageFault {
-    /// The arguments aren't those of the program, or an option doesn't take its value. Holds the text for the
-    /// user.
+    /// The arguments aren't those of the program, or an option has a value that it doesn't take. Holds the text
+    /// for the user.
     Parse(Word),
     /// `-` is given twice.
     DashTwice,

@@ -101,7 +101,7 @@ fn job(
     })
 }
 
-/// Returns the decision for a subcommand's arguments: the first refusal that fits, otherwise the run.
+/// Returns the decision for a subcommand's arguments: the first fault that fits, otherwise the run.
 fn decide_for(alloc: Global, tool: Tool, given: &Arguments<'_>) -> Result<Decision, UsageFault>
     ensures { IfSome (plan_in result) (λ plan. plan ≡ decide tool (given_of given.now)) }
 {
@@ -141,6 +141,7 @@ fn tool_named(name: &str) -> Tool
 }
 
 /// Returns all arguments of a process except the first, which is the program's name: in order, and each once.
+/// Returns `AllocError` if memory is refused.
 pub fn words_given(alloc: Global, arguments: Args) -> Result<Vec<String>, AllocError>
     ensures words { IfOk result (λ words. words.items ≡ drop 1 (into_iter_items arguments)) }
 {

@@ -1,4 +1,4 @@
-//! Devices over memory that fail if and only if their plans say so: for tests of failing readers and writers.
+//! Devices over memory that fail only when their plans say so: for tests of failing readers and writers.
 #![tactic(auto)]
 
 pub mod plan;

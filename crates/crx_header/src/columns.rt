@@ -10,8 +10,8 @@ use crx_base::limits::NAME_WIDTH;
 use crx_text::columns::{character, end_trimmed, trimmed};
 pub use crx_text::columns::{after_columns, all_blank, padded};
 
-/// Returns the number in three columns from `first` on: digits, with blanks before or after them. Inlined,
-/// because it is shorter if `first` is known.
+/// Returns the number in three columns from `first` on: digits, with blanks before or after them. Returns
+/// `None` for anything else. Inlined, because it is shorter if `first` is known.
 #[inline(always)]
 pub fn number(line: &[u8], first: usize) -> Option<usize>
     requires from_one { 1 ≤ first }

@@ -1,6 +1,6 @@
 -- Everything that a reader of lines holds between two lines of an input, part by part. By the law
--- `line_reader_holds` a reader that takes over these parts of another is that other; so no further part exists
--- in which a record of the past lines could grow.
+-- `line_reader_holds` a reader with these parts of another one is equal to it; so no further part exists in
+-- which a record of the past lines could grow.
 use Rattle.crx_lines.specs.declared.line.LineReader.{LineReader}
 use Rattle.crx_lines.specs.declared.window.Window.{Window}
 

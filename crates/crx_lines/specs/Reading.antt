@@ -29,7 +29,7 @@ line_number l = l.number
 pub record ReaderState : Type 0 where
   -- the bytes that were read and are of no line yet
   pub rest : List ℕ
-  -- how many bytes the lines so far had, with their ends and with refused lines
+  -- how many bytes the lines so far had, including their ends and refused lines
   pub passed : ℕ
   -- the number of the last line, 0 before the first
   pub number : ℕ

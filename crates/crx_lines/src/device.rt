@@ -1,6 +1,6 @@
 //! The devices that bytes are read from and written to. Each one counts its failures, so that a contract can
-//! say that a run had none, and what became of the bytes if it had one. A source also counts how often it
-//! reported its end, so that a read after that shows.
+//! say that a run had none, or which bytes passed before one. A source also counts how often it reported its
+//! end, so that a read after that shows.
 ghost use Rattle.std.specs.Prelude.{◌≡◌, ℕ, List, [], ◌++◌, ◌<◌, ◌≤◌, length, take, is_ok, true, false, not, Bool, IfOk, Ok, OnOk, OnErr};
 ghost use Rattle.std.specs.Fs.{IsFile, file_type};
 ghost use Rattle.std.specs.Io.KnownBytes.{Appends, Consumes, IsAtEnd};
@@ -47,9 +47,9 @@ pub trait Source {
     fn may_wait(&self) -> bool
         ensures value { result ≡ waits self.now };
 
-    /// Reads any number of the next bytes into the front of `buffer`, and returns this number. 0 reports the
-    /// end if `buffer` isn't empty. The other bytes of `buffer`, or all of them after a failure, may have any
-    /// value.
+    /// Reads some of the next bytes into the front of `buffer`, and returns how many. 0 reports the end unless
+    /// `buffer` is empty. Returns `ReadFailed` if the read fails, without losing a byte. The rest of `buffer`,
+    /// or all of it after a failure, may have any value.
     fn read(&mut self, buffer: &mut [u8]) -> Result<usize, ReadFailed>
         ensures bound { IfOk result (λ n. n ≤ length buffer.new) }
         ensures bytes { IfOk result (λ n. gave self.old (take n buffer.new) self.new) }
@@ -91,8 +91,8 @@ pub trait Sink {
     // Whether a `hand_on` has failed. Then every flush fails.
     ghost is_broken: { Self → Bool };
 
-    /// Takes the first of `bytes`, at least one if there is one, and returns how many. They count as passed on
-    /// only after a good flush.
+    /// Takes the first of `bytes`, at least one if there is one, and returns how many, or `WriteFailed` if it
+    /// takes none. They count as passed on only after a good flush.
     fn write(&mut self, bytes: &[u8]) -> Result<usize, WriteFailed>
         ensures bound { IfOk result (λ n. n ≤ length bytes.now) }
         ensures bytes { IfOk result (λ n. took self.old (take n bytes.now) self.new) }
@@ -105,7 +105,8 @@ pub trait Sink {
         ensures awaited { is_awaited self.new ≡ is_awaited self.old }
         ensures unbroken { is_broken self.new ≡ is_broken self.old };
 
-    /// Passes the bytes taken on to where they are kept. Takes no byte.
+    /// Passes on the bytes taken to where they are kept. Takes no byte. Returns `WriteFailed` if this fails or
+    /// a [`Sink::hand_on`] has failed.
     fn flush(&mut self) -> Result<(), WriteFailed>
         ensures none_taken { took self.old [] self.new }
         ensures flushed { OnOk result (is_flushed self.new) }
@@ -116,8 +117,8 @@ pub trait Sink {
         ensures awaited { is_awaited self.new ≡ is_awaited self.old }
         ensures unbroken { is_broken self.new ≡ is_broken self.old };
 
-    /// Marks the output as awaited, so that each [`Sink::hand_on`] from now on passes it on; before, that does
-    /// nothing. Passes nothing on itself.
+    /// Marks the output as awaited: from now on each [`Sink::hand_on`] passes it on, and before this call none
+    /// does. Passes nothing on itself.
     fn await_output(&mut self)
         ensures none_taken { took self.old [] self.new }
         ensures unasked { flushes self.new ≡ flushes self.old }
@@ -127,7 +128,7 @@ pub trait Sink {
         ensures flushed { is_flushed self.new → is_flushed self.old }
         ensures current { is_current self.new → is_current self.old };
 
-    /// Passes the bytes taken on if the output is awaited, and returns whether that succeeded. Takes no byte
+    /// Passes on the bytes taken if the output is awaited, and returns whether that succeeded. Takes no byte
     /// and doesn't count as a flush. If it fails, each later flush fails and counts the failure.
     fn hand_on(&mut self) -> bool
         ensures none_taken { took self.old [] self.new }

@@ -28,7 +28,7 @@ pub struct Line<'a> {
 impl<'a> Line<'a> {
     ghost use Rattle.crx_lines.specs.Reading.{line_shown, line_number};
 
-    /// Makes a line of `content`, which has no line end.
+    /// Makes a line of `content`, which excludes the line end. `is_plain`: whether only an LF ends it.
     pub fn of(content: Padded<'a>, number: u64, is_plain: bool) -> Line<'a>
         requires { length (line_in content) ≤ LINE_LIMIT }
         ensures shown { line_shown result ≡ record { content = line_in content.entry; is_plain = is_plain } }
@@ -79,7 +79,7 @@ pub struct LineReader {
     // each line.
     number: u64,
     window: Box<Window>,
-    /// How many bytes the lines so far had, with their ends and with refused lines.
+    /// How many bytes the lines so far had, including their ends and refused lines.
     passed: u64,
     phase: Phase,
     ghost counted: { number ≤ passed },

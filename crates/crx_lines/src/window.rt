@@ -16,15 +16,15 @@ use crx_base::{Fault, Padded, Refused};
 use std::alloc::Global;
 use std::mem;
 
-/// How many bytes in use are free before a read, at least; twice this number are in use at first.
+/// The least number of bytes in use that are free before a read; twice this number are in use at first.
 const PIECE: usize = 2048;
 
-/// How many of the [`SIZE`] bytes follow the pending ones before a read, at least, in use or not: a line's
+/// The least number of the [`SIZE`] bytes that follow the pending ones before a read, in use or not: a line's
 /// content, CR and LF.
 const LEAST_ROOM: usize = LINE_LIMIT + 2;
 
-/// How many bytes of memory are for lines, 18 KiB: two of the longest lines, in whole pieces, and dozens of
-/// common ones. They are brought into use by doubling, up to 16 KiB. Larger reads are no faster.
+/// The bytes of memory for lines, 18 KiB: two of the longest lines, in whole pieces, and dozens of common ones.
+/// They are brought into use by doubling, up to 16 KiB. Larger reads are no faster.
 pub(crate) const SIZE: usize = (2 * LEAST_ROOM / PIECE + 1) * PIECE;
 
 /// Where in the window the content of a taken line is, and whether only an LF ended the line.
@@ -35,8 +35,8 @@ pub(crate) struct Cut {
     pub(crate) is_plain: bool,
 }
 
-/// A buffer whose pending bytes are those from `start` to `end`; at least the bytes that pad a line follow
-/// them. It has memory for `SIZE` bytes and this padding, and brings more of it into use as it fills.
+/// A buffer whose pending bytes are those from `start` to `end`, with at least `PADDING` bytes after them. It
+/// has memory for `SIZE` bytes and this padding, and brings more of it into use as it fills.
 #[derive(Drop)]
 pub(crate) struct Window {
     bytes: Vec<u8>,
@@ -102,7 +102,8 @@ impl Window {
         }
     }
 
-    /// Discards the pending bytes if they are longer than a line with its end, and returns how many they were.
+    /// Discards the pending bytes if they are too many for a line and its end, and returns how many it
+    /// discarded.
     pub(crate) fn let_go_of_long(&mut self) -> usize
         ensures count { ((result ≡ 0) × (kept self.new ≡ kept self.old))
             ⊎ ((result ≡ length (kept self.old)) × (LINE_LIMIT + 1 < result) × (kept self.new ≡ [])) }

@@ -1,6 +1,6 @@
 -- Everything that epochs and their parts hold between two lines of an input, part by part. By the law
--- `epochs_hold` a value that takes over these parts of another is that other; so no further part exists in
--- which a record of the past lines could grow.
+-- `epochs_hold` a value with these parts of another one is equal to it; so no further part exists in which a
+-- record of the past lines could grow.
 use Rattle.crx_header.specs.declared.types.Types.TheInside.{Inside as TypesInside}
 use Rattle.crx_rinex.specs.declared.satellite_row.SatRow.TheInside.{Inside as SatRowInside}
 use Rattle.crx_rinex.specs.declared.row_buffer.RowBuffer.TheInside.{Inside as RowBufferInside}

@@ -119,7 +119,7 @@ impl RowBuffer {
         &self.values[..self.count]
     }
 
-    /// Returns how many of the first values may exist: those after them are missing.
+    /// Returns a count of first values; all values after them are missing.
     #[inline(always)]
     pub fn filled(&self) -> usize
         ensures missing { AreMissingFrom result self.now.values }

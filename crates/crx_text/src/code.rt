@@ -13,7 +13,7 @@ use crx_base::Padded;
 use crx_base::limits::{DIGITS_LIMIT, LINE_LIMIT, ORDER_LIMIT};
 use std::simd::prelude::*;
 
-/// A coded value, as compact text has it.
+/// A coded value of compact text.
 #[derive(Clone, Copy, Debug, PartialEq, Eq)]
 pub enum Code {
     /// No value: the empty text.
@@ -187,8 +187,8 @@ pub fn step_of_length(line: Padded<'_>, at: usize, characters: usize) -> Option<
     Some(signed(is_below, size))
 }
 
-// Returns the number before a text's first blank, or up to its end, and the index after it, or `None` if it is
-// no number.
+// Returns the number before a text's first blank, or up to its end, and the index after the blank. Returns
+// `None` if it is no number.
 #[inline(always)]
 fn number_before_blank(text: &[u8]) -> Option<(i64, usize)>
     ensures value { option_map (λ cell. cell.0) result ≡ coded_number (first_cell text.now) }

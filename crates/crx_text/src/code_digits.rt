@@ -185,8 +185,8 @@ fn write_short(buffer: &mut [u8], at: usize, size: u32) -> usize
 {
     let columns = four_digits(size);
     // The lowest bit that is set among the digits shows the first one that isn't 0; a bit above the last one
-    // ends the search, because 0 has a digit of its own. Every character has that bit, so nothing is subtracted
-    // and set.
+    // ends the search, because 0 has a digit of its own. Each digit's character has that bit, so it needn't be
+    // set.
     let zeros = ((columns & 0x1f0f_0f0f).trailing_zeros() / 8) as usize;
     write_word(buffer, at, columns >> (8 * zeros));
     at + 4 - zeros

@@ -43,7 +43,7 @@ const BASES: [u8; 64] = [
 // One digit in `COUNTS`: more than any size.
 const DIGIT: u64 = 1 << 48;
 
-// How many of 64 bits are zeros before the first one bit of twice the greatest size plus one.
+// The least number of leading zeros of twice a size plus one, in 64 bits.
 const LEAST_ZEROS: usize = 23;
 
 // How many digits sizes are printed with, by their number of bits, the greatest number first. If the longer

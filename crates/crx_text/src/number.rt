@@ -29,8 +29,8 @@ use thiserror::Error;
 pub struct BadField;
 
 /// Reads an observation of 14 columns, in thousandths; a blank field is `None`, a missing observation. Blanks
-/// may be before the number, zeros at its beginning and a minus before 0, and the point may be its first
-/// character. Returns `BadField` for any other text.
+/// may be before the number, zeros at its beginning and a minus before 0, and the digits before the point may
+/// be missing. Returns `BadField` for any other text.
 pub fn obs_read(field: &[u8]) -> Result<Option<i64>, BadField>
     ensures value { result_ok result ≡ observation_of field.now }
     ensures in_range { IfOk result (λ value. IfSome value IsObservation) }

@@ -4,8 +4,8 @@ use Rattle.std.specs.List.{list_all}
 use Rattle.crx_base.specs.meaning.Lines.{is_printable}
 use Rattle.crx_base.specs.declared.limits.TheConstants.{DATE_LIMIT}
 
--- the user's choices: the number of epochs of which one is full, whether faults are skipped, and the date in
--- the second line of compact text; expansion uses only the second choice
+-- the user's choices: N if every N-th epoch is full, whether faults are skipped, and the date in the second
+-- line of compact text; expansion uses only the second choice
 pub record Choices : Type 0 where
   pub every : Option ℕ
   pub skip : Bool
@@ -15,7 +15,7 @@ pub record Choices : Type 0 where
 abbrev pub is_date : List ℕ → Bool
 is_date date = nat_le (length date) DATE_LIMIT && list_all is_printable date
 
--- every 0 epochs is the same as no choice
+-- an N of 0 is the same as no choice
 abbrev pub kept_every : Option ℕ → Option ℕ
 kept_every None = None
 kept_every (Some count) = if count == 0 then None else Some count
