@@ -4,7 +4,6 @@ use Rattle.clap.specs.{Built.AddsSubcommand, Simple.{App, Shape, app_of, shape_o
 use Rattle.clap.specs.Simple.{with_subcommand}
 use Rattle.clap.specs.declared.builder.command.Command.{Command}
 
--- one more subcommand, which is plain
 pub subcommand_more : (old sub new : Command) (app : App) (shape : Shape)
     → AddsSubcommand old sub new → app_of old ≡ app → shape_of sub ≡ shape → shape.is_plain ≡ true
     → app_of new ≡ with_subcommand app shape

@@ -21,7 +21,6 @@ joined = grind (arith, common_steps, length-append, list_all-append)
 digits : (n : ℕ) → n < 100 → Fits 2 (two_digits n)
 digits = grind (arith, common_steps)
 
--- the names of months
 abbrev fits_three : List ℕ → Bool
 fits_three name = nat_le (length name) 3 && list_all is_printable name
 

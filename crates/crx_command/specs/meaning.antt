@@ -1,4 +1,4 @@
--- The definitions that the promises rest on, and that have to be believed. docs/READING.md gives their order.
+-- The definitions that have to be believed. docs/READING.md gives their order.
 pub mod Commands
 pub mod Names
 pub mod Planning

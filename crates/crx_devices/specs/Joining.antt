@@ -7,7 +7,6 @@ use Rattle.std.proofs.lemmas.List.{append_assoc, append-nil}
 pub given_both : (a b c xs ys : List ℕ) → a ≡ xs ++ b → b ≡ ys ++ c → a ≡ (xs ++ ys) ++ c
 given_both a b c xs ys p q = rw (p, q) (sym (append_assoc xs ys c))
 
--- taking nothing
 pub taken_none : (a : List ℕ) → a ≡ a ++ []
 taken_none a = sym (append-nil a)
 

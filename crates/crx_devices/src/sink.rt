@@ -63,21 +63,21 @@ impl FailingSink {
         &self.memory[..self.len]
     }
 
-    /// Returns how many writes were made; the count stops at the greatest value of 64 bits.
+    /// Returns how many writes were made.
     pub fn writes(&self) -> u64
         ensures value { result ≡ self.now.writes.calls }
     {
         self.writes.calls
     }
 
-    /// Returns how many flushes were made; the count stops at the greatest value of 64 bits.
+    /// Returns how many flushes were made.
     pub fn flushes(&self) -> u64
         ensures value { result ≡ self.now.flushes.calls }
     {
         self.flushes.calls
     }
 
-    /// Returns how many writes and flushes failed; the count stops at the greatest value of 64 bits.
+    /// Returns how many writes and flushes failed.
     pub fn failures(&self) -> u64
         ensures value { result ≡ self.now.failures }
     {

@@ -41,21 +41,21 @@ impl<'a> FailingSource<'a> {
         }
     }
 
-    /// Returns how many reads were made; the count stops at the greatest value of 64 bits.
+    /// Returns how many reads were made.
     pub fn calls(&self) -> u64
         ensures value { result ≡ self.now.reads.calls }
     {
         self.reads.calls
     }
 
-    /// Returns how many reads failed; the count stops at the greatest value of 64 bits.
+    /// Returns how many reads failed.
     pub fn failures(&self) -> u64
         ensures value { result ≡ self.now.failures }
     {
         self.failures
     }
 
-    /// Returns how many reads reported the end; the count stops at the greatest value of 64 bits.
+    /// Returns how many reads reported the end.
     pub fn ends(&self) -> u64
         ensures value { result ≡ self.now.ends }
     {

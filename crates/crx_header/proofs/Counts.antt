@@ -21,7 +21,6 @@ use Rattle.crx_text.specs.meaning.Columns.{character_at, columns}
 same_test : (a b : ℕ) → eqb a b ≡ eqb b a
 same_test a b = grind arith
 
--- a map's look-up
 pub lookup_is_count : (es : List Count) (letter : ℕ) → lookup (eqb letter) es ≡ count_of es letter
 lookup_is_count [] letter = refl
 lookup_is_count (e ∷ es) letter = rw (same_test letter e.0, lookup_is_count es letter) refl
@@ -59,7 +58,6 @@ types_of-push lines line =
     ≡ after_count (types_of lines) o)
     [ None ↦ ap last_counts (append-nil (counts_in lines)) | Some c ↦ last_counts-push (counts_in lines) c ])
 
--- counts stay allowed
 allowed-with_count : (es : List Count) (letter count : ℕ)
     → All IsCount es → is_system letter ≡ true → IsAllowedCount count
     → All IsCount (with_count es letter count)

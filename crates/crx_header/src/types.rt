@@ -148,8 +148,7 @@ fn put(counts: &mut IndexMap<u8, usize>, letter: u8, count: usize) -> Result<(),
 }
 
 /// Returns whether a line begins the list of a system's types: its label is `SYS / # / OBS TYPES`, and column 1
-/// isn't blank (RINEX 3.05, table A2). If column 1 is blank, the line continues such a list and declares no
-/// count.
+/// isn't blank (RINEX 3.05, table A2). With a blank it continues such a list.
 pub fn is_types(line: &[u8]) -> bool
     ensures value { result ≡ is_types_line line.now }
 {

@@ -47,7 +47,6 @@ module _ (gave : List ℕ → Type 0) (old held : List ℕ) (before room passed 
     begins : BeginsWith (old ++ s.given) at_end (piece_at s.front held len is_ended) (drop n held)
     begins = grind (arith, common_steps, searched-no_feed)
 
-    -- a line has a byte
     pub some-byte : 0 < passed + n
     some-byte = grind arith
 

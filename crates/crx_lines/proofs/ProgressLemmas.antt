@@ -47,7 +47,6 @@ HasRead-start gave at_end start lead = grind (arith, common_steps)
 
 module _ (at_end : Type 0) (start counted counted' : Tally) (given more : List ℕ)
     (old new : ReaderState) (lines : List InputLine) (o : IsOpen start counted given old lines) where
-  -- a line was taken
   line-ended : (bytes : List ℕ) → TakesPiece old more at_end (ended_piece bytes) new → counted' ≡ counted
       → IsOpen start counted' (given ++ more) new (lines ++ line_of (ended_piece bytes) ∷ [])
   line-ended = grind (arith, common_steps, length-append, lines-first, ended_lines-first)

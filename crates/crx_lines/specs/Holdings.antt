@@ -1,6 +1,5 @@
--- Everything that a reader of lines holds between two lines of an input, part by part. By the law
--- `line_reader_holds` a reader with these parts of another one is equal to it; so no further part exists in
--- which a record of the past lines could grow.
+-- Everything that a reader of lines holds between two lines of an input. By the law `line_reader_holds` a
+-- reader with these parts of another one is equal to it, so no record of the past lines can grow in it.
 use Rattle.crx_lines.specs.declared.line.LineReader.{LineReader}
 use Rattle.crx_lines.specs.declared.window.Window.{Window}
 

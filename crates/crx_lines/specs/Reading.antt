@@ -21,7 +21,6 @@ HasNoFeed bytes = All (λ b. b ≢ 10) bytes
 abbrev pub line_shown : Line → InputLine
 line_shown l = record { content = line_in l.content; is_plain = l.is_plain }
 
--- a line's number
 abbrev pub line_number : Line → ℕ
 line_number l = l.number
 

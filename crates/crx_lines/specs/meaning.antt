@@ -1,2 +1,2 @@
--- The definitions that the promises rest on, and that have to be believed. docs/READING.md gives their order.
+-- The definitions that have to be believed. docs/READING.md gives their order.
 pub mod Devices

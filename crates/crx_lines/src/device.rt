@@ -1,6 +1,6 @@
-//! The devices that bytes are read from and written to. Each one counts its failures, so that a contract can
-//! say that a run had none, or which bytes passed before one. A source also counts how often it reported its
-//! end, so that a read after that shows.
+//! The devices that bytes are read from and written to. Each counts its failures, so that a contract can say
+//! that a run had none, or which bytes passed before one. A source also counts how often it reported its end,
+//! so that a read after it shows.
 ghost use Rattle.std.specs.Prelude.{◌≡◌, ℕ, List, [], ◌++◌, ◌<◌, ◌≤◌, length, take, is_ok, true, false, not, Bool, IfOk, Ok, OnOk, OnErr};
 ghost use Rattle.std.specs.Fs.{IsFile, file_type};
 ghost use Rattle.std.specs.Io.KnownBytes.{Appends, Consumes, IsAtEnd};
@@ -177,10 +177,10 @@ pub fn reads_may_wait(metadata: &io::Result<Metadata>) -> bool
     }
 }
 
-/// Opens the file `name` for reading, as an unread device whose interrupted calls are repeated. No other call
-/// returns an unread device. The mark belongs to the device and not to the file, so it shows which way the code
-/// took, and promises nothing about earlier reads of the file. Reads may have to wait if [`reads_may_wait`]
-/// says so. Returns the system's error if the file can't be opened, and `IsADirectory` for a folder.
+/// Opens the file `name` for reading, with interrupted calls repeated. No other call returns an unread device.
+/// The mark is the device's and not the file's, so it promises nothing about earlier reads of the file. Reads
+/// may have to wait if [`reads_may_wait`] says so. Returns the system's error if the file can't be opened, and
+/// `IsADirectory` for a folder.
 pub fn open_file<H: Files>(files: &H, name: &str) -> io::Result<Std<Uninterrupted<H::File>>>
     ensures unread { IfOk result (λ device. device.is_unread ≡ true) }
     ensures failures { IfOk result (λ device. device.failures ≡ 0) }

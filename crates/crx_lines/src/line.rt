@@ -123,8 +123,8 @@ impl LineReader {
         self.number
     }
 
-    /// Takes the next line if its LF is pending, and returns where its content is in the window. Returns
-    /// `None`, with nothing changed, if no LF is pending, and `LineTooLong` if the line is too long.
+    /// Takes the next line if its LF is pending, and returns its place in the window, or `LineTooLong`. Returns
+    /// `None`, with nothing changed, if no LF is pending.
     #[inline(always)]
     fn advance_held(&mut self) -> Result<Option<Cut>, At>
         requires { self.old.phase ≡ Phase.Open }
@@ -241,8 +241,8 @@ impl LineReader {
         }
     }
 
-    /// Returns the next line if its LF is pending, as [`LineReader::next_line`] does, or `LineTooLong` if it is
-    /// too long. Returns `None`, with nothing changed, if more has to be read or no line is left.
+    /// Does the same as [`LineReader::next_line`] for a line whose LF is pending. Returns `None`, with nothing
+    /// changed, if more has to be read or no line is left.
     #[inline(always)]
     pub fn next_held<'a>(&'a mut self) -> Result<Option<Line<'a>>, At>
         ensures answers { (new : ReaderState) × AnswersHeld line_shown line_number (reading self.old) result new }

@@ -35,8 +35,8 @@ pub(crate) struct Cut {
     pub(crate) is_plain: bool,
 }
 
-/// A buffer whose pending bytes are those from `start` to `end`, with at least `PADDING` bytes after them. It
-/// has memory for `SIZE` bytes and this padding, and brings more of it into use as it fills.
+/// A buffer with pending bytes from `start` to `end`, and at least `PADDING` bytes after them. It has memory
+/// for `SIZE` bytes and this padding, of which more is used as it fills.
 #[derive(Drop)]
 pub(crate) struct Window {
     bytes: Vec<u8>,

@@ -28,7 +28,6 @@ use Rattle.crx_rinex.specs.meaning.SatelliteLines.{values_in, flags_at, flags_in
 use Rattle.crx_header.specs.meaning.{ObservationTypes.IsAllowedCount, Satellites.is_identifier}
 use Rattle.crx_base.specs.declared.fault.Fault.TheVariants.{BadField, BadFlags}
 
--- one value more
 pub all_some-push : (xs : List (Option (Option ℤ))) (vs : List (Option ℤ)) (v : Option ℤ)
     → all_some xs ≡ Some vs → all_some (xs ++ Some v ∷ []) ≡ Some (vs ++ v ∷ [])
 all_some-push (Some x ∷ xs) vs v h = grind (arith, common_steps, all_some-push xs)
@@ -61,7 +60,6 @@ pub field_past : (line : List ℕ) (k : ℕ) → length line ≤ 16 * k + 3
 unfolding number_of
 field_past line k h = grind (arith, common_steps, drop_all)
 
--- a field inside the line
 pub field_inside : (line : List ℕ) (k : ℕ) → 16 * k + 17 ≤ length line
     → field line k ≡ take 14 (drop (16 * k + 3) line)
 field_inside line k h =
@@ -73,7 +71,6 @@ pub cell_parts : (field cell : List ℕ) (a b : ℕ) → length field ≡ 14 →
     → (take 14 cell ≡ field) × (get_or (cell ++ cell) 14 0 ≡ a) × (get_or (cell ++ cell) 15 0 ≡ b)
 cell_parts field cell a b long is = grind (arith, take-append-le 14 field, take_all 14 field)
 
--- one cell more
 pub cells_more : (line : List ℕ) (values : List (Option ℤ)) (flags flags_after : List ℕ) (k : ℕ)
     (value : Option ℤ) → AreCellsRead k line values flags → k < length values
     → observation_of (field line k) ≡ Some value → IsValue value → length flags_after ≡ length flags
@@ -123,7 +120,6 @@ more_empty values flags k empty =
     drop_pair (x ∷ fs) (suc i) h = drop_pair fs i (omega (arith, h))
     drop_pair fs i h = absurd (omega (arith, h))
 
--- later cells are empty too
 later_empty : {X : Type 0} (xs : List X) (x : X) (first later count rest : ℕ)
     → drop first xs ≡ replicate count x → first ≤ later → rest ≡ count - (later - first)
     → drop later xs ≡ replicate rest x
@@ -147,7 +143,6 @@ observed values flags first m empty within =
     none (suc a) (suc b) = none a b
     none a b = grind (arith, common_steps)
 
--- the columns of a whole cell
 pub whole_columns : (line bytes : List ℕ) (start : ℕ) → take (length line) bytes ≡ line
     → start + 16 ≤ length line → take 16 (take (length bytes - start) (drop start bytes)) ≡ columns line
     (start + 1) 16
@@ -220,7 +215,6 @@ field_columns xs long = let whole = sixteen xs long in rw whole refl
 flags_past : (line : List ℕ) (k : ℕ) → length line ≤ 16 * k + 3 → flags_at line k ≡ 32 ∷ 32 ∷ []
 flags_past line k h = grind (arith, common_steps, character_at, get_or_past)
 
--- cells past the line's end
 cells_past : (line : List ℕ) (n d : ℕ) (vs : List (Option ℤ)) (fs : List ℕ) → (1 ≤ d
     → length line ≤ 16 * n + 3)
     → values_in n line ≡ Some vs → flags_in n line ≡ fs
@@ -299,7 +293,6 @@ pub sound-written : (name : List ℕ) (values old_values : List (Option ℤ)) (f
     })
 sound-written = grind (arith, common_steps, take_at)
 
--- rows stay sound
 pub sound-blank : (name : List ℕ) (m : ℕ) → is_identifier name ≡ true → IsAllowedCount m
     → IsSoundRow (blank_row name m)
 sound-blank name m named small = grind (arith, common_steps, length-replicate, all_kept_blanks)

@@ -107,7 +107,6 @@ open_where_wanted [] so_far wants h = (so_far, refl)
 open_where_wanted (line ∷ lines) so_far wants h =
     grind (arith, common_steps, open_by, step_at, open_where_wanted lines)
 
--- one more line
 pub open_none : (begun : Option OpenEpoch) → open_after begun [] ≡ begun
 open_none = grind (arith, common_steps)
 

@@ -152,7 +152,6 @@ text_printed c cs v form reads = by_number (decimal_number 3 (c ∷ cs)) refl re
     by_number (Some n) is e = subst (λ v. number_text (suc (length cs)) 3 v ≡ c ∷ cs) (same_Some _ _ e)
         (width_of_own n (c ∷ cs) (by_sign (eqb c 45) n refl is))
 
--- one blank more before it
 blank_more : (v : Option ℤ) (cs : List ℕ) → number_text (length cs) 3 v ≡ cs
     → number_text (suc (length cs)) 3 v ≡ 32 ∷ cs
 unfolding number_text

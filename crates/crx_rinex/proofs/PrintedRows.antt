@@ -86,7 +86,6 @@ two_columns : (line : List ℕ) (n : ℕ)
     → columns line (n + 1) 2 ≡ character_at line (n + 1) ∷ character_at line (n + 2) ∷ []
 two_columns line n = grind (arith, common_steps, columns-are)
 
--- a cell, and the columns after it
 pub cell_split : (line : List ℕ) (k n : ℕ) → columns line (16 * k + 3 + 1) (16 * suc n) ≡ field line k
     ++ character_at line (16 * k + 18) ∷ character_at line (16 * k + 19)
     ∷ columns line (16 * (k + 1) + 3 + 1) (16 * n)

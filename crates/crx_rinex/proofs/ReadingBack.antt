@@ -115,7 +115,6 @@ length-cells values flags pairs fit = grind (arith, common_steps)
 pub name-length : (row : Row) → IsSoundRow row → length row.name ≡ 3
 name-length row h = grind arith
 
--- a row's columns
 pub length-row : (row : Row) → IsSoundRow row
     → length (row.name ++ printed_cells row.values row.flags) ≡ 16 * length row.values + 3
 length-row row h = grind (arith, common_steps, name-length, printed_cells, length-append, length-cells)
@@ -166,7 +165,6 @@ clock-back clock h = grind (arith, common_steps, number_of-number_text, given)
 clock-width : (clock : Option ℤ) → IsClockOffset clock → length (clock_text clock) ≡ 15
 clock-width clock h = decimal-width _ CLOCK_DECIMALS _ clock (clock-back clock h)
 
--- an epoch line's columns
 pub length-head : (head : ObservationHead) → IsObservationHead head
     → length (head.head ++ clock_text head.clock) ≡ 56
 length-head head h = grind (arith, common_steps, clock_text, length-append, clock-width)
@@ -202,7 +200,6 @@ head-back head h = head-of_text head _ h (λ p. at-without_end_blanks _ p)
 row-begins : (row : Row) → IsSoundRow row → begins_epoch (printed_row row) ≡ false
 row-begins row h = grind (arith, common_steps)
 
--- a row isn't among those before it
 row-new : (rows : List Row) (row : Row) (rest : List Row)
     → are_different (rows ++ row ∷ rest) ≡ true → has_satellite row.name rows ≡ false
 row-new [] row rest h = refl

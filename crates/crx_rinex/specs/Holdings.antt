@@ -1,6 +1,5 @@
--- Everything that epochs and their parts hold between two lines of an input, part by part. By the law
--- `epochs_hold` a value with these parts of another one is equal to it; so no further part exists in which a
--- record of the past lines could grow.
+-- Everything that epochs and their parts hold between two lines of an input. By the law `epochs_hold` a value
+-- with these parts of another one is equal to it, so no record of the past lines can grow in it.
 use Rattle.crx_header.specs.declared.types.Types.TheInside.{Inside as TypesInside}
 use Rattle.crx_rinex.specs.declared.satellite_row.SatRow.TheInside.{Inside as SatRowInside}
 use Rattle.crx_rinex.specs.declared.row_buffer.RowBuffer.TheInside.{Inside as RowBufferInside}

@@ -1,7 +1,6 @@
 -- In addition to meaning/Printing: how code and proofs see it.
 use Rattle.std.specs.Prelude.{ℕ, List, [], ◌∷◌}
 
--- the last of some lines
 abbrev pub last_line : List (List ℕ) → List ℕ
 last_line [] = []
 last_line (line ∷ []) = line

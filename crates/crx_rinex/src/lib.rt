@@ -1,5 +1,5 @@
-//! RINEX 3.0x observation files: epoch lines and satellite lines, read and printed. Header lines, observation
-//! types, identifiers and an epoch line's flag and count are those of crx_header; they are exported here too.
+//! RINEX 3.0x observation files: epoch lines and satellite lines, read and printed. The header lines,
+//! observation types, identifiers, flags and counts of crx_header are exported here too.
 #![tactic(auto)]
 
 pub mod epoch;

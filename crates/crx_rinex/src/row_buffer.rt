@@ -63,12 +63,9 @@ impl RowBuffer {
         }
     }
 
-    /// Reads a satellite line over the row before, with the counts of types that the header declared.
-    ///
-    /// Returns `BadSatellite` if columns 1 to 3 hold no identifier of a system that has types; otherwise
-    /// `BadField` if a field is neither blank nor a number of format F14.3, or more than blanks follow the last
-    /// cell; otherwise `BadFlags` if an indicator is outside the characters 32 to 126, or is `&`. After a fault
-    /// the row may be any row.
+    /// Reads a satellite line over the row before, with the counts of types that the header declared. Returns
+    /// the errors of [`SatRow::read`](crate::SatRow::read) except `OutOfMemory`; after one the row may be any
+    /// row.
     #[inline(always)]
     pub fn read(&mut self, types: &Types, line: Padded<'_>) -> Result<(), Fault>
         ensures ok { OnOk result (row_of types.now (line_in line.entry) ≡ Ok self.new) }
@@ -173,9 +170,9 @@ fn are_kept(is_seen: bool, flags: &[u8]) -> bool
     is_seen || all_kept(flags)
 }
 
-/// Reads the cells that the line reaches, the whole ones and the one that the line's end cuts, and returns
-/// their number, and whether all their indicators were seen to be allowed. Returns `None` if a field is neither
-/// blank nor a number, or if more than blanks follow the last cell.
+/// Reads the cells that the line reaches, the last of which its end may cut. Returns their number, and whether
+/// all their indicators were seen to be allowed, or `None` if a field is neither blank nor a number or more
+/// than blanks follow the last cell.
 #[inline(always)]
 fn read_first_cells(
     line: Padded<'_>,

@@ -53,6 +53,5 @@ blank_is_no_digit (c ∷ cs) some = grind (arith, common_steps, blank_is_no_digi
 no_number_with_blank : (text : List ℕ) → list_any (λ c. eqb c 32) text ≡ true → coded_number text ≡ None
 no_number_with_blank = grind (arith, common_steps, cases_eq, no_digits, blank_is_no_digit)
 
--- no code has a blank
 pub no_code_with_blank : (text : List ℕ) → list_any (λ c. eqb c 32) text ≡ true → code_of text ≡ None
 no_code_with_blank = grind (arith, common_steps, no_number_with_blank, cases_eq, nat_tests, ne_eqb)

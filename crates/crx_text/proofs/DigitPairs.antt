@@ -62,7 +62,6 @@ bytes_shifted word (suc (suc zero)) few fits = grind arith
 bytes_shifted word (suc (suc (suc zero))) few fits = refl
 bytes_shifted word (suc (suc (suc (suc z)))) few fits = absurd (omega arith)
 
--- the first bytes of a written text
 pub first_written : (old new bytes : List ℕ) (at n k : ℕ) → at ≤ length old
     → k ≤ n → take (at + n) new ≡ take at old ++ bytes → take (at + k) new ≡ take at old ++ take k bytes
 first_written old new bytes at n k within few whole =

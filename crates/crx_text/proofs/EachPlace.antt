@@ -28,7 +28,6 @@ pub map-each_place : {X Y : Type 0} (g : X → Y) (n : ℕ) (f : ℕ → X)
 map-each_place g zero f = refl
 map-each_place g (suc n) f = ap (λ r. g (f 0) ∷ r) (map-each_place g n (λ i. f (suc i)))
 
--- one place more
 pub each_place-more : {X : Type 0} (n : ℕ) (f : ℕ → X) → each_place (n + 1) f ≡ each_place n f ++ f n ∷ []
 each_place-more zero f = refl
 each_place-more (suc n) f = grind (arith, common_steps, each_place, each_place-more n (λ i. f (suc i)))
@@ -39,7 +38,6 @@ take-each_place (suc k) (suc m) f =
     ap (λ r. f zero ∷ r) (take-each_place k m (λ i. f (suc i))) ∙ sym (ap (λ n. each_place n f) more)
 take-each_place k m f = grind (arith, common_steps)
 
--- the list from a place on
 pub drop-each_place : {X : Type 0} (n k : ℕ) (f : ℕ → X)
     → k < n → drop k (each_place n f) ≡ f k ∷ drop (k + 1) (each_place n f)
 drop-each_place (suc n) zero f h = refl

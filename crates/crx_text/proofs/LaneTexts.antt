@@ -6,7 +6,6 @@ use Rattle.std.{proofs.lemmas.List.Folds.list_all-append, specs.{List.list_all, 
 
 -- ---- tests
 
--- one more piece
 pub list_all-piece : (p : ℕ → Bool) (i n : ℕ) (xs : List ℕ)
     → (list_all p (take i xs) && list_all p (chunk i n xs)) ≡ list_all p (take (i + n) xs)
 list_all-piece p i n xs = sym (ap (list_all p) (take-add i n xs) ∙ list_all-append p _ _)

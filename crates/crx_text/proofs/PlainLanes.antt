@@ -43,7 +43,6 @@ point_lane c small = grind arith
 fraction_lane : (c : ℕ) → c < 256 → lane 48 9 0 32 c ≡ is_ascii_digit c
 fraction_lane c small = grind arith
 
--- the lane of an indicator
 indicator_lane : (c : ℕ) → c < 256 → lane 48 9 0 0 c ≡ allowed 32 c
 indicator_lane c small = grind arith
 

@@ -74,7 +74,6 @@ pub without_first_blanks-blanks : (k : ℕ) (text : List ℕ)
 without_first_blanks-blanks zero text other = without_first_blanks-text text other
 without_first_blanks-blanks (suc k) text other = without_first_blanks-blanks k text other
 
--- the first digit
 pub decimal_first : (n : ℕ) → n < 2 ^ 64 → 48 ≤ get_or (decimal n) 0 0
 decimal_first = grind (arith, common_steps, decimal_digit, first_decimal)
 

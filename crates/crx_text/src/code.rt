@@ -40,8 +40,8 @@ ghost use Rattle.crx_text.specs.declared.lanes.TheConstants.{LANES};
 /// digits are written four at a time.
 const CODE_WIDTH: usize = DIGITS_LIMIT + 6;
 
-/// Appends a code's printed text; an order is one digit, and `&` follows it. The order and the numbers are
-/// within the limits. Returns `TextFull`, with the text unchanged, if it would pass [`LINE_LIMIT`] bytes.
+/// Appends a code's printed text; an order is one digit, and `&` follows it. Returns `TextFull`, with the text
+/// unchanged, if it would pass [`LINE_LIMIT`] bytes.
 #[inline]
 #[tactic(auto, using(crate::proofs::CodeTexts::code_text_length))]
 pub fn code_print(code: Code, text: &mut Text) -> Result<(), TextFull>
@@ -60,7 +60,7 @@ pub fn code_print(code: Code, text: &mut Text) -> Result<(), TextFull>
 }
 
 /// Writes a code's printed text and a blank from index `at` on, and returns the index after them. Up to two
-/// more bytes may be overwritten. The order and the numbers are within the limits.
+/// more bytes may be overwritten.
 #[inline(always)]
 pub fn write_cell(buffer: &mut [u8], at: usize, code: Code) -> usize
     requires printable { IsPrintable code }

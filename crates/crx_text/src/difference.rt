@@ -19,9 +19,8 @@ use thiserror::Error;
 pub struct BadCharacter;
 
 /// Writes the marks that lead from the old text to the new one: a blank if nothing changes, `&` if a character
-/// becomes blank, and otherwise the new character. Blanks at the end are dropped. `new` has at most
-/// [`LINE_LIMIT`](crx_base::limits::LINE_LIMIT) bytes. Returns `BadCharacter`, with `out` unchanged, if `new`
-/// holds a byte outside 32 to 126, or `&`.
+/// becomes blank, and otherwise the new character. Blanks at the end are dropped. Returns `BadCharacter`, with
+/// `out` unchanged, if `new` holds a byte outside 32 to 126, or `&`.
 pub fn diff_text(old: &Text, new: &[u8], out: &mut Text) -> Result<(), BadCharacter>
     requires { length new.now ≤ LINE_LIMIT }
     ensures plain { is_ok result ≡ list_all is_kept new.now }
@@ -36,8 +35,7 @@ pub fn diff_text(old: &Text, new: &[u8], out: &mut Text) -> Result<(), BadCharac
     Ok(())
 }
 
-/// Appends the marks that lead from the old text to the new one, also those of blanks at the end. `out` needs
-/// room for the longer text.
+/// Appends the marks that lead from the old text to the new one, also those of blanks at the end.
 pub fn append_difference(old: &[u8], new: &[u8], out: &mut Text)
     requires old_fits { length out.old + length old.now ≤ LINE_LIMIT }
     requires new_fits { length out.old + length new.now ≤ LINE_LIMIT }
@@ -48,9 +46,8 @@ pub fn append_difference(old: &[u8], new: &[u8], out: &mut Text)
 }
 
 /// Writes the text that marks make from the old one: a blank leaves the old character, `&` becomes a blank, and
-/// any other character replaces the old one. Blanks at the end are dropped. `marks` has at most
-/// [`LINE_LIMIT`](crx_base::limits::LINE_LIMIT) bytes. Returns `BadCharacter`, with `out` unchanged, if `marks`
-/// holds a byte outside 32 to 126.
+/// any other character replaces the old one. Blanks at the end are dropped. Returns `BadCharacter`, with `out`
+/// unchanged, if `marks` holds a byte outside 32 to 126.
 pub fn patch_text(old: &Text, marks: &[u8], out: &mut Text) -> Result<(), BadCharacter>
     requires { length marks.now ≤ LINE_LIMIT }
     ensures printable { is_ok result ≡ list_all is_printable marks.now }
@@ -60,8 +57,7 @@ pub fn patch_text(old: &Text, marks: &[u8], out: &mut Text) -> Result<(), BadCha
     patch_bytes(old.bytes(), marks, out)
 }
 
-/// Does the same as [`patch_text`] with a slice as the old text, which has at most
-/// [`LINE_LIMIT`](crx_base::limits::LINE_LIMIT) bytes too.
+/// Does the same as [`patch_text`] with a slice as the old text.
 pub fn patch_bytes(old: &[u8], marks: &[u8], out: &mut Text) -> Result<(), BadCharacter>
     requires old_fits { length old.now ≤ LINE_LIMIT }
     requires marks_fit { length marks.now ≤ LINE_LIMIT }

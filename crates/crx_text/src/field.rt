@@ -23,8 +23,8 @@ const FIRST: [u8; 16] = [
 // How far above that byte a column's byte may be; the first column may have a minus, but no digit.
 const MOST: [u8; 16] = [0, 9, 9, 9, 9, 9, 9, 9, 9, 9, 0, 9, 9, 9, 9, 9];
 
-// The byte that has to precede a blank or a minus: a blank. [`is_plain`] puts 0 before columns 11 to 16, so
-// that of these only the last two, the indicators, may be a blank or a minus.
+// The byte before a blank or a minus: a blank. [`is_plain`] puts 0 before columns 11 to 16, so that only the
+// last two of these, the indicators, may be a blank or a minus.
 const BEFORE: [u8; 16] = [32, 32, 32, 32, 32, 32, 32, 32, 32, 32, 32, 32, 32, 32, 0, 0];
 
 /// Returns `true` only if the columns are plain and the indicators are digits, blanks or minuses, as they

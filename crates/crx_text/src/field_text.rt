@@ -75,9 +75,9 @@ fn count_digits(size: u64) -> usize
 }
 
 /// Prints a size, with a minus if `is_below`, right justified into the first 14 columns of a cell, with blanks
-/// before it, and returns the index of its first digit. Overwrites the two columns of the cell's indicators. No
-/// branch depends on the sign, which can't be predicted. The number's start is counted from its size and not
-/// searched for in its digits, so that the processor waits less for each cell.
+/// before it, and returns the index of its first digit. Overwrites the two columns of the indicators. No branch
+/// depends on the sign, which can't be predicted. The number's start follows from its size and isn't searched
+/// for in its digits, so that the processor waits less.
 #[inline(always)]
 pub(crate) fn size_print(size: u64, is_below: bool, cell: &mut [u8]) -> usize
     requires short { size < 10 ^ 12 }

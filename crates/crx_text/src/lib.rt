@@ -1,6 +1,6 @@
-//! The texts that RINEX and Compact RINEX files consist of: columns, differences of two texts position by
-//! position, numbers in columns, and codes of numbers. Lines and devices are those of crx_lines, faults those
-//! of crx_base; they are exported here too.
+//! The texts of RINEX and Compact RINEX files: columns, differences of two texts position by position, numbers
+//! in columns, and codes of numbers. Lines and devices of crx_lines and faults of crx_base are exported here
+//! too.
 #![tactic(auto)]
 
 pub mod appending;

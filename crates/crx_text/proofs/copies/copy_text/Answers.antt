@@ -4,7 +4,6 @@ use Rattle.std.specs.Simd.Lanes.{chunk, put_chunk}
 use Rattle.crx_text.proofs.{CopiedTexts.copied_ends, LaneTexts.{piece_written, last_written}}
 use Rattle.crx_text.proofs.copies.copy_text.Goals as goal
 
--- one vector more
 copied_more : (i : ℕ) (from to : List ℕ) → i + 16 ≤ length from → length to ≡ length from
     → take (i + 16) (put_chunk i to (chunk i 16 from)) ≡ take i to ++ chunk i 16 from
 copied_more i from to room same = grind (arith, common_steps, length-chunk, take_more_put_chunk)
