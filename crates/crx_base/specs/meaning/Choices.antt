@@ -11,7 +11,7 @@ pub record Choices : Type 0 where
   pub skip : Bool
   pub date : List ℕ
 
--- a date fits its columns of the second line of Compact RINEX 3.0 and is printable
+-- whether a date fits its columns of the second line of Compact RINEX 3.0 and is printable
 abbrev pub is_date : List ℕ → Bool
 is_date date = nat_le (length date) DATE_LIMIT && list_all is_printable date
 

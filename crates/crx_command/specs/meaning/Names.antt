@@ -52,7 +52,7 @@ kept_stem r stem = if r.after_year && not (ends_in_year stem) then None else Som
 abbrev pub stem_of : Renaming → List ℕ → Option (List ℕ)
 stem_of r name = option_and_then (kept_stem r) (without_ending r.old name)
 
--- the name by the first ending that fits
+-- the name with the first ending that fits replaced
 abbrev pub first_renamed : List Renaming → List ℕ → Option (List ℕ)
 first_renamed [] name = None
 first_renamed (r ∷ rest) name =

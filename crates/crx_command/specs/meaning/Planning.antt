@@ -120,7 +120,7 @@ abbrev pub by_kind : ErrorKind → Plan
 by_kind DisplayHelp = Help
 by_kind _ = Refused Parse
 
--- the plan of the first of these kinds, if there is one, otherwise this plan
+-- the plan of the first of these kinds, if there is one, otherwise `plan`
 abbrev pub by_kinds : Kinds → Plan → Plan
 by_kinds [] plan = plan
 by_kinds (kind ∷ more) plan = by_kind kind

@@ -13,7 +13,7 @@ version_line = CRINEX_VERSION_LINE
 abbrev pub program_line : List ℕ → List ℕ
 program_line date = CRINEX_PROGRAM ++ left_justified 20 date ++ CRINEX_PROGRAM_LABEL
 
--- the lines before a header line: before the first one the two of compact text
+-- the lines written before a header line: these two before the first one, otherwise none
 abbrev pub lines_before_header : List ℕ → Bool → List (List ℕ)
 lines_before_header date true = version_line ∷ program_line date ∷ []
 lines_before_header date false = []

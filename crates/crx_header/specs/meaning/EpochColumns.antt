@@ -7,7 +7,7 @@ use Rattle.crx_text.specs.meaning.Texts.{is_kept}
 use Rattle.crx_base.specs.declared.limits.TheConstants.{SATELLITES_LIMIT}
 use Rattle.crx_header.specs.meaning.Label.{number_in}
 
--- an epoch line begins with >
+-- whether a line begins with >, as an epoch line does
 abbrev pub begins_epoch : List ℕ → Bool
 begins_epoch line = character_at line 1 == 62
 
@@ -19,7 +19,7 @@ is_event_flag flag = nat_le 50 flag && nat_le flag 54
 abbrev pub is_observation_flag : ℕ → Bool
 is_observation_flag flag = (flag == 48) || (flag == 49)
 
--- a line that begins an event
+-- whether a line begins an event
 abbrev pub is_event_line : List ℕ → Bool
 is_event_line line = begins_epoch line && is_event_flag (character_at line 32)
 
@@ -35,7 +35,7 @@ abbrev pub satellites_in : List ℕ → Option ℕ
 satellites_in line = option_and_then count_within_limit (number_in (columns line 33 3))
 
 -- the count that columns 1 to 41 announce if they are those of an observation epoch: >, a flag of 0 or 1, a
--- count, and only characters that are kept
+-- count, and only allowed characters
 abbrev pub epoch_count : List ℕ → Option ℕ
 epoch_count head = if begins_epoch head
     && is_observation_flag (character_at head 32) && list_all is_kept head then satellites_in head else None

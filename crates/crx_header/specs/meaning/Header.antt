@@ -16,11 +16,11 @@ abbrev pub is_version_with_digit : List ℕ → Bool
 is_version_with_digit (a ∷ b ∷ c ∷ d ∷ []) = bytes_eq (a ∷ b ∷ c ∷ []) (codes "3.0") && is_ascii_digit d
 is_version_with_digit _ = false
 
--- the versions that are read: 3, 3.0, and 3.0 with one more digit
+-- the supported versions: 3, 3.0, and 3.0 with one more digit
 abbrev pub is_supported : List ℕ → Bool
 is_supported version = bytes_eq version (codes "3") || (bytes_eq version (codes "3.0") || is_version_with_digit version)
 
--- the fault of the first header line: its label, its version in columns 1 to 9, or its type in column 21
+-- the fault of the first header line, if any: a wrong label, version in columns 1 to 9, or type in column 21
 abbrev pub first_header_fault : List ℕ → Option Fault
 first_header_fault line =
     has_label VERSION_LABEL line otherwise Some MissingVersion next

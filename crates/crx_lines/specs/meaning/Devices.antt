@@ -26,14 +26,14 @@ pub record SinkTally : Type 0 where
   pub failures : ℕ
   pub flushes : ℕ
 
--- a sink's tally after one more write that failed
+-- a sink's tally after one more failed write
 abbrev pub with_failed_write : SinkTally → SinkTally
 with_failed_write t = record { failures = one_more t.failures; flushes = t.flushes }
 
--- a sink's tally after one more flush that was good
+-- a sink's tally after one more good flush
 abbrev pub with_flush : SinkTally → SinkTally
 with_flush t = record { failures = t.failures; flushes = one_more t.flushes }
 
--- a sink's tally after one more flush that failed
+-- a sink's tally after one more failed flush
 abbrev pub with_failed_flush : SinkTally → SinkTally
 with_failed_flush t = record { failures = one_more t.failures; flushes = one_more t.flushes }

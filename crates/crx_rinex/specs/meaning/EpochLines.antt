@@ -21,8 +21,8 @@ event_head flag records =
     records or_else Err BadEpoch with λ count.
     Ok (EventHead (flag - 48) count)
 
--- an observation epoch's line: the count that columns 1 to 41 announce, if they are those of one; blanks after
--- column 56; the clock in columns 42 to 56
+-- an observation epoch's line: columns 1 to 41 announce a count, only blanks follow column 56, and columns 42
+-- to 56 have the clock
 abbrev pub epoch_head : List ℕ → Option ℕ → Result HeadLine Fault
 epoch_head line satellites =
     satellites or_else Err BadEpoch with λ count.

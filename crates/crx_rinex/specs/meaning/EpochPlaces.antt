@@ -18,7 +18,7 @@ pub record OpenEpoch : Type 0 where
   pub head : ObservationHead
   pub rows : List Row
 
--- only an epoch line
+-- an epoch of which only the epoch line is read
 abbrev pub opened : List Count → ObservationHead → OpenEpoch
 opened types head = record { types = types; head = head; rows = [] }
 
@@ -59,7 +59,7 @@ rest_at so_far lines = rows_at so_far (rows_wanted so_far) lines
 
 -- ---- where an epoch or an event may begin
 
--- the beginning that a line is: of an event, or of an observation epoch
+-- the first line of an event, or of an observation epoch
 pub data Beginning : Type 0 where
   EventBegins : List ℕ → Beginning
   EpochBegins : ObservationHead → Beginning

@@ -17,7 +17,7 @@ after_lines count (Done x more) = Done x (count + more)
 after_lines count (Fails offset fault) = Fails (count + offset) fault
 after_lines count NeedsMore = NeedsMore
 
--- the result at some lines, and then the next one, from it and the lines after its own
+-- the result at some lines, and then the next one, made from its thing and the lines after it
 abbrev pub then_place : {X Y : Type 0} → Place X → List ReadLine → (X → List ReadLine → Place Y) → Place Y
 then_place (Done x count) lines next = after_lines count (next x (drop count lines))
 then_place (Fails offset fault) lines next = Fails offset fault

@@ -1,5 +1,6 @@
 -- Numbers in columns: RINEX 3.05, table A3, an observation in format F14.3 (in thousandths) and the receiver
--- clock offset in format F15.12 (in units of 10^-12 s). A number is read and printed without its point.
+-- clock offset in format F15.12 (in units of 10^-12 s). A number is an integer here: its digits without the
+-- point.
 use Rattle.std.specs.Prelude.{ℕ, ℤ, pos, negsuc, neg_ℤ, Bool, ◌&&◌, ◌<ℤ◌, ◌+◌, ◌-◌, ◌/◌, ◌%◌, ◌^◌, ◌==◌, nat_lt}
 use Rattle.std.specs.Prelude.{if◌then◌else◌, List, [], ◌∷◌, ◌++◌, length, take, drop, replicate, slice_index, Option}
 use Rattle.std.specs.Prelude.{Some, None, IfSome, decimal}
@@ -12,7 +13,7 @@ use Rattle.crx_base.specs.declared.limits.TheConstants.{CLOCK_DECIMALS}
 
 -- ---- reading
 
--- a text without one minus at its beginning
+-- a text without the minus that it begins with, if any
 abbrev pub without_minus : List ℕ → List ℕ
 without_minus [] = []
 without_minus (c ∷ cs) = if c == 45 then cs else c ∷ cs
