@@ -140,7 +140,7 @@ fn flag<'a>(alloc: Global, id: &'a str, letter: char, help: &'a str) -> Arg<'a>
         .help(help)
 }
 
-/// Adds `-s` and `-f` to a command after its other arguments, or returns `AllocError` if memory is refused.
+/// Adds `-s` and `-f` to a command after its other arguments, or returns `AllocError`.
 fn with_flags<'a>(alloc: Global, command: Command<'a>) -> Result<Command<'a>, AllocError>
     ensures { IfOk result (λ c. app_of c ≡ with_rule (with_rule (app_of command.entry)
         (flag_rule (codes "skip") 115)) (flag_rule (codes "force") 102)) }
@@ -160,7 +160,7 @@ fn with_flags<'a>(alloc: Global, command: Command<'a>) -> Result<Command<'a>, Al
         ))
 }
 
-/// Returns the subcommand `rnx2crx`, or `AllocError` if memory is refused.
+/// Returns the subcommand `rnx2crx`, or `AllocError`.
 fn rnx2crx<'a>(alloc: Global) -> Result<Command<'a>, AllocError>
     ensures { IfOk result (λ c. shape_of c ≡ rnx2crx) }
 {
@@ -172,7 +172,7 @@ fn rnx2crx<'a>(alloc: Global) -> Result<Command<'a>, AllocError>
         .arg(names_of_files(alloc, OBSERVATION_FILE))
 }
 
-/// Returns the subcommand `crx2rnx`, or `AllocError` if memory is refused.
+/// Returns the subcommand `crx2rnx`, or `AllocError`.
 fn crx2rnx<'a>(alloc: Global) -> Result<Command<'a>, AllocError>
     ensures { IfOk result (λ c. shape_of c ≡ crx2rnx) }
 {
@@ -182,7 +182,7 @@ fn crx2rnx<'a>(alloc: Global) -> Result<Command<'a>, AllocError>
     with_flags(alloc, start)?.arg(names_of_files(alloc, COMPACT_FILE))
 }
 
-/// Returns the subcommand `check`, or `AllocError` if memory is refused.
+/// Returns the subcommand `check`, or `AllocError`.
 fn checker<'a>(alloc: Global) -> Result<Command<'a>, AllocError>
     ensures { IfOk result (λ c. shape_of c ≡ checker) }
 {
@@ -191,8 +191,8 @@ fn checker<'a>(alloc: Global) -> Result<Command<'a>, AllocError>
         .arg(names_of_files(alloc, CHECKED_FILE))
 }
 
-/// Returns the whole command line, or `AllocError` if memory is refused: `rnx2crx`, `crx2rnx` and `check`, each
-/// with its options and its help. Its arguments don't include the program's name.
+/// Returns the whole command line, or `AllocError`: `rnx2crx`, `crx2rnx` and `check`, each with its options and
+/// its help. Its arguments don't include the program's name.
 pub(crate) fn command<'a>(alloc: Global) -> Result<Command<'a>, AllocError>
     ensures { IfOk result (λ c. app_of c ≡ program) }
 {

@@ -82,8 +82,7 @@ impl UsageFault {
         }
     }
 
-    /// Returns the text or the name that the fault holds, which follows the words, or an empty text if it holds
-    /// none.
+    /// Returns the text or the name after the words, or an empty text if the fault holds none.
     pub fn subject(&self) -> &str
         ensures value { result.now ≡ subject_of_usage self.now }
     {

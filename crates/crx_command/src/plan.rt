@@ -69,7 +69,7 @@ fn arguments_of<'a>(found: &ArgMatches<'a>) -> Arguments<'a>
     }
 }
 
-/// Returns a copy of a text, if there is one.
+/// Returns a copy of a text, if there is one, or `Refused`.
 fn copied(alloc: Global, text: Option<&str>) -> Result<Option<Word>, Refused>
     ensures { IfOk result (λ word. word ≡ option_map (λ text. text.now) text.entry) }
 {
@@ -79,7 +79,7 @@ fn copied(alloc: Global, text: Option<&str>) -> Result<Option<Word>, Refused>
     }
 }
 
-/// Returns the run of a tool with these arguments, its input and its output.
+/// Returns the run of a tool with these arguments, its input and its output, or `Refused`.
 fn job(
     alloc: Global,
     tool: Tool,
@@ -140,8 +140,8 @@ fn tool_named(name: &str) -> Tool
     }
 }
 
-/// Returns all arguments of a process except the first, which is the program's name: in order, and each once.
-/// Returns `AllocError` if memory is refused.
+/// Returns each argument of a process once, in order, except the first, which is the program's name; or
+/// `AllocError`.
 pub fn words_given(alloc: Global, arguments: Args) -> Result<Vec<String>, AllocError>
     ensures words { IfOk result (λ words. words.items ≡ drop 1 (into_iter_items arguments)) }
 {

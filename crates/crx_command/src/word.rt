@@ -24,14 +24,14 @@ impl Model for Word {
 }
 
 impl Word {
-    /// Returns a copy of a text, or `Refused` if memory is refused.
+    /// Returns a copy of a text, or `Refused`.
     pub fn new(alloc: Global, text: &str) -> Result<Word, Refused>
         ensures value { IfOk result (λ w. w ≡ text.now) }
     {
         Word::joined(alloc, text, "")
     }
 
-    /// Returns `start` followed by `end`, or `Refused` if memory is refused.
+    /// Returns `start` followed by `end`, or `Refused`.
     pub fn joined(alloc: Global, start: &str, end: &str) -> Result<Word, Refused>
         ensures value { IfOk result (λ w. w ≡ start.now ++ end.now) }
     {
@@ -41,8 +41,8 @@ impl Word {
         Ok(Word { text })
     }
 
-    /// Returns the line of an error, as `ERROR: file exists: a.crx`, with its LF: its words and a name. Returns
-    /// `Refused` if memory is refused.
+    /// Returns the line of an error, as `ERROR: file exists: a.crx`, with its LF, from its words and a name; or
+    /// `Refused`.
     pub fn error_line(alloc: Global, words: &str, name: &str) -> Result<Word, Refused>
         ensures value { IfOk result (λ w. w ≡ error_line words.now name.now) }
     {

@@ -55,8 +55,8 @@ pub fn is_observation_flag(flag: u8) -> bool
 }
 
 /// Returns how many satellites columns 1 to 41 announce, or `None` unless they are those of an observation
-/// epoch: `>`, a flag in column 32 of 0, or 1 for a power failure, and a count in columns 33 to 35 within the
-/// limit.
+/// epoch: `>`, a flag in column 32 of 0, or 1 for a power failure, a count in columns 33 to 35 within the
+/// limit, and only allowed characters.
 pub fn satellites(columns: &[u8]) -> Option<usize>
     ensures value { result ≡ epoch_count columns.now }
     ensures within { IfSome result (λ count. count ≤ SATELLITES_LIMIT) }

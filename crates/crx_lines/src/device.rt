@@ -91,8 +91,8 @@ pub trait Sink {
     // Whether a `hand_on` has failed. Then every flush fails.
     ghost is_broken: { Self → Bool };
 
-    /// Takes the first of `bytes`, at least one if there is one, and returns how many, or `WriteFailed` if it
-    /// takes none. They count as passed on only after a good flush.
+    /// Takes the first of `bytes`, at least one if there is one, and returns how many. They count as passed on
+    /// only after a good flush. Returns `WriteFailed` if the write fails; then none is taken.
     fn write(&mut self, bytes: &[u8]) -> Result<usize, WriteFailed>
         ensures bound { IfOk result (λ n. n ≤ length bytes.now) }
         ensures bytes { IfOk result (λ n. took self.old (take n bytes.now) self.new) }

@@ -80,7 +80,7 @@ impl Window {
         Padded::of(&self.bytes[cut.from..], cut.to - cut.from)
     }
 
-    /// Takes a line of `len` bytes, and the LF after them if `is_ended`; otherwise they are all pending bytes.
+    /// Takes a line of `len` bytes, and the LF after them if `is_ended`; otherwise these are all pending bytes.
     /// Puts a blank after the content, over the LF or the CR before it.
     pub(crate) fn take_line(&mut self, len: usize, is_ended: bool) -> Cut
         requires { MatchBool is_ended (len < length (kept self.old)) (len ≡ length (kept self.old)) }

@@ -12,7 +12,6 @@ const STEPS: &[(i64, &[u8])] = &[
     (-999_999_999_999_999_999, b"-999999999999999999"),
 ];
 
-/// Returns whether this is the printed text of a difference.
 fn prints(difference: i64, digits: &[u8]) -> bool {
     let mut text = Text::new();
     difference.unsigned_abs() < 1_000_000_000_000_000_000

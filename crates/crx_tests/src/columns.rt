@@ -26,7 +26,6 @@ fn types_of(alloc: Global, line: &[u8]) -> Result<Owned<Types>, Fault> {
     Ok(types)
 }
 
-/// Returns columns that keep nothing.
 fn no_columns(alloc: Global) -> Owned<Columns>
     ensures { result.value.state ≡ Idle None }
 {

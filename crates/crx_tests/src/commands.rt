@@ -74,7 +74,6 @@ impl Clock for Standing {
     }
 }
 
-/// Returns the arguments in a text.
 fn words_of(alloc: Global, text: &str) -> Result<Vec<String>, AllocError> {
     let mut words = Vec::new(alloc);
     for word in text.split(' ') {
@@ -85,7 +84,6 @@ fn words_of(alloc: Global, text: &str) -> Result<Vec<String>, AllocError> {
     Ok(words)
 }
 
-/// Returns whether the date of a moment is this one.
 fn is_date_of(alloc: Global, seconds: i64, nanoseconds: i32, wanted: &str) -> bool {
     match Timestamp::new(seconds, nanoseconds) {
         Ok(at) => match date_text(alloc, at) {
@@ -96,7 +94,6 @@ fn is_date_of(alloc: Global, seconds: i64, nanoseconds: i32, wanted: &str) -> bo
     }
 }
 
-/// Returns whether the default date by a clock is this one.
 fn is_default(alloc: Global, moment: Option<u64>, wanted: &str) -> bool {
     match default_date(&Standing { moment }, alloc) {
         Ok(text) => text.as_str() == wanted,
@@ -112,7 +109,6 @@ fn is_named(word: &Option<Word>, name: &str) -> bool {
     }
 }
 
-/// Returns whether a decision is a run over these files.
 fn is_run(decision: &Decision, source: &str, target: &str) -> bool {
     match decision {
         Decision::Run(job) => is_named(&job.source, source) && is_named(&job.target, target),
@@ -128,7 +124,6 @@ fn is_help(decision: &Decision) -> bool {
     }
 }
 
-/// Returns whether arguments were refused for this reason.
 fn is_refused(fault: &UsageFault, wanted: Refused) -> bool {
     match (fault, wanted) {
         (UsageFault::Parse(_), Refused::Parse) => true,

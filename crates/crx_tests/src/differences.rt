@@ -17,7 +17,6 @@ const MARKS: &[(&[u8], bool, &[u8])] = &[
     (b"a\tb", false, b""),
 ];
 
-/// Returns whether a new text has these marks.
 fn has_marks(old: &Text, marks: &mut Text, row: &(&[u8], bool, &[u8])) -> bool {
     let (new, may_stand, wanted) = *row;
     new.len() <= LINE_LIMIT
@@ -42,7 +41,6 @@ const PATCHES: &[(&[u8], bool, &[u8])] = &[
     (b"a\tb", false, b"> 21 01 01  0"),
 ];
 
-/// Returns whether marks make this text.
 fn gives(old: &Text, text: &mut Text, row: &(&[u8], bool, &[u8])) -> bool {
     let (marks, may_stand, wanted) = *row;
     marks.len() <= LINE_LIMIT

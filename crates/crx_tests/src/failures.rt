@@ -159,7 +159,6 @@ fn run(alloc: Global, tool: Tool, skip: bool, input: &[u8], devices: Devices) ->
     })
 }
 
-/// Runs a case over these devices.
 fn run_case(alloc: Global, case: &Case, texts: &Texts, devices: Devices) -> Result<Left, Fail>
     requires { 0 < devices.at_most }
 {
@@ -177,7 +176,6 @@ fn lines_within(text: &[u8], bytes: usize) -> usize {
     lines
 }
 
-/// Returns the outcome of a run that a fault ended.
 fn ended(at: At) -> Outcome {
     Outcome {
         status: 1,

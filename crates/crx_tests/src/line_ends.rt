@@ -32,7 +32,6 @@ fn expect_lengths(
     Ok(())
 }
 
-/// The length of the text.
 const LENGTH: usize = 130;
 
 #[test]

@@ -100,7 +100,6 @@ fn stops_at_a_failed_read(rt: HostRuntime) -> Result<(), Fail> {
     Ok(())
 }
 
-/// Appends a line of one character to a text.
 fn push_line(
     text: &mut Vec<u8>,
     character: u8,

@@ -39,21 +39,18 @@ const QUIET: Answer = Answer {
     again: None,
 };
 
-/// One line is ready.
 const ONE: Answer = Answer {
     step: Step::Ready,
     ready: 1,
     again: None,
 };
 
-/// Two lines are ready.
 const TWO: Answer = Answer {
     step: Step::Ready,
     ready: 2,
     again: None,
 };
 
-/// Three lines are ready.
 const THREE: Answer = Answer {
     step: Step::Ready,
     ready: 3,

@@ -14,7 +14,7 @@ use crx_rinex::{Printed, is_event_line};
 use std::process::Abort;
 use std::test::Fail;
 
-/// Returns whether a line may be fed: it isn't too long, and begins no event.
+/// Returns whether a line isn't too long and begins no event.
 fn may_be_fed(line: &[u8]) -> bool
     ensures short { OnTrue result (length line.now ≤ LINE_LIMIT) }
     ensures no_event { OnTrue result (is_event_line line.now ≡ false) }
@@ -68,7 +68,6 @@ fn prints(given: Option<Owned<Epoch>>, want: &str) -> bool {
     printed.value.next_line().is_none()
 }
 
-/// Returns whether compact lines are read as the epoch that has these RINEX lines.
 fn is_read(columns: &mut Columns, types: &Types, compact: &str, rinex: &str) -> bool {
     match take_all(columns, types, compact) {
         Ok(given) => prints(given, rinex) && columns.is_idle(),

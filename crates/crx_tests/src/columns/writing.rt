@@ -17,7 +17,6 @@ fn are_next(coded: &mut Coded, lines: &str) -> bool {
     coded.next_line().is_none()
 }
 
-/// Returns whether an epoch, full or not, has these compact lines.
 fn is_encoded(
     alloc: Global,
     columns: &mut Columns,

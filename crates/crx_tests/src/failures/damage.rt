@@ -82,7 +82,6 @@ fn each_prefix_is_expanded(rt: HostRuntime) -> Result<(), Fail> {
 /// Compact text with a satellite that is absent once, and with types that change in an event.
 const TEXTS: &[&str] = &["K|H|A1|A2|A3", "K|H|CT"];
 
-/// Returns a text with another byte at a place.
 fn with_byte(alloc: Global, text: &[u8], place: usize, byte: u8) -> Result<Vec<u8>, AllocError> {
     let mut damaged = Vec::new(alloc);
     for (at, old) in text.iter().enumerate() {

@@ -48,7 +48,6 @@ fn devices(failing: &Failing) -> Devices
     }
 }
 
-/// Returns whether a row's run has the row's results.
 fn passes(alloc: Global, row: &Row) -> Result<bool, Fail> {
     let input = text(alloc, row.input)?;
     let mut output = text(alloc, row.lines)?;

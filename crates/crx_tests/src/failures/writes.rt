@@ -15,12 +15,10 @@ fn line_of_byte(case: &Case, texts: &Texts, place: usize) -> u64 {
     last_line(case)
 }
 
-/// Returns the number of the last line of the input.
 fn last_line(case: &Case) -> u64 {
     (case.after.len() as u64).saturating_sub(1)
 }
 
-/// Returns whether a run ended with a failed write at a line, and reported that.
 fn has_failed_at(alloc: Global, case: &Case, left: &Left, line: u64) -> Result<bool, Fail> {
     let at = At {
         line,
