@@ -50,7 +50,7 @@ pub fn date_text(alloc: Global, at: Timestamp) -> Result<String, AllocError>
     Ok(text)
 }
 
-/// Returns the date of a moment as [`date_text`] does, or an empty text if there is none.
+/// Returns the date of a moment as [`date_text`] does, or an empty text if there is none, or `AllocError`.
 pub fn date_of(alloc: Global, moment: Option<Timestamp>) -> Result<String, AllocError>
     ensures date { IfOk result (λ text. IsDateOf moment (string_bytes text)) }
 {
@@ -65,7 +65,7 @@ pub fn moment_now<C: Clock>(clock: &C) -> Option<Timestamp> {
     Timestamp::now(clock).ok()
 }
 
-/// Returns the date of the clock's moment as [`date_of`] does.
+/// Returns the date of the clock's moment, or an empty text if it has none, or `AllocError`.
 pub fn default_date<C: Clock>(clock: &C, alloc: Global) -> Result<String, AllocError>
     ensures date { IfOk result (λ text. IsDefaultDate (string_bytes text)) }
 {

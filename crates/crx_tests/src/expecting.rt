@@ -12,7 +12,7 @@ pub fn expect(rt: &impl Abort, is_so: bool, what: &str)
     assert!(rt; is_so, "{what}");
 }
 
-/// Does the same at a place: of a row, a byte, a line, or a length.
+/// Does the same as [`expect`] at a place: of a row, a byte, a line, or a length.
 pub fn expect_at(rt: &impl Abort, is_so: bool, what: &str, place: usize)
     ensures holds { is_so ≡ true }
 {

@@ -33,8 +33,8 @@ pub(crate) fn digits_before_blank(text: &[u8]) -> Option<(u64, usize)>
     None
 }
 
-// Returns the number that the digits at a text's beginning make, and their count. Reads at most one digit too
-// many.
+// Returns the number that the digits at a text's beginning make, and their count. Reads at most one digit more
+// than [`DIGITS_LIMIT`].
 #[inline(never)]
 fn first_digits(text: &[u8]) -> (u64, usize)
     ensures { HasFirstDigits text.now result.0 result.1 }

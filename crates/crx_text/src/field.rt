@@ -62,7 +62,7 @@ fn of_groups(groups: u32x4) -> u64
     joined[0] * 1_000_000 + joined[1]
 }
 
-/// Returns the number in plain columns.
+/// Returns the observation in plain columns, in thousandths.
 #[inline(always)]
 pub(crate) fn value(columns: u8x16) -> i64
     requires { IsPlain columns }

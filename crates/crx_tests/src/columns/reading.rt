@@ -22,7 +22,8 @@ fn may_be_fed(line: &[u8]) -> bool
     line.len() <= LINE_LIMIT && !is_event_line(line)
 }
 
-/// Feeds one line, the first one of an epoch or a later one.
+/// Feeds one line, the first one of an epoch or a later one, and returns the epoch that it completes. Returns
+/// its fault, or `LineTooLong` if it may not be fed.
 fn take(columns: &mut Columns, types: &Types, line: &[u8]) -> Result<Option<Owned<Epoch>>, Fault> {
     if !may_be_fed(line) {
         return Err(Fault::LineTooLong);

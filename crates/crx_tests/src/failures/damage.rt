@@ -38,7 +38,7 @@ fn is_expanded(
     Ok(has_ended(&left) && has_written(&left, whole, lines))
 }
 
-/// Does the same both with and without skipping faults.
+/// Does the same as [`is_expanded`], both with and without skipping faults.
 fn is_expanded_always(
     alloc: Global,
     input: &[u8],
