@@ -100,7 +100,7 @@ pub fn reserve_keys<T: Eq + Hash>(set: &mut IndexSet<T>, more: usize) -> Result<
 
 /// Puts a value on the heap, or returns `Refused`.
 #[inline(always)]
-pub fn boxed<T: Drop>(alloc: Global, value: T) -> Result<Box<T>, Refused>
+pub fn try_box<T: Drop>(alloc: Global, value: T) -> Result<Box<T>, Refused>
     ensures value { IfOk result (λ place. place.value ≡ value) }
 {
     match Box::new(alloc, value) {

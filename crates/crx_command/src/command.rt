@@ -124,7 +124,7 @@ fn names_of_files<'a>(alloc: Global, help: &'a str) -> Arg<'a>
 }
 
 /// Returns a command without arguments: its name, a line about it, and more help.
-fn titled<'a>(alloc: Global, name: &'a str, about: &'a str, help: &'a str) -> Command<'a>
+fn with_title<'a>(alloc: Global, name: &'a str, about: &'a str, help: &'a str) -> Command<'a>
     ensures { app_of result ≡ new_app name.now }
 {
     Command::new(alloc, name).about(about).after_help(help)
@@ -164,7 +164,7 @@ fn with_flags<'a>(alloc: Global, command: Command<'a>) -> Result<Command<'a>, Al
 fn rnx2crx<'a>(alloc: Global) -> Result<Command<'a>, AllocError>
     ensures { IfOk result (λ c. shape_of c ≡ rnx2crx) }
 {
-    let start = titled(alloc, "rnx2crx", RNX2CRX_ABOUT, RNX2CRX_HELP)
+    let start = with_title(alloc, "rnx2crx", RNX2CRX_ABOUT, RNX2CRX_HELP)
         .override_usage("rnxcmp rnx2crx [OPTIONS] [FILE]...")
         .arg(every_option(alloc))?;
     with_flags(alloc, start)?
@@ -176,7 +176,7 @@ fn rnx2crx<'a>(alloc: Global) -> Result<Command<'a>, AllocError>
 fn crx2rnx<'a>(alloc: Global) -> Result<Command<'a>, AllocError>
     ensures { IfOk result (λ c. shape_of c ≡ crx2rnx) }
 {
-    let start = titled(alloc, "crx2rnx", CRX2RNX_ABOUT, CRX2RNX_HELP).override_usage(
+    let start = with_title(alloc, "crx2rnx", CRX2RNX_ABOUT, CRX2RNX_HELP).override_usage(
         "rnxcmp crx2rnx [OPTIONS] [FILE]...",
     );
     with_flags(alloc, start)?.arg(names_of_files(alloc, COMPACT_FILE))
@@ -186,7 +186,7 @@ fn crx2rnx<'a>(alloc: Global) -> Result<Command<'a>, AllocError>
 fn checker<'a>(alloc: Global) -> Result<Command<'a>, AllocError>
     ensures { IfOk result (λ c. shape_of c ≡ checker) }
 {
-    titled(alloc, "check", CHECK_ABOUT, CHECK_HELP)
+    with_title(alloc, "check", CHECK_ABOUT, CHECK_HELP)
         .override_usage("rnxcmp check [FILE]...")
         .arg(names_of_files(alloc, CHECKED_FILE))
 }
@@ -196,7 +196,7 @@ fn checker<'a>(alloc: Global) -> Result<Command<'a>, AllocError>
 pub(crate) fn command<'a>(alloc: Global) -> Result<Command<'a>, AllocError>
     ensures { IfOk result (λ c. app_of c ≡ program) }
 {
-    let top = titled(alloc, "rnxcmp", ABOUT, HELP)
+    let top = with_title(alloc, "rnxcmp", ABOUT, HELP)
         .no_binary_name(true)
         .disable_help_subcommand(true)
         .subcommand_required(true);

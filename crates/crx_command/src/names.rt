@@ -91,7 +91,7 @@ pub fn output_name(alloc: Global, tool: Tool, name: &str) -> Result<Option<Word>
     for ending in endings {
         if let Some(stem) = name.strip_suffix(ending.old) {
             if !ending.after_year || ends_in_year(stem) {
-                return Ok(Some(Word::joined(alloc, stem, ending.new)?));
+                return Ok(Some(Word::join(alloc, stem, ending.new)?));
             }
         }
     }

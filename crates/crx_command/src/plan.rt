@@ -70,7 +70,7 @@ fn arguments_of<'a>(found: &ArgMatches<'a>) -> Arguments<'a>
 }
 
 /// Returns a copy of a text, if there is one, or `Refused`.
-fn copied(alloc: Global, text: Option<&str>) -> Result<Option<Word>, Refused>
+fn copy_word(alloc: Global, text: Option<&str>) -> Result<Option<Word>, Refused>
     ensures { IfOk result (λ word. word ≡ option_map (λ text. text.now) text.entry) }
 {
     match text {
@@ -92,12 +92,12 @@ fn job(
 {
     Ok(Job {
         tool,
-        source: copied(alloc, source)?,
+        source: copy_word(alloc, source)?,
         target,
         force: given.force,
         every: given.every,
         skip: given.skip,
-        date: copied(alloc, given.date)?,
+        date: copy_word(alloc, given.date)?,
     })
 }
 
@@ -167,8 +167,8 @@ pub fn plan(alloc: Global, words: Vec<String>) -> Result<Decision, UsageFault>
         Ok(matches) => matches,
         Err(error) => match error.kind() {
             ErrorKind::OutOfMemory => return Err(UsageFault::Memory),
-            ErrorKind::DisplayHelp => return Ok(Decision::Help(Word::shown(alloc, &error)?)),
-            _ => return Err(UsageFault::Parse(Word::shown(alloc, &error)?)),
+            ErrorKind::DisplayHelp => return Ok(Decision::Help(Word::display(alloc, &error)?)),
+            _ => return Err(UsageFault::Parse(Word::display(alloc, &error)?)),
         },
     };
     let Some((name, found)) = matches.subcommand() else {

@@ -28,11 +28,11 @@ impl Word {
     pub fn new(alloc: Global, text: &str) -> Result<Word, Refused>
         ensures value { IfOk result (λ w. w ≡ text.now) }
     {
-        Word::joined(alloc, text, "")
+        Word::join(alloc, text, "")
     }
 
     /// Returns `start` followed by `end`, or `Refused`.
-    pub fn joined(alloc: Global, start: &str, end: &str) -> Result<Word, Refused>
+    pub fn join(alloc: Global, start: &str, end: &str) -> Result<Word, Refused>
         ensures value { IfOk result (λ w. w ≡ start.now ++ end.now) }
     {
         let mut text = String::new(alloc);
@@ -55,7 +55,7 @@ impl Word {
     }
 
     /// Returns the text that clap shows for an error or for its help, or clap's refusal.
-    pub fn shown<T: fmt::Display>(alloc: Global, value: &T) -> Result<Word, AllocError> {
+    pub fn display<T: fmt::Display>(alloc: Global, value: &T) -> Result<Word, AllocError> {
         Ok(Word {
             text: format!(in alloc; "{value}")?,
         })

@@ -1,6 +1,6 @@
 -- Two lists that are alike from a place on, such as the arcs that a loop hasn't reached.
-use Rattle.crx_compact.proofs.Words.{◌≡◌, ◌<◌, ℕ, ◌+◌, List, length, drop, slice_index_or, slice_set, arith}
-use Rattle.crx_compact.proofs.Words.{common_steps, drop-drop, drop-set-lt, length-drop}
+use Rattle.crx_compact.proofs.Vocabulary.{◌≡◌, ◌<◌, ℕ, ◌+◌, List, length, drop, slice_index_or, slice_set, arith}
+use Rattle.crx_compact.proofs.Vocabulary.{common_steps, drop-drop, drop-set-lt, length-drop}
 use Rattle.crx_compact.proofs.PlaceByPlace.{from-place}
 
 -- their items at that place are the same

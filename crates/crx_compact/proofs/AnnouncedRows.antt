@@ -1,9 +1,9 @@
 -- After an epoch line the rows are those of the satellites that its text announces.
-use Rattle.crx_compact.proofs.Words.{◌≡◌, [], ◌∷◌, ℕ, List, All, Ok, map, refl}
-use Rattle.crx_compact.proofs.Words.{patched, length-each_place, Count}
-use Rattle.crx_compact.proofs.Words.{IsAwaitedSatellite, past_of_tail, satellites_of_line}
-use Rattle.crx_compact.proofs.Words.{Satellite, IsAnnounced, OpenHistory, padded_among, satellite_of}
-use Rattle.crx_compact.proofs.Words.{RowTail, Tail, arith}
+use Rattle.crx_compact.proofs.Vocabulary.{◌≡◌, [], ◌∷◌, ℕ, List, All, Ok, map, refl}
+use Rattle.crx_compact.proofs.Vocabulary.{patched, length-each_place, Count}
+use Rattle.crx_compact.proofs.Vocabulary.{IsAwaitedSatellite, past_of_tail, satellites_of_line}
+use Rattle.crx_compact.proofs.Vocabulary.{Satellite, IsAnnounced, OpenHistory, padded_among, satellite_of}
+use Rattle.crx_compact.proofs.Vocabulary.{RowTail, Tail, arith}
 use Rattle.crx_compact.proofs.EpochLines.{announced, named-by_line}
 
 pub satellites-again : (before : List RowTail) (satellites : List Satellite)

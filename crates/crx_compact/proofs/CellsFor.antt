@@ -1,8 +1,8 @@
 -- Cells for `count` types: the given ones, then empty ones.
-use Rattle.crx_compact.proofs.Words.{◌≡◌, ◌≤◌, ◌<◌, ◌+◌, ◌-◌, ℕ, ℤ, zero, suc, List, [], ◌∷◌, ◌++◌, length}
-use Rattle.crx_compact.proofs.Words.{take, drop, replicate, slice_index_or, Option, None, refl, ap, arith}
-use Rattle.crx_compact.proofs.Words.{Code, common_steps, each_place, length-take-le, cell_text, ArcTail}
-use Rattle.crx_compact.proofs.Words.{length-each_place, length-drop, map, shown_value, take-append-add}
+use Rattle.crx_compact.proofs.Vocabulary.{◌≡◌, ◌≤◌, ◌<◌, ◌+◌, ◌-◌, ℕ, ℤ, zero, suc, List, [], ◌∷◌, ◌++◌, length}
+use Rattle.crx_compact.proofs.Vocabulary.{take, drop, replicate, slice_index_or, Option, None, refl, ap, arith}
+use Rattle.crx_compact.proofs.Vocabulary.{Code, common_steps, each_place, length-take-le, cell_text, ArcTail}
+use Rattle.crx_compact.proofs.Vocabulary.{length-each_place, length-drop, map, shown_value, take-append-add}
 use borrow.Rule.Slice.PartMut.{put_mid}
 use Rattle.std.proofs.lemmas.List.{drop_all, flat_map_more, get_or-replicate, get_or-take, get_or_read_under}
 use Rattle.crx_text.proofs.EachPlace.{each_place-more, each_place-same, index-each_place, map-each_place}

@@ -1,12 +1,12 @@
 -- The cells of a line, read from left to right.
-use Rattle.crx_compact.proofs.Words.{◌≡◌, ◌≤◌, ◌<◌, refl, ℕ, suc, ◌+◌, ℤ, List, [], ◌∷◌, ◌++◌, length, map}
-use Rattle.crx_compact.proofs.Words.{take, drop, slice_index_or, Option, None, Result, Ok, Err, ◌∙◌, arith}
-use Rattle.crx_compact.proofs.Words.{rules, append-nil, length-map, map-append, length-each_place, code_of}
-use Rattle.crx_compact.proofs.Words.{Code, Fault, BadField, ReadCell, cell_read, cells_read, cells_of}
-use Rattle.crx_compact.proofs.Words.{after_cells, ArcTail, arc_of_code, value_of_code, shown_value}
-use Rattle.crx_compact.proofs.Words.{value_at_place, replicate, ap, zero, sym, subst, length-take-le, ◌-◌}
-use Rattle.crx_compact.proofs.{Results.{onto, onto-err, onto-more, onto-ok}, PlaceByPlace.from-place}
-use Rattle.crx_compact.proofs.{CellsFor.longer-cells, Words.◌⊎◌}
+use Rattle.crx_compact.proofs.Vocabulary.{◌≡◌, ◌≤◌, ◌<◌, refl, ℕ, suc, ◌+◌, ℤ, List, [], ◌∷◌, ◌++◌, length, map}
+use Rattle.crx_compact.proofs.Vocabulary.{take, drop, slice_index_or, Option, None, Result, Ok, Err, ◌∙◌, arith}
+use Rattle.crx_compact.proofs.Vocabulary.{rules, append-nil, length-map, map-append, length-each_place, code_of}
+use Rattle.crx_compact.proofs.Vocabulary.{Code, Fault, BadField, ReadCell, cell_read, cells_read, cells_of}
+use Rattle.crx_compact.proofs.Vocabulary.{after_cells, ArcTail, arc_of_code, value_of_code, shown_value}
+use Rattle.crx_compact.proofs.Vocabulary.{value_at_place, replicate, ap, zero, sym, subst, length-take-le, ◌-◌}
+use Rattle.crx_compact.proofs.{GoodResults.{onto, onto-err, onto-more, onto-ok}, PlaceByPlace.from-place}
+use Rattle.crx_compact.proofs.{CellsFor.longer-cells, Vocabulary.◌⊎◌}
 use Rattle.std.proofs.{lemmas.List.{drop_all, drop-drop, get_or-take, length-drop}, lemmas.Grind.common_steps}
 use Rattle.std.proofs.Math.Seq.{get_or-append_seam, set-append_seam}
 use Rattle.std.proofs.Common.{add-one, length-append, append_assoc}

@@ -1,7 +1,7 @@
 -- The coded values of a row, written from left to right.
-use Rattle.crx_compact.proofs.Words.{◌≡◌, ◌≤◌, ◌<◌, ◌+◌, ◌*◌, ◌∙◌, ℕ, ℤ, List, ◌++◌, length, take, drop}
-use Rattle.crx_compact.proofs.Words.{slice_index_or, slice_set, Option, None, arith}
-use Rattle.crx_compact.proofs.Words.{ArcTail, cell_text, each_place, flat_map, take_more_set}
+use Rattle.crx_compact.proofs.Vocabulary.{◌≡◌, ◌≤◌, ◌<◌, ◌+◌, ◌*◌, ◌∙◌, ℕ, ℤ, List, ◌++◌, length, take, drop}
+use Rattle.crx_compact.proofs.Vocabulary.{slice_index_or, slice_set, Option, None, arith}
+use Rattle.crx_compact.proofs.Vocabulary.{ArcTail, cell_text, each_place, flat_map, take_more_set}
 use Rattle.crx_compact.proofs.{AlikeFrom.{alike-there, alike-after}, CellsFor.cell-there}
 use Rattle.std.proofs.{lemmas.List.{flat_map_more}, Common.{append_assoc, length-set, rules}}
 use Rattle.crx_text.proofs.EachPlace.{each_place-more}

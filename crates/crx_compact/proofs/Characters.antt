@@ -1,8 +1,8 @@
 -- Texts and identifiers by their characters.
-use Rattle.crx_compact.proofs.Words.{◌≡◌, suc, ◌≤◌, ◌∷◌, true, ◌++◌, Some, None, sym, refl}
-use Rattle.crx_compact.proofs.Words.{List, take, Bool, Option, length, arith, at, is_kept, ℕ}
-use Rattle.crx_compact.proofs.Words.{without_end_blanks, is_identifier, get_or_past, common_steps}
-use Rattle.crx_compact.proofs.Words.{[], if◌then◌else◌, list_all, and_parts, by_position, bytes_eq}
+use Rattle.crx_compact.proofs.Vocabulary.{◌≡◌, suc, ◌≤◌, ◌∷◌, true, ◌++◌, Some, None, sym, refl}
+use Rattle.crx_compact.proofs.Vocabulary.{List, take, Bool, Option, length, arith, at, is_kept, ℕ}
+use Rattle.crx_compact.proofs.Vocabulary.{without_end_blanks, is_identifier, get_or_past, common_steps}
+use Rattle.crx_compact.proofs.Vocabulary.{[], if◌then◌else◌, list_all, and_parts, by_position, bytes_eq}
 use Rattle.std.proofs.lemmas.{Slice.Eq.bytes_eq-Decides, List.length-take}
 
 pub at-take_past : (n : ℕ) (text : List ℕ) (p : ℕ) → n ≤ p → at (take n text) p ≡ 32

@@ -1,19 +1,19 @@
 -- An epoch line that was read has the number of satellites that it announces, no two with one identifier.
-use Rattle.crx_compact.proofs.Words.{◌≡◌, refl, ℕ, ◌+◌, ◌*◌, Bool, true, false, List, [], ◌∷◌, map, drop}
-use Rattle.crx_compact.proofs.Words.{Option, Some, Result, Ok, Err, length, list_all, AllByRecursion}
-use Rattle.crx_compact.proofs.Words.{bytes_eq, ap, sym, ◌∙◌, and_from, is_blank, columns, Count, is_among}
-use Rattle.crx_compact.proofs.Words.{are_apart, types_of_satellite, Fault, BadEpoch, epoch_count}
-use Rattle.crx_compact.proofs.Words.{◌otherwise◌next◌, is_printable, names_in, Satellite, satellites_named}
-use Rattle.crx_compact.proofs.Words.{Past, satellites_of_line, length-map, apart-map, Tail, past_of_tail}
-use Rattle.crx_compact.proofs.Words.{AreAnnounced, length-each_place, patched, HEAD_WIDTH, NAME_WIDTH, All}
-use Rattle.crx_compact.proofs.Words.{subst, arith, All-head, All-tail, common_steps, list_any}
-use Rattle.crx_compact.proofs.Words.{NamesSatellites, ◌or_else◌with◌}
-use Rattle.crx_compact.proofs.Words.{satellite_before, ◌≤◌, by_position, character_of}
-use Rattle.crx_compact.proofs.Words.{None, rules, at-without_end_blanks, satellites_few, unwrap_or}
-use Rattle.crx_compact.proofs.Words.{SATELLITES_LIMIT}
+use Rattle.crx_compact.proofs.Vocabulary.{◌≡◌, refl, ℕ, ◌+◌, ◌*◌, Bool, true, false, List, [], ◌∷◌, map, drop}
+use Rattle.crx_compact.proofs.Vocabulary.{Option, Some, Result, Ok, Err, length, list_all, AllByRecursion}
+use Rattle.crx_compact.proofs.Vocabulary.{bytes_eq, ap, sym, ◌∙◌, and_from, is_blank, columns, Count, is_among}
+use Rattle.crx_compact.proofs.Vocabulary.{are_apart, types_of_satellite, Fault, BadEpoch, epoch_count}
+use Rattle.crx_compact.proofs.Vocabulary.{◌otherwise◌next◌, is_printable, names_in, Satellite, satellites_named}
+use Rattle.crx_compact.proofs.Vocabulary.{Past, satellites_of_line, length-map, apart-map, Tail, past_of_tail}
+use Rattle.crx_compact.proofs.Vocabulary.{AreAnnounced, length-each_place, patched, HEAD_WIDTH, NAME_WIDTH, All}
+use Rattle.crx_compact.proofs.Vocabulary.{subst, arith, All-head, All-tail, common_steps, list_any}
+use Rattle.crx_compact.proofs.Vocabulary.{NamesSatellites, ◌or_else◌with◌}
+use Rattle.crx_compact.proofs.Vocabulary.{satellite_before, ◌≤◌, by_position, character_of}
+use Rattle.crx_compact.proofs.Vocabulary.{None, rules, at-without_end_blanks, satellites_few, unwrap_or}
+use Rattle.crx_compact.proofs.Vocabulary.{SATELLITES_LIMIT}
 use Rattle.crx_compact.proofs.{EpochTexts.blank-after, SoundTexts.ends-within}
 use Rattle.crx_compact.specs.declared.history.TheConstants.{EPOCH_TEXT_LIMIT}
-use Rattle.crx_compact.proofs.{Identifiers.{AreNew, new-before}, Results.{if-err, if-true}}
+use Rattle.crx_compact.proofs.{Identifiers.{AreNew, new-before}, GoodResults.{if-err, if-true}}
 
 -- whether no identifier occurs twice
 abbrev pub differ : List (List ℕ) → Bool

@@ -1,6 +1,6 @@
 -- A text that is blank from a place on, by its characters.
-use Rattle.crx_compact.proofs.Words.{◌≡◌, ◌+◌, ℕ, true, List, drop, common_steps}
-use Rattle.crx_compact.proofs.Words.{arith, list_all, is_blank}
+use Rattle.crx_compact.proofs.Vocabulary.{◌≡◌, ◌+◌, ℕ, true, List, drop, common_steps}
+use Rattle.crx_compact.proofs.Vocabulary.{arith, list_all, is_blank}
 use Rattle.crx_text.proofs.Characters.{at, at-drop}
 use Rattle.crx_compact.proofs.{Characters.list_all-at}
 

@@ -1,10 +1,10 @@
 -- Things with different identifiers: each is found by its own, and none is among earlier ones.
-use Rattle.crx_compact.proofs.Words.{◌≡◌, ℕ, true, false, List, [], ◌∷◌, Some, refl, AllByRecursion}
-use Rattle.crx_compact.proofs.Words.{bytes_eq, not-true, is_among, are_apart, arith}
+use Rattle.crx_compact.proofs.Vocabulary.{◌≡◌, ℕ, true, false, List, [], ◌∷◌, Some, refl, AllByRecursion}
+use Rattle.crx_compact.proofs.Vocabulary.{bytes_eq, not-true, is_among, are_apart, arith}
 use Rattle.crx_compact.proofs.Characters.{bytes_eq-same}
 use Rattle.std.specs.List.{list_any}
 use Rattle.std.proofs.{lemmas.Bool.or_parts, lemmas.Grind.common_steps}
-use Rattle.crx_header.proofs.Apart.{other_way}
+use Rattle.crx_header.proofs.OtherIdentifiers.{other_way}
 use Rattle.crx_compact.specs.meaning.Sequences.{named}
 
 -- things found among some items are found with one more before these, if its identifier differs

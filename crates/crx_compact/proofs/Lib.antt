@@ -1,24 +1,24 @@
-pub mod Words
+pub mod Vocabulary
 pub mod arcs
 pub mod CellsRead
 pub mod CellsWritten
 pub mod PlaceByPlace
 pub mod SameTexts
-pub mod Making
+pub mod OneByOne
 pub mod LineTexts
 pub mod Characters
 pub mod EpochLines
 pub mod EpochTexts
 pub mod RowByRow
-pub mod ComeRows
+pub mod RowsByHistory
 pub mod Writing
-pub mod NamesCome
+pub mod AddedNames
 pub mod AnnouncedRows
 pub mod Identifiers
 pub mod Marks
 pub mod Naming
-mod NamedAgain
-pub mod Results
+mod RepeatedNames
+pub mod GoodResults
 pub mod ShownEpochs
 pub mod ShownRows
 pub mod SoundTexts
@@ -26,7 +26,7 @@ pub mod reading
 pub mod wayback
 pub mod anywriter
 pub mod soundness
-mod Justified
+mod PaddedColumns
 pub mod Lists
 pub mod AlikeFrom
 pub mod PrintedBlocks

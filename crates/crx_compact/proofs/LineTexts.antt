@@ -1,8 +1,8 @@
 -- Lines that a text is cut into, each followed by LF.
-use Rattle.crx_compact.proofs.Words.{◌≡◌, ◌≤◌, ◌<◌, ℕ, suc, ◌+◌, ◌-◌, List, [], ◌∷◌, ◌++◌, length, set}
-use Rattle.crx_compact.proofs.Words.{take, drop, get_or, slice_get, Some, ap, arith, drop-append_seam, rules}
-use Rattle.crx_compact.proofs.Words.{take-take, length-append, length-set, length-take-le, take_more_set, cut}
-use Rattle.crx_compact.proofs.Words.{AreCut, common_steps}
+use Rattle.crx_compact.proofs.Vocabulary.{◌≡◌, ◌≤◌, ◌<◌, ℕ, suc, ◌+◌, ◌-◌, List, [], ◌∷◌, ◌++◌, length, set}
+use Rattle.crx_compact.proofs.Vocabulary.{take, drop, get_or, slice_get, Some, ap, arith, drop-append_seam, rules}
+use Rattle.crx_compact.proofs.Vocabulary.{take-take, length-append, length-set, length-take-le, take_more_set, cut}
+use Rattle.crx_compact.proofs.Vocabulary.{AreCut, common_steps}
 use Rattle.std.proofs.lemmas.List.{drop-append-le, drop-drop, drop-take, drop_more}
 use Rattle.std.proofs.{Common.append_assoc, lemmas.List.{take-append-drop, take-append-le, length-drop}}
 use Rattle.std.proofs.Math.Seq.{take-append_seam, drop-append-add, take-append-add, take-set-lt}

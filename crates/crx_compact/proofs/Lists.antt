@@ -1,5 +1,5 @@
 -- Lists whose items all have a property.
-use Rattle.crx_compact.proofs.Words.{◌≡◌, refl, List, [], ◌∷◌, map, AllByRecursion}
+use Rattle.crx_compact.proofs.Vocabulary.{◌≡◌, refl, List, [], ◌∷◌, map, AllByRecursion}
 
 -- two functions that agree on each of some things map them to the same
 pub mapped-same : {X Y : Type 0} {P : X → Type 0} (f g : X → Y)

@@ -1,14 +1,14 @@
 -- The marks of a satellite line, and the row that its cells and marks make.
-use Rattle.crx_compact.proofs.Words.{◌≡◌, refl, ℕ, suc, ◌*◌, true, false, List, [], ◌∷◌, ℤ, length}
-use Rattle.crx_compact.proofs.Words.{drop, slice_index_or, Option, None, Result, Ok, ◌==◌}
-use Rattle.crx_compact.proofs.Words.{zero, list_all, ap, arith, rules, length-map, columns}
-use Rattle.crx_compact.proofs.Words.{without_end_blanks, is_kept, is_printable, patched, Code, Fault}
-use Rattle.crx_compact.proofs.Words.{begins_epoch, Tail, cell_of_tail}
-use Rattle.crx_compact.proofs.Words.{Satellite, ReadCell, cells_of, cells_read}
-use Rattle.crx_compact.proofs.Words.{are_marks, ArcTail, RowTail}
-use Rattle.crx_compact.proofs.Words.{flags_held, tail_named, arcs_of_tail}
-use Rattle.crx_compact.proofs.Words.{list_all-from_at, common_steps}
-use Rattle.crx_compact.proofs.Words.{row_held, at, at-without_end_blanks}
+use Rattle.crx_compact.proofs.Vocabulary.{◌≡◌, refl, ℕ, suc, ◌*◌, true, false, List, [], ◌∷◌, ℤ, length}
+use Rattle.crx_compact.proofs.Vocabulary.{drop, slice_index_or, Option, None, Result, Ok, ◌==◌}
+use Rattle.crx_compact.proofs.Vocabulary.{zero, list_all, ap, arith, rules, length-map, columns}
+use Rattle.crx_compact.proofs.Vocabulary.{without_end_blanks, is_kept, is_printable, patched, Code, Fault}
+use Rattle.crx_compact.proofs.Vocabulary.{begins_epoch, Tail, cell_of_tail}
+use Rattle.crx_compact.proofs.Vocabulary.{Satellite, ReadCell, cells_of, cells_read}
+use Rattle.crx_compact.proofs.Vocabulary.{are_marks, ArcTail, RowTail}
+use Rattle.crx_compact.proofs.Vocabulary.{flags_held, tail_named, arcs_of_tail}
+use Rattle.crx_compact.proofs.Vocabulary.{list_all-from_at, common_steps}
+use Rattle.crx_compact.proofs.Vocabulary.{row_held, at, at-without_end_blanks}
 use Rattle.crx_compact.proofs.{CellsRead.cells-within}
 use Rattle.crx_compact.proofs.{SoundTexts.{held-columns, same-columns}, PlaceByPlace.{at-take}}
 use Rattle.crx_compact.proofs.Characters.{list_all-at, at-by_position}

@@ -1,14 +1,14 @@
 -- The identifiers of an epoch text, read from left to right.
-use Rattle.crx_compact.proofs.Words.{append-nil}
-use Rattle.crx_compact.proofs.Words.{◌≡◌, ◌<◌, refl, ℕ, suc, ◌+◌, ◌*◌, Bool, true, false, ◌||◌, List}
-use Rattle.crx_compact.proofs.Words.{[], ◌∷◌, ◌++◌, drop, Some, None, Ok, Err, length, All-from_recursion}
-use Rattle.crx_compact.proofs.Words.{bytes_eq, sym, ◌∙◌, ap, arith, get_or, length-map}
-use Rattle.crx_compact.proofs.Words.{each_place, types_of_satellite, columns, BadSatellite}
-use Rattle.crx_compact.proofs.Words.{RepeatedSatellite, Count, Satellite, names_in}
-use Rattle.crx_compact.proofs.Words.{satellites_named}
-use Rattle.crx_compact.proofs.{Results.{onto, onto-err, onto-more, onto-ok}}
+use Rattle.crx_compact.proofs.Vocabulary.{append-nil}
+use Rattle.crx_compact.proofs.Vocabulary.{◌≡◌, ◌<◌, refl, ℕ, suc, ◌+◌, ◌*◌, Bool, true, false, ◌||◌, List}
+use Rattle.crx_compact.proofs.Vocabulary.{[], ◌∷◌, ◌++◌, drop, Some, None, Ok, Err, length, All-from_recursion}
+use Rattle.crx_compact.proofs.Vocabulary.{bytes_eq, sym, ◌∙◌, ap, arith, get_or, length-map}
+use Rattle.crx_compact.proofs.Vocabulary.{each_place, types_of_satellite, columns, BadSatellite}
+use Rattle.crx_compact.proofs.Vocabulary.{RepeatedSatellite, Count, Satellite, names_in}
+use Rattle.crx_compact.proofs.Vocabulary.{satellites_named}
+use Rattle.crx_compact.proofs.{GoodResults.{onto, onto-err, onto-more, onto-ok}}
 use Rattle.std.specs.List.{list_any}
-use Rattle.crx_header.proofs.Apart.{other_way}
+use Rattle.crx_header.proofs.OtherIdentifiers.{other_way}
 use Rattle.std.proofs.{lemmas.List.{get_or-map}, lemmas.Grind.common_steps}
 use Rattle.crx_text.proofs.EachPlace.{drop-each_place}
 use Rattle.crx_compact.specs.{meaning.EpochText.satellite_before}

@@ -1,7 +1,7 @@
 -- Cells that are written or printed place by place.
-use Rattle.crx_compact.proofs.Words.{◌≡◌, ◌<◌, ℕ, suc, ◌+◌, ℤ, List, [], ◌∷◌, ◌++◌, length, slice_index_or}
-use Rattle.crx_compact.proofs.Words.{Option, None, refl, ◌*◌, drop, replicate, take, ◌∙◌, arith, columns, at}
-use Rattle.crx_compact.proofs.Words.{length-columns}
+use Rattle.crx_compact.proofs.Vocabulary.{◌≡◌, ◌<◌, ℕ, suc, ◌+◌, ℤ, List, [], ◌∷◌, ◌++◌, length, slice_index_or}
+use Rattle.crx_compact.proofs.Vocabulary.{Option, None, refl, ◌*◌, drop, replicate, take, ◌∙◌, arith, columns, at}
+use Rattle.crx_compact.proofs.Vocabulary.{length-columns}
 use Rattle.std.proofs.{Common.{add-one, append_assoc, drop-cons}, lemmas.List.get_or-take}
 use Rattle.crx_text.specs.{meaning.PrintedCells.printed_cells, meaning.Numbers.observation_text}
 

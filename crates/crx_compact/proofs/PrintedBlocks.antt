@@ -1,10 +1,10 @@
 -- The printed lines of an epoch, while its rows are read.
-use Rattle.crx_compact.proofs.Words.{◌≡◌, ◌++◌, ◌∷◌, ◌+◌, [], List, ℕ, Some, slice_get, arith}
-use Rattle.crx_compact.proofs.Words.{OpenHistory, tail_of_history, lines_to, rules, Tail, RowTail}
-use Rattle.crx_compact.proofs.Words.{columns, HEAD_WIDTH, printed_head, printed_row}
-use Rattle.crx_compact.proofs.Words.{shown_row, shown_value, IsRowRead, PendingLines}
-use Rattle.crx_compact.proofs.Words.{◌<◌, ◌-◌, ◌∙◌, sym, refl, Bool, Expected, ColumnsState, columns_state}
-use Rattle.crx_compact.proofs.Words.{Option, Idle, Reading, with_rows}
+use Rattle.crx_compact.proofs.Vocabulary.{◌≡◌, ◌++◌, ◌∷◌, ◌+◌, [], List, ℕ, Some, slice_get, arith}
+use Rattle.crx_compact.proofs.Vocabulary.{OpenHistory, tail_of_history, lines_to, rules, Tail, RowTail}
+use Rattle.crx_compact.proofs.Vocabulary.{columns, HEAD_WIDTH, printed_head, printed_row}
+use Rattle.crx_compact.proofs.Vocabulary.{shown_row, shown_value, IsRowRead, PendingLines}
+use Rattle.crx_compact.proofs.Vocabulary.{◌<◌, ◌-◌, ◌∙◌, sym, refl, Bool, Expected, ColumnsState, columns_state}
+use Rattle.crx_compact.proofs.Vocabulary.{Option, Idle, Reading, with_rows}
 use Rattle.crx_compact.proofs.{reading.Stages.state-rows}
 use Rattle.crx_compact.specs.{OpenLines.IsLineTaken, PrintedBlocks.ArePrinted}
 use Rattle.crx_compact.proofs.{RowByRow.printed-next}

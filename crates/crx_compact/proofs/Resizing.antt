@@ -1,7 +1,7 @@
 -- A satellite's indicators and cells with another number of types.
-use Rattle.crx_compact.proofs.Words.{◌≡◌, ◌≤◌, ℕ, ◌-◌, List, ◌++◌, length, take, replicate, Option, ◌*◌}
-use Rattle.crx_compact.proofs.Words.{list_all, arith, take-take, take_all, LINE_LIMIT, without_end_blanks}
-use Rattle.crx_compact.proofs.Words.{is_kept, at-without_end_blanks, list_all-from_at, few_kept, ArcTail}
+use Rattle.crx_compact.proofs.Vocabulary.{◌≡◌, ◌≤◌, ℕ, ◌-◌, List, ◌++◌, length, take, replicate, Option, ◌*◌}
+use Rattle.crx_compact.proofs.Vocabulary.{list_all, arith, take-take, take_all, LINE_LIMIT, without_end_blanks}
+use Rattle.crx_compact.proofs.Vocabulary.{is_kept, at-without_end_blanks, list_all-from_at, few_kept, ArcTail}
 use Rattle.crx_compact.proofs.{Characters.{all-take, list_all-at, same_characters}, CellsFor.cells-again}
 use Rattle.crx_compact.proofs.{PlaceByPlace.{at-padded, at-take}, SoundTexts.same-cut}
 use Rattle.std.proofs.{lemmas.Grind.common_steps, lemmas.List.length-take}

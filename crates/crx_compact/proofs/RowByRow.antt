@@ -1,9 +1,9 @@
 -- Rows one by one: a property of each, and the list that those up to an index make.
-use Rattle.crx_compact.proofs.Words.{◌≡◌, ◌<◌, ◌+◌, ◌++◌, ◌∷◌, [], ℕ, List, Option, Some, All}
-use Rattle.crx_compact.proofs.Words.{length, same_Some}
-use Rattle.crx_compact.proofs.Words.{take, map, slice_get, sym, ◌∙◌, subst, arith}
-use Rattle.crx_compact.proofs.Words.{slice_get_within}
-use Rattle.crx_compact.proofs.{Words.{printed_row, shown_row, RowTail}, Making.taken_more}
+use Rattle.crx_compact.proofs.Vocabulary.{◌≡◌, ◌<◌, ◌+◌, ◌++◌, ◌∷◌, [], ℕ, List, Option, Some, All}
+use Rattle.crx_compact.proofs.Vocabulary.{length, same_Some}
+use Rattle.crx_compact.proofs.Vocabulary.{take, map, slice_get, sym, ◌∙◌, subst, arith}
+use Rattle.crx_compact.proofs.Vocabulary.{slice_get_within}
+use Rattle.crx_compact.proofs.{Vocabulary.{printed_row, shown_row, RowTail}, OneByOne.taken_more}
 use Rattle.crx_compact.specs.Entries.{Entry}
 use Rattle.std.proofs.Common.{Bool, IsTrue, ◌≤◌, ◌↔◌}
 use Rattle.std.proofs.lemmas.Option.{get_or_from_slice_get, slice_get_cases}

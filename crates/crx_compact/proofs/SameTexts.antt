@@ -1,8 +1,8 @@
 -- Texts are the same if their two ends are, which meet: compared as lanes.
-use Rattle.crx_compact.proofs.Words.{true, ℕ, ◌≡◌, ◌+◌, ◌-◌, ◌≤◌}
-use Rattle.crx_compact.proofs.Words.{nat_eq, List, [], ◌∷◌, length, take, drop, w8, refl, sym, ◌∙◌}
-use Rattle.crx_compact.proofs.Words.{arith, ◌≢◌, MatchBool, length-drop, length-take-le, take_all}
-use Rattle.crx_compact.proofs.Words.{length-chunk, tops_compared, common_steps}
+use Rattle.crx_compact.proofs.Vocabulary.{true, ℕ, ◌≡◌, ◌+◌, ◌-◌, ◌≤◌}
+use Rattle.crx_compact.proofs.Vocabulary.{nat_eq, List, [], ◌∷◌, length, take, drop, w8, refl, sym, ◌∙◌}
+use Rattle.crx_compact.proofs.Vocabulary.{arith, ◌≢◌, MatchBool, length-drop, length-take-le, take_all}
+use Rattle.crx_compact.proofs.Vocabulary.{length-chunk, tops_compared, common_steps}
 use Rattle.std.proofs.Math.Seq.{take-take}
 use Rattle.std.proofs.{lemmas.Bool.Decides.{Decides-eqb}, lemmas.List.take-append-drop}
 use Rattle.crx_text.proofs.LaneBits.{differs, others, same_rows}

@@ -1,10 +1,10 @@
 -- A satellite's line, read in place over the satellite's history.
-use Rattle.crx_compact.proofs.Words.{list_all, ◌≡◌, refl, ℕ, ◌*◌, true, false, List, [], length, take, drop}
-use Rattle.crx_compact.proofs.Words.{Option, Result, Ok, Err, ap, arith, Fault, BadFlags, columns, is_blank}
-use Rattle.crx_compact.proofs.Words.{without_end_blanks, patched, begins_epoch, are_marks, cells_of}
-use Rattle.crx_compact.proofs.Words.{cells_read, ArcTail, value_at_place, length-each_place, RowTail}
+use Rattle.crx_compact.proofs.Vocabulary.{list_all, ◌≡◌, refl, ℕ, ◌*◌, true, false, List, [], length, take, drop}
+use Rattle.crx_compact.proofs.Vocabulary.{Option, Result, Ok, Err, ap, arith, Fault, BadFlags, columns, is_blank}
+use Rattle.crx_compact.proofs.Vocabulary.{without_end_blanks, patched, begins_epoch, are_marks, cells_of}
+use Rattle.crx_compact.proofs.Vocabulary.{cells_read, ArcTail, value_at_place, length-each_place, RowTail}
 use Rattle.crx_compact.proofs.{SoundTexts.{first-columns, patched-trimmed}, Marks.{columns-left, line-held}}
-use Rattle.crx_compact.proofs.Words.{CellsAreRead, row_held_from}
+use Rattle.crx_compact.proofs.Vocabulary.{CellsAreRead, row_held_from}
 use Rattle.std.proofs.{Math.Path.fun_ext, Math.Seq.drop-nil}
 use Rattle.crx_compact.specs.Placing.{cells_for}
 

@@ -1,13 +1,13 @@
 -- The epoch that a history shows, row by row.
-use Rattle.crx_compact.proofs.Words.{◌≡◌, slice_get, length-map, map-append, Satellite}
-use Rattle.crx_compact.proofs.Words.{ℕ, List, take, Some, None, true, Result, arith, Fault}
-use Rattle.crx_compact.proofs.Words.{◌==◌, [], Ok, ℤ, ◌+◌, ◌∷◌, Tail, Row}
-use Rattle.crx_compact.proofs.Words.{◌<◌, length, Option, is_ok, take_all, BadEpoch, with_row, shown_row}
-use Rattle.crx_compact.proofs.Words.{false, slice_get_within, length-take-le, tail_of_history}
-use Rattle.crx_compact.proofs.Words.{has_satellite, satellite_of}
-use Rattle.crx_compact.proofs.Words.{epoch_count, RowTail, shown_epoch, IsAnnounced, OpenHistory}
-use Rattle.crx_compact.proofs.{Words.{is_some, begun, is_full_epoch, among-map, apart-map, new_at}}
-use Rattle.crx_compact.proofs.{Making.taken_more}
+use Rattle.crx_compact.proofs.Vocabulary.{◌≡◌, slice_get, length-map, map-append, Satellite}
+use Rattle.crx_compact.proofs.Vocabulary.{ℕ, List, take, Some, None, true, Result, arith, Fault}
+use Rattle.crx_compact.proofs.Vocabulary.{◌==◌, [], Ok, ℤ, ◌+◌, ◌∷◌, Tail, Row}
+use Rattle.crx_compact.proofs.Vocabulary.{◌<◌, length, Option, is_ok, take_all, BadEpoch, with_row, shown_row}
+use Rattle.crx_compact.proofs.Vocabulary.{false, slice_get_within, length-take-le, tail_of_history}
+use Rattle.crx_compact.proofs.Vocabulary.{has_satellite, satellite_of}
+use Rattle.crx_compact.proofs.Vocabulary.{epoch_count, RowTail, shown_epoch, IsAnnounced, OpenHistory}
+use Rattle.crx_compact.proofs.{Vocabulary.{is_some, begun, is_full_epoch, among-map, apart-map, new_at}}
+use Rattle.crx_compact.proofs.{OneByOne.taken_more}
 use Rattle.std.proofs.lemmas.Option.{get_or_from_slice_get}
 use Rattle.std.specs.Prelude.{MatchResult}
 use Rattle.crx_rinex.specs.meaning.EpochLines.{ObservationHead}

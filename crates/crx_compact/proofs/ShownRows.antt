@@ -1,9 +1,9 @@
 -- The row that a history shows, filled value by value.
-use Rattle.crx_compact.proofs.Words.{◌≡◌, ◌<◌, ℕ, suc, ◌+◌, ◌-◌, ◌*◌, ℤ, List, [], ◌∷◌, ◌++◌, length}
-use Rattle.crx_compact.proofs.Words.{map, take, replicate, slice_set, Option, None, slice_get, common_steps}
-use Rattle.crx_compact.proofs.Words.{Some, arith, length-map, length-take-le, map-append}
-use Rattle.crx_compact.proofs.Words.{take_all, slice_get_within, Row, shown_row, shown_value, ArcTail}
-use Rattle.crx_compact.proofs.Making.{taken_more}
+use Rattle.crx_compact.proofs.Vocabulary.{◌≡◌, ◌<◌, ℕ, suc, ◌+◌, ◌-◌, ◌*◌, ℤ, List, [], ◌∷◌, ◌++◌, length}
+use Rattle.crx_compact.proofs.Vocabulary.{map, take, replicate, slice_set, Option, None, slice_get, common_steps}
+use Rattle.crx_compact.proofs.Vocabulary.{Some, arith, length-map, length-take-le, map-append}
+use Rattle.crx_compact.proofs.Vocabulary.{take_all, slice_get_within, Row, shown_row, shown_value, ArcTail}
+use Rattle.crx_compact.proofs.OneByOne.{taken_more}
 use Rattle.crx_text.proofs.Blanks.{columns_are}
 use Rattle.crx_rinex.specs.SatelliteLines.{with_flags, with_value}
 use Rattle.std.proofs.{Math.Seq.set-append_seam, Common.append_assoc}

@@ -1,12 +1,12 @@
 -- Blanks at the end of texts, and held indicators.
-use Rattle.crx_compact.proofs.Words.{◌≡◌, patched, columns, few_kept, list_all, ◌≤◌, ℕ, ◌*◌, ◌∷◌, ap, ◌∙◌}
-use Rattle.crx_compact.proofs.Words.{◌<◌, ◌+◌, ◌-◌, at, refl, true, List, length, take, arith, is_kept, Bool}
-use Rattle.crx_compact.proofs.Words.{get_or_past, drop, [], replicate, IsAllowedCount, length-columns}
-use Rattle.crx_compact.proofs.Words.{flags_held}
-use Rattle.crx_compact.proofs.Words.{common_steps, ◌++◌, list_all-from_at, at-drop}
-use Rattle.crx_compact.proofs.Words.{at-without_end_blanks, columns-are, without_end_blanks, text_difference}
+use Rattle.crx_compact.proofs.Vocabulary.{◌≡◌, patched, columns, few_kept, list_all, ◌≤◌, ℕ, ◌*◌, ◌∷◌, ap, ◌∙◌}
+use Rattle.crx_compact.proofs.Vocabulary.{◌<◌, ◌+◌, ◌-◌, at, refl, true, List, length, take, arith, is_kept, Bool}
+use Rattle.crx_compact.proofs.Vocabulary.{get_or_past, drop, [], replicate, IsAllowedCount, length-columns}
+use Rattle.crx_compact.proofs.Vocabulary.{flags_held}
+use Rattle.crx_compact.proofs.Vocabulary.{common_steps, ◌++◌, list_all-from_at, at-drop}
+use Rattle.crx_compact.proofs.Vocabulary.{at-without_end_blanks, columns-are, without_end_blanks, text_difference}
 use Rattle.crx_compact.proofs.Characters.{all-take, list_all-at, at-take_past, at-by_position}
-use Rattle.crx_compact.proofs.{Words.{cases_lt, rules, AreHeldFlags}, PlaceByPlace.{at-padded, at-take}}
+use Rattle.crx_compact.proofs.{Vocabulary.{cases_lt, rules, AreHeldFlags}, PlaceByPlace.{at-padded, at-take}}
 use Rattle.crx_compact.proofs.Characters.{same_characters}
 use Rattle.std.proofs.{lemmas.Bool.Decides.Decides-eqb, lemmas.List.length-take}
 

@@ -1,10 +1,10 @@
 -- An epoch whose rows are written one by one: one row more.
-use Rattle.crx_compact.proofs.Words.{◌≡◌, ◌++◌, ◌∷◌, [], ℕ, List, Bool, Some, true, false, not}
-use Rattle.crx_compact.proofs.Words.{ap, sym, ◌∙◌, not-true}
-use Rattle.crx_compact.proofs.Words.{is_among, has_satellite, Row, IsSoundRow, OpenHistory, PlacedRows}
-use Rattle.crx_compact.proofs.Words.{row_line_after, row_tail_after}
-use Rattle.crx_compact.proofs.Words.{RowTail, Tail, AreRowsWritten, arith, among-map, apart-push, HasCome}
-use Rattle.crx_compact.proofs.{ComeRows.{awaited-after, come-row}, placing.SteppedRows.IsLastStored}
+use Rattle.crx_compact.proofs.Vocabulary.{◌≡◌, ◌++◌, ◌∷◌, [], ℕ, List, Bool, Some, true, false, not}
+use Rattle.crx_compact.proofs.Vocabulary.{ap, sym, ◌∙◌, not-true}
+use Rattle.crx_compact.proofs.Vocabulary.{is_among, has_satellite, Row, IsSoundRow, OpenHistory, PlacedRows}
+use Rattle.crx_compact.proofs.Vocabulary.{row_line_after, row_tail_after}
+use Rattle.crx_compact.proofs.Vocabulary.{RowTail, Tail, AreRowsWritten, arith, among-map, apart-push, HasCome}
+use Rattle.crx_compact.proofs.{RowsByHistory.{awaited-after, come-row}, placing.SteppedRows.IsLastStored}
 use Rattle.std.proofs.lemmas.List.Elements.{All-push}
 use Rattle.crx_compact.specs.Placing.{IsLeftAt, SatelliteTail, line_after, row_tail_named, row_tail_of}
 use Rattle.crx_compact.specs.Placing.{satellite_after}

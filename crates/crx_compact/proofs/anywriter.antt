@@ -3,7 +3,7 @@ pub mod Arcs
 pub mod Texts
 pub mod Rows
 pub mod Epochs
-pub mod Own
-pub mod OwnReading
+pub mod OurWriter
+pub mod OurReading
 pub mod OnlyRows
 pub mod OnlyEpochs

@@ -4,9 +4,9 @@ pub mod Ranges
 pub mod Rooms
 pub mod PutNext
 pub mod EntryChanges
-pub mod Found
-pub mod Again
-pub mod Coming
-pub mod Prepared
+pub mod LookUps
+pub mod RepeatedRows
+pub mod AddedRows
+pub mod ReservedRoom
 pub mod SteppedRows
-pub mod Placed
+pub mod AddingAnswers

@@ -1,3 +1,3 @@
 -- Epochs that were read are sound, and within the limits.
 pub mod Soundness
-pub mod Goodness
+pub mod WholeEpochs

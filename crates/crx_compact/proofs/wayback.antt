@@ -2,7 +2,7 @@
 pub mod Reading
 pub mod Rows
 pub mod Runs
-pub mod Facts
-pub mod Standing
+pub mod WritableEpochs
+pub mod LinesInFiles
 pub mod Overlays
 pub mod Tailing

@@ -60,7 +60,7 @@ impl<const WIDTH: usize> Model for Arc<WIDTH> {
 
 /// Replaces the differences of order 0 to `order`, which are those at the previous value, by those at
 /// `value`. Returns the one of order `order`.
-fn go_on(differences: &mut [i64; KEPT_LIMIT], order: usize, value: i64) -> i64
+fn advance_differences(differences: &mut [i64; KEPT_LIMIT], order: usize, value: i64) -> i64
     requires few { order ≤ ORDER_LIMIT }
     requires below { AreBelow value_bound (take order differences.old) }
     requires next { IsBelow value_bound value }
@@ -145,7 +145,7 @@ impl<const WIDTH: usize> Arc<WIDTH> {
             };
         }
         let last = self.order.min(self.count);
-        let highest = go_on(&mut self.differences, last as usize, value);
+        let highest = advance_differences(&mut self.differences, last as usize, value);
         self.count = last + 1;
         Code::Step(highest)
     }
@@ -210,7 +210,7 @@ impl<const WIDTH: usize> Arc<WIDTH> {
                 if !is_within(WIDTH, value) {
                     return Err(Fault::OutOfRange);
                 }
-                go_on(&mut self.differences, last as usize, value);
+                advance_differences(&mut self.differences, last as usize, value);
                 self.count = last + 1;
                 Ok(Some(value))
             }

@@ -224,7 +224,7 @@ impl Columns {
     {
         let mut copy = PaddedCopy::new();
         let padded = copy.of(line);
-        match take_line(
+        match read_line(
             &mut self.history,
             &mut self.expected,
             &mut self.count,
@@ -268,7 +268,7 @@ impl Columns {
         ensures emptied { OnErr result ((self.new ≡ Idle None) × (lines.new.lines ≡ [])) }
         ensures printed { ArePrinted self.new lines.new }
     {
-        match take_line(
+        match read_line(
             &mut self.history,
             &mut self.expected,
             &mut self.count,
@@ -309,7 +309,7 @@ fn forget(is_kept: &mut bool, is_named: &mut bool, expected: &mut Expected)
 /// returns whether it is the last one. Returns `NotAnEpoch` if no epoch is open, and the faults of
 /// [`History::read_clock`] and [`History::read_row`]; then the parameters may be inconsistent.
 #[inline(always)]
-fn take_line(
+fn read_line(
     history: &mut History,
     expected: &mut Expected,
     count: &mut usize,

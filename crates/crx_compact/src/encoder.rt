@@ -13,7 +13,7 @@ use crate::block::Block;
 use crate::ghost_tail::GhostTail;
 use crate::history::History;
 use crx_base::Refused;
-use crx_base::memory::boxed;
+use crx_base::memory::try_box;
 use crx_base::options::in_columns;
 use crx_header::crinex::{CRINEX_PROGRAM, CRINEX_PROGRAM_LABEL, CRINEX_VERSION_LINE};
 use crx_rinex::{EpochLine, RowBuffer, RowsSoFar};
@@ -75,8 +75,8 @@ impl Encoder {
         ensures pending { IfOk result (λ e. e.pending ≡ []) }
     {
         let made = Block::new(alloc)?;
-        let scratch = boxed(alloc, Text::new())?;
-        let history = boxed(alloc, History::new(alloc))?;
+        let scratch = try_box(alloc, Text::new())?;
+        let history = try_box(alloc, History::new(alloc))?;
         let before = GhostTail::of(&history);
         Ok(Encoder {
             history,
@@ -117,7 +117,7 @@ impl Encoder {
 
     /// Begins an epoch and drops all lines: full if `full` is set or there is no earlier epoch, otherwise
     /// as differences from the previous epoch.
-    pub fn begin(&mut self, full: bool)
+    pub fn begin_epoch(&mut self, full: bool)
         requires closed { self.old.is_open ≡ false }
         ensures begun { self.new ≡ record self.old {
           is_open = true;
@@ -150,7 +150,7 @@ impl Encoder {
         match self.history.write_row(
             row.name(),
             row.values(),
-            row.filled(),
+            row.filled_count(),
             row.flags(),
             &mut self.scratch,
             &mut self.made,

@@ -35,7 +35,7 @@ use crx_base::limits::{HEAD_WIDTH, LINE_LIMIT, NAME_WIDTH, SATELLITES_LIMIT, TYP
 use crx_base::{Fault, Padded, Refused};
 use crx_header::{Types, after_columns, all_blank, epoch_columns, identifier, padded};
 use crx_rinex::{Epoch, EpochLine, SatRow, begins_epoch, print_head, types_of_satellite};
-use crx_text::columns::end_trimmed;
+use crx_text::columns::trim_end_columns;
 use crx_text::difference::{append_difference, patch_bytes};
 use crx_text::{Text, code_print, code_read, trim_end};
 use std::alloc::Global;
@@ -99,7 +99,7 @@ impl History {
     {
         self.length = 0;
         self.clock.end();
-        self.satellites.begin();
+        self.satellites.begin_epoch();
     }
 
     /// Writes the compact lines of an epoch into `lines`, which is empty: full if `in_full` is set,
@@ -156,7 +156,7 @@ impl History {
         if in_full {
             self.clear();
         }
-        self.satellites.begin();
+        self.satellites.begin_epoch();
     }
 
     /// Appends the compact line of the epoch's next row to `lines`, and returns `true`. Only the first
@@ -185,13 +185,13 @@ impl History {
             Some(is_new) => is_new,
             None => {
                 self.satellites.prepare(*name, count)?;
-                self.satellites.bring(name, count).unwrap()
+                self.satellites.place_by_lookup(name, count).unwrap()
             }
         };
         if !is_new {
             return Ok(false);
         }
-        let last = self.satellites.placed() - 1;
+        let last = self.satellites.placed_count() - 1;
         let satellite = self.satellites.entry_mut(last).unwrap();
         lines.put_row(satellite, values, filled, flags, scratch);
         Ok(true)
@@ -242,7 +242,7 @@ impl History {
         if patch_bytes(&self.text[..self.length], line, scratch).is_err() {
             return Err(Fault::BadEpoch);
         }
-        self.satellites.begin();
+        self.satellites.begin_epoch();
         let text = scratch.bytes();
         // Most epoch lines change only columns before the identifiers.
         let are_same = is_named & (line.len() <= HEAD_WIDTH);
@@ -285,7 +285,7 @@ impl History {
     pub(crate) fn count(&self) -> usize
         ensures value { result ≡ length self.now.satellites.rows }
     {
-        self.satellites.placed()
+        self.satellites.placed_count()
     }
 
     /// Reads the satellite line of the row at `index`. Returns `Truncated` if the line begins another
@@ -321,7 +321,7 @@ impl History {
         ensures memory { IfErr result (λ fault. (fault ≡ Fault.OutOfMemory) × (0 < length self.now.satellites.rows)) }
     {
         let mut epoch = Epoch::new(self.alloc, self.head());
-        for index in 0..self.satellites.placed() {
+        for index in 0..self.satellites.placed_count() {
             let (name, satellite) = self.satellites.entry(index);
             match epoch.push(satellite.row(self.alloc, *name)?) {
                 Ok(()) => {}
@@ -367,7 +367,7 @@ impl History {
         lines.clear();
         // Most epochs have no clock offset: columns 1 to 41 are copied.
         let Some(_) = self.clock.value() else {
-            lines.put(end_trimmed(&self.text[..self.length], 1, HEAD_WIDTH));
+            lines.put(trim_end_columns(&self.text[..self.length], 1, HEAD_WIDTH));
             return;
         };
         print_head(&self.head(), scratch);
@@ -398,7 +398,7 @@ fn read_satellites(
     if !all_blank(after_columns(text, HEAD_WIDTH + NAME_WIDTH * count)) {
         return Err(Fault::BadEpoch);
     }
-    if are_same && satellites.come_again(types, count) {
+    if are_same && satellites.repeat_rows(types, count) {
         return Ok(());
     }
     read_names(types, text, count, satellites)
@@ -428,13 +428,13 @@ fn read_names(
             Some(is_new) => is_new,
             None => {
                 satellites.prepare(name, cells)?;
-                satellites.bring(&name, cells).unwrap()
+                satellites.place_by_lookup(&name, cells).unwrap()
             }
         };
         if !is_new {
             return Err(Fault::RepeatedSatellite);
         }
-        let last = satellites.placed() - 1;
+        let last = satellites.placed_count() - 1;
         satellites.entry_mut(last).unwrap().resize(cells);
     }
     Ok(())

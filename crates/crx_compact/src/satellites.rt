@@ -96,7 +96,7 @@ impl Satellites {
     }
 
     /// Begins an epoch: it has no rows, and those of the previous epoch are expected.
-    pub(crate) fn begin(&mut self)
+    pub(crate) fn begin_epoch(&mut self)
         ensures begun { self.new ≡ record self.old { rows = []; rest = self.old.rows } }
     {
         self.live = self.placed;
@@ -106,7 +106,7 @@ impl Satellites {
 
     /// Returns the number of rows of the open epoch so far.
     #[inline(always)]
-    pub(crate) fn placed(&self) -> usize
+    pub(crate) fn placed_count(&self) -> usize
         ensures value { result ≡ length self.now.rows }
     {
         self.placed
@@ -143,13 +143,13 @@ impl Satellites {
                 return Some(true);
             }
         }
-        self.bring(name, count)
+        self.place_by_lookup(name, count)
     }
 
     /// Does the same as [`Satellites::place`] for any satellite, which it looks for by its hint, then in
     /// the map.
     #[inline(never)]
-    pub(crate) fn bring(&mut self, name: &[u8; NAME_WIDTH], count: usize) -> Option<bool>
+    pub(crate) fn place_by_lookup(&mut self, name: &[u8; NAME_WIDTH], count: usize) -> Option<bool>
         ensures { AnswersPlacing name.now count self.old self.new result }
     {
         let near = usize::from(self.hints[place_of_mark(*name)]);
@@ -183,7 +183,7 @@ impl Satellites {
     /// Adds a row for each satellite of the previous epoch, in their order, if there are `count` and each
     /// has its system's number of types in `types`. Otherwise returns `false` and changes nothing. No
     /// identifier is read or looked up.
-    pub(crate) fn come_again(&mut self, types: &Types, count: usize) -> bool
+    pub(crate) fn repeat_rows(&mut self, types: &Types, count: usize) -> bool
         requires none { self.old.rows ≡ [] }
         requires awaited { All IsAwaitedSatellite (map satellite_of self.old.rest) }
         ensures again { OnTrue result (HaveComeAgain types.now self.old self.new) }

@@ -170,7 +170,7 @@ impl Sink for FailingSink {
 
     fn await_output(&mut self) {}
 
-    fn hand_on(&mut self) -> bool {
+    fn pass_on(&mut self) -> bool {
         true
     }
 

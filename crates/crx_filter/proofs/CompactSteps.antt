@@ -1,8 +1,8 @@
 -- The state of a reader of compact text after a line.
-use Rattle.crx_filter.proofs.Words.{common_steps, arith, ◌≡◌, Bool, true, List, ℕ, Option, None, Result}
-use Rattle.crx_filter.proofs.Words.{Ok, Content, Fault}
-use Rattle.crx_filter.proofs.Words.{Count, Satellite, Tail, and_then, RawStep}
-use Rattle.crx_filter.{proofs.Words.first_step, specs.CompactStages.{wants_line, wants_lines}}
+use Rattle.crx_filter.proofs.Vocabulary.{common_steps, arith, ◌≡◌, Bool, true, List, ℕ, Option, None, Result}
+use Rattle.crx_filter.proofs.Vocabulary.{Ok, Content, Fault}
+use Rattle.crx_filter.proofs.Vocabulary.{Count, Satellite, Tail, and_then, RawStep}
+use Rattle.crx_filter.{proofs.Vocabulary.first_step, specs.CompactStages.{wants_line, wants_lines}}
 use Rattle.crx_compact.specs.OpenEpochs.{ColumnsState, Going, Whole, Faulty, HasMade, opened_raw, awaited_row}
 use Rattle.crx_compact.specs.OpenEpochs.{before_clock, opening, tail_for_line, tail_opened}
 

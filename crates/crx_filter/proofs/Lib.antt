@@ -1,10 +1,10 @@
-pub mod Checkers
-pub mod Choosing
+pub mod CheckCounts
+pub mod CasesOfTests
 pub mod Reports
 pub mod RinexSteps
 pub mod TypesLines
-pub mod Words
-pub mod Pending
+pub mod Vocabulary
+pub mod ReadyLines
 pub mod reading
 pub mod following
 pub mod steps
@@ -14,6 +14,6 @@ pub mod anywriter
 pub mod standard
 pub mod damage
 pub mod stretches
-pub mod Kept
+pub mod PromisesOfRuns
 pub mod CompactSteps
 pub mod accounts

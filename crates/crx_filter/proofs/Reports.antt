@@ -1,7 +1,7 @@
 -- The lines of a report.
-use Rattle.crx_filter.proofs.Words
-use Words.{common_steps, ℕ, zero, suc, None, arith, ◌≡◌, ◌+◌, ◌<◌, List, [], ◌∷◌, ◌++◌, Some, length, take}
-use Words.{ap, sym, ◌∙◌, append-nil, length-append, flat_map, flat_map-append, none-some, columns, Count}
+use Rattle.crx_filter.proofs.Vocabulary
+use Vocabulary.{common_steps, ℕ, zero, suc, None, arith, ◌≡◌, ◌+◌, ◌<◌, List, [], ◌∷◌, ◌++◌, Some, length, take}
+use Vocabulary.{ap, sym, ◌∙◌, append-nil, length-append, flat_map, flat_map-append, none-some, columns, Count}
 use Rattle.crx_filter.specs.meaning.Standard.{count_text, version_in}
 use Rattle.std.proofs.{Common.slice_get, Math.Seq.take-length, lemmas.List.{take_more, length-take}}
 use Rattle.std.proofs.lemmas.{List.{take-append-le, length-replicate}, Option.slice_get_within}

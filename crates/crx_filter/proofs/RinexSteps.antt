@@ -1,11 +1,11 @@
 -- The steps of a reader of RINEX at the lines of an epoch, and at a line where one may begin.
-use Rattle.crx_filter.proofs.Words
-use Words.{common_steps, ◌≡◌, ◌⊎◌, inl, inr, ℕ, ◌+◌, ◌<◌, ◌∷◌, ◌++◌, [], true, false, List, length, Option}
-use Words.{Some, Result, Ok, Err, ap, subst, ◌∙◌, arith, ⊤, Fault, Row, Epoch as ObservationEpoch, HeadLine}
-use Words.{EventHead, EpochHead, ObservationHead, head_of, begins_epoch, is_event_line, OpenEpoch}
-use Words.{beginning_of, opened, has_satellite, Count, row_of, EventLine, Written, made_of_epoch_step}
-use Words.{made_of_beginning, records_announced, Made, Completes, is_open_stage, made_at, CompletedEpoch}
-use Words.{MovesReader, RinexReader, Stage, Open, character_at, epoch_head, event_head, records_in}
+use Rattle.crx_filter.proofs.Vocabulary
+use Vocabulary.{common_steps, ◌≡◌, ◌⊎◌, inl, inr, ℕ, ◌+◌, ◌<◌, ◌∷◌, ◌++◌, [], true, false, List, length, Option}
+use Vocabulary.{Some, Result, Ok, Err, ap, subst, ◌∙◌, arith, ⊤, Fault, Row, Epoch as ObservationEpoch, HeadLine}
+use Vocabulary.{EventHead, EpochHead, ObservationHead, head_of, begins_epoch, is_event_line, OpenEpoch}
+use Vocabulary.{beginning_of, opened, has_satellite, Count, row_of, EventLine, Written, made_of_epoch_step}
+use Vocabulary.{made_of_beginning, records_announced, Made, Completes, is_open_stage, made_at, CompletedEpoch}
+use Vocabulary.{MovesReader, RinexReader, Stage, Open, character_at, epoch_head, event_head, records_in}
 use Rattle.crx_filter.specs.{RinexReaders.BeginsEpoch, RinexStages.is_rinex_stage}
 use Rattle.crx_filter.specs.declared.stage.Stage.TheVariants.{Between, Looking}
 use Rattle.crx_rinex.specs.EpochPlaces.{whole_or_going}

@@ -1,7 +1,7 @@
 -- The fault of a line that may declare types.
-use Rattle.crx_filter.proofs.Words.{common_steps, arith, ◌≡◌, ◌⊎◌, Bool, true, List, ℕ, Option, Some, None}
-use Rattle.crx_filter.proofs.Words.{if◌then◌else◌, is_some, Fault, OutOfMemory, Count}
-use Rattle.crx_filter.proofs.Words.{types_fault}
+use Rattle.crx_filter.proofs.Vocabulary.{common_steps, arith, ◌≡◌, ◌⊎◌, Bool, true, List, ℕ, Option, Some, None}
+use Rattle.crx_filter.proofs.Vocabulary.{if◌then◌else◌, is_some, Fault, OutOfMemory, Count}
+use Rattle.crx_filter.proofs.Vocabulary.{types_fault}
 use Rattle.{crx_filter.specs.meaning.UnitPlaces.first_fault}
 use Rattle.{std.specs.Prelude.[], crx_base.specs.declared.fault.Fault.TheVariants.BadTypesLine}
 use Rattle.crx_header.specs.meaning.ObservationTypes.{is_bad_types_line, count_of_types_line}

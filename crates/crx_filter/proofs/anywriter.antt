@@ -1,8 +1,8 @@
 -- Compact text of a file is expanded to that file, whoever wrote it, and no other text is accepted.
 pub mod AnyText
-pub mod OwnText
-pub mod ComesBack
-pub mod OnlyUnits
-pub mod OnlyReadings
-pub mod OnlyTexts
-pub mod AnyRun
+pub mod TextCompactedHere
+pub mod RestoredFiles
+pub mod UnitsOfLines
+pub mod ReadingsOfText
+pub mod AcceptedTexts
+pub mod RunsOfAnyText

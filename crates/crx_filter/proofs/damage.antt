@@ -1,10 +1,10 @@
 -- The units saved of a damaged text: only the lines of its block are lost.
-pub mod CutOff
+pub mod CutOffEpochs
 pub mod BlockReading
-pub mod GoingOn
+pub mod ResumedEpochs
 pub mod TextAfter
 pub mod ItemTexts
 pub mod DamagedText
 pub mod SavedText
 pub mod DamageStays
-pub mod OwnBlock
+pub mod BlockCompactedHere

@@ -1,6 +1,6 @@
 -- A direction that works line by line has the same effect as its definition for all lines at once.
-pub mod Following
-pub mod Lines
+pub mod Agreement
+pub mod LinesAtStops
 pub mod MoreLines
 pub mod Rinex
 pub mod Compaction
@@ -11,6 +11,6 @@ pub mod ExpandedOn
 pub mod CheckedOn
 pub mod Lawful
 pub mod CheckLawful
-pub mod CheckGoes
-pub mod CutOff
+pub mod CheckByFilter
+pub mod CutOffWarnings
 pub mod DirectionSteps

@@ -2,10 +2,10 @@
 pub mod EngineAnswers
 pub mod CompactionSteps
 pub mod RowSteps
-pub mod Together
+pub mod CompactionParts
 pub mod EngineFaults
 pub mod ExpansionKnows
-pub mod Given
+pub mod LinesFedAgain
 pub mod StepCounts
 pub mod CheckerSteps
 pub mod CheckerEnds

@@ -4,4 +4,4 @@ pub mod KeptUnits
 pub mod StretchesRead
 pub mod StretchesCut
 pub mod StretchesSaved
-pub mod OwnStretches
+pub mod StretchesCompactedHere

@@ -1,12 +1,12 @@
 -- A compacted file is restored.
 pub mod WayBack
-pub mod Cut
-pub mod First
+pub mod LinesCutAgain
+pub mod FirstTwoLines
 pub mod Items
 pub mod Reading
 pub mod Standard
-pub mod Converse
-pub mod Carried
+pub mod RestoredIsStandard
+pub mod UnitsReadAgain
 pub mod ExpandedWhole
 pub mod Returns
 pub mod ReturnsLost

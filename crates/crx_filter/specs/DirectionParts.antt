@@ -18,8 +18,8 @@ use Rattle.crx_filter.specs.meaning.Reading.{can_go_on}
 use Rattle.crx_filter.specs.Stages.{is_held, phase_of_stage}
 use Rattle.crx_filter.specs.declared.stage.Stage.{Stage}
 use Rattle.crx_runs.specs.Engines.{Awaited, IsAwaited, lines_handed_out}
-use Rattle.crx_runs.specs.declared.engine.HandedOut.{HandedOut}
-use Rattle.crx_runs.specs.declared.engine.HandedOut.TheVariants.{Nothing, Lines, AsItIs}
+use Rattle.crx_runs.specs.declared.engine.LineOutput.{LineOutput}
+use Rattle.crx_runs.specs.declared.engine.LineOutput.TheVariants.{Nothing, Lines, AsItIs}
 use Rattle.crx_runs.specs.declared.engine.Step.{Step}
 use Rattle.crx_runs.specs.meaning.Filters.{with_next}
 
@@ -54,14 +54,14 @@ answer_for false = Quiet
 answer_for true = Ready
 
 -- whether a line made lines ready, or its fault
-abbrev pub hands_out : Result HandedOut Fault → Result Bool Fault
+abbrev pub hands_out : Result LineOutput Fault → Result Bool Fault
 hands_out (Ok Nothing) = Ok false
 hands_out (Ok Lines) = Ok true
 hands_out (Ok AsItIs) = Ok true
 hands_out (Err fault) = Err fault
 
 -- the output of a line: the ready lines, and after them that line itself if it is copied
-abbrev pub handed_out_by : Result HandedOut Fault → List ℕ → List (List ℕ) → List (List ℕ)
+abbrev pub handed_out_by : Result LineOutput Fault → List ℕ → List (List ℕ) → List (List ℕ)
 handed_out_by (Ok out) line ready = lines_handed_out (Some out) line ready
 handed_out_by (Err fault) line ready = ready
 

@@ -30,13 +30,13 @@ pub record EndsLineByLine (filter : Filter) {O K : Type 0} (lines : List InputLi
 
 -- a direction follows its filter line by line, by the state after some lines, and by the lines that it makes ready if
 -- the input ends after them without a fault
-pub record GoesLineByLine {U O K : Type 0} (direction : Direction U O K) (closing_after : List InputLine
+pub record GoesLineByLine {U O K : Type 0} (direction : Direction U O K) (lines_at_end_after : List InputLine
     → List (List ℕ)) (state_after_lines : List ReadLine → RunState O K)
     (filter : Filter) : Type 0 where
   pub follows : (lines : List InputLine) (line : InputLine) → FollowsBy filter lines line
       (state_after_lines (map as_read (with_next lines line))) (fed direction (state_after_lines (map as_read lines)) (as_read line))
   pub ends : (lines : List InputLine) → EndsLineByLine filter lines
-      (state_end_with direction (closing_after lines) (state_after_lines (map as_read lines)))
+      (state_end_with direction (lines_at_end_after lines) (state_after_lines (map as_read lines)))
   pub number : (lines : List InputLine) → (state_after_lines (map as_read lines)).number ≡ length lines
   -- if memory runs out at a line that is fed again, this is after the line's warning
   pub cut : (lines : List InputLine) (line : InputLine) → filter.memory_after lines line ≡ Some (noticed_again
@@ -49,6 +49,6 @@ pub record GoesLineByLine {U O K : Type 0} (direction : Direction U O K) (closin
 abbrev pub IsLawfulDirection : {U O K : Type 0} → Direction U O K → (Choices → Choices)
     → (Choices → List InputLine → List (List ℕ)) → (Choices → List ReadLine → RunState O K)
     → (Choices → Filter) → Type 0
-IsLawfulDirection direction chosen closing_after state_after_lines filter = (choices : Choices)
-    → chosen choices ≡ choices → GoesLineByLine direction (closing_after choices) (state_after_lines choices)
+IsLawfulDirection direction chosen lines_at_end_after state_after_lines filter = (choices : Choices)
+    → chosen choices ≡ choices → GoesLineByLine direction (lines_at_end_after choices) (state_after_lines choices)
     (filter choices)

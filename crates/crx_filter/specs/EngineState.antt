@@ -39,21 +39,21 @@ module _ {D : Type 0} (d : Ghosts D) where
   -- it has taken these lines, and the notes of its direction are right for them; if one is to be fed again, it has
   -- returned this warning to it
   abbrev pub engine_took : EngineParts D → List InputLine → List Awaited → Type 0
-  engine_took e lines notices = engine_seen e lines notices × d.notes e.direction e.options lines
+  engine_took e lines notices = engine_seen e lines notices × d.notes_are_right e.direction e.options lines
 
   -- it follows its filter line by line
   pub record EngineGoes (e : EngineParts D) : Type 0 where
-    pub chosen : d.chosen e.options ≡ e.options
-    pub lawful : GoesLineByLine d.by_line (d.closing_after e.options) (d.state_after_lines e.options)
+    pub chosen : d.options_used e.options ≡ e.options
+    pub lawful : GoesLineByLine d.by_line (d.lines_at_end_after e.options) (d.state_after_lines e.options)
         (d.filter e.options)
 
   -- if the notes of its direction are right for the lines taken, they are right with the next one too, once that
   -- counts
   abbrev pub EngineNotes : EngineParts D → InputLine → Result Step At → EngineParts D → Type 0
   EngineNotes before line result after = (lines : List InputLine) → before.number ≡ length lines
-      → ComesAfter d.by_line d.chosen d.state_after_lines before.options lines line (d.parts before.direction)
-      → d.notes before.direction before.options lines
-      → KnowsAfter (d.notes after.direction before.options) lines line result
+      → ComesAfter d.by_line d.options_used d.state_after_lines before.options lines line (d.parts before.direction)
+      → d.notes_are_right before.direction before.options lines
+      → KnowsAfter (d.notes_are_right after.direction before.options) lines line result
 
   -- it has taken a line, read as `read`, and these lines are ready then. It has made the line's step, or the step of
   -- memory that ran out; a fault that is returned has ended the run. The notes of its direction are right with this
@@ -64,8 +64,8 @@ module _ {D : Type 0} (d : Ghosts D) where
     pub steps : Steps d.by_line (engine_state before) read result ready (engine_state after)
     pub ended : IfErr result (λ at. (engine_state after).phase ≡ Ended at)
     pub notes : EngineNotes before line result after
-    pub stays : (choices : Choices) (lines : List InputLine) → d.notes before.direction choices lines
-        → OnErr result (d.notes after.direction choices lines)
+    pub stays : (choices : Choices) (lines : List InputLine) → d.notes_are_right before.direction choices lines
+        → OnErr result (d.notes_are_right after.direction choices lines)
 
   -- it has taken the end of the input, and these lines are ready then. It has made the step of the end, with the
   -- lines that are due after the lines taken. Its report is right for these
@@ -73,11 +73,11 @@ module _ {D : Type 0} (d : Ghosts D) where
       (after : EngineParts D) : Type 0 where
     pub goes : EngineGoes before
     pub steps : step_made result ready (engine_state after)
-        ≡ state_end_with d.by_line (d.closing before.direction) (engine_state before)
+        ≡ state_end_with d.by_line (d.lines_at_end before.direction) (engine_state before)
     pub closes : (lines : List InputLine)
-        → IsAfterLines d.chosen d.state_after_lines before.options lines (d.parts before.direction)
-        → d.notes before.direction before.options lines → (step_made result ready (engine_state after)
-        ≡ state_end_with d.by_line (d.closing_after before.options lines) (engine_state before))
-        × IfOk result (λ step. d.report_is after.direction lines)
-    pub stays : (choices : Choices) (lines : List InputLine) → d.notes before.direction choices lines
-        → OnErr result (d.notes after.direction choices lines)
+        → IsAfterLines d.options_used d.state_after_lines before.options lines (d.parts before.direction)
+        → d.notes_are_right before.direction before.options lines → (step_made result ready (engine_state after)
+        ≡ state_end_with d.by_line (d.lines_at_end_after before.options lines) (engine_state before))
+        × IfOk result (λ step. d.report_is_right after.direction lines)
+    pub stays : (choices : Choices) (lines : List InputLine) → d.notes_are_right before.direction choices lines
+        → OnErr result (d.notes_are_right after.direction choices lines)

@@ -28,9 +28,9 @@ use crx_base::{Fault, Options, Refused};
 use crx_header::{Identifiers, padded};
 use crx_lines::Line;
 use crx_rinex::{has_printed_form, print_head};
-use crx_runs::HandedOut;
+use crx_runs::LineOutput;
 use crx_text::Text;
-use crx_text::columns::end_trimmed;
+use crx_text::columns::trim_end_columns;
 use std::alloc::Global;
 use std::marker::Model;
 
@@ -137,7 +137,7 @@ impl Noted {
                 }
                 // Usually there is no clock offset, and the columns are the printed line.
                 if head.clock().is_none() {
-                    line.bytes() == end_trimmed(head.columns(), 1, HEAD_WIDTH)
+                    line.bytes() == trim_end_columns(head.columns(), 1, HEAD_WIDTH)
                 } else {
                     print_head(head, &mut self.text);
                     line.bytes() == self.text.bytes()
@@ -175,11 +175,11 @@ impl Direction for Checking {
 
     ghost by_line = { check_by_line };
 
-    ghost chosen = { λ choices. no_choices };
+    ghost options_used = { λ choices. no_choices };
 
     ghost state_after_lines = { λ choices. check_reading };
 
-    ghost closing_after = { λ choices lines. report_lines (findings_of lines) };
+    ghost lines_at_end_after = { λ choices lines. report_lines (findings_of lines) };
 
     ghost filter = { λ choices. check_filter };
 
@@ -187,21 +187,21 @@ impl Direction for Checking {
 
     ghost ready = { pending_report };
 
-    ghost closing = { report_of };
+    ghost lines_at_end = { report_of };
 
-    ghost counted = { λ c. c.noted.totals.epochs + c.noted.totals.events };
+    ghost units_counted = { λ c. c.noted.totals.epochs + c.noted.totals.events };
 
-    ghost was_begun_by = { λ c choices. true };
+    ghost epoch_uses = { λ c choices. true };
 
-    ghost takes_at_start = { false };
+    ghost allocates_at_start = { false };
 
-    ghost notes = { λ c choices lines. HasNoted c lines };
+    ghost notes_are_right = { λ c choices lines. HasNoted c lines };
 
-    ghost report_is = { HasFound };
+    ghost report_is_right = { HasFound };
 
-    ghost skipping = { λ c choices lines taken skips. never_skips choices taken skips };
+    ghost no_report_when_skipping = { λ c choices lines taken skips. never_skips choices taken skips };
 
-    fn chosen(_options: Options) -> Options {
+    fn options_used(_options: Options) -> Options {
         no_options()
     }
 
@@ -240,10 +240,10 @@ impl Direction for Checking {
         Ok(false)
     }
 
-    fn take_elsewhere(&mut self, _options: &Options, line: Line<'_>) -> Result<HandedOut, Fault> {
+    fn take_elsewhere(&mut self, _options: &Options, line: Line<'_>) -> Result<LineOutput, Fault> {
         let step = self.reader.take(line.bytes())?;
         self.noted.note(&self.reader, step, line);
-        Ok(HandedOut::Nothing)
+        Ok(LineOutput::Nothing)
     }
 
     fn end_with(&mut self, stage: Stage) {

@@ -20,7 +20,7 @@ use crx_header::crinex::{CRINEX_PROGRAM_LABEL, CRINEX_VERSION, CRINEX_VERSION_LA
 use crx_header::epoch_columns::records_in;
 use crx_header::{Types, is_labelled};
 use crx_rinex::{begins_epoch, is_event_line};
-use crx_text::columns::trimmed;
+use crx_text::columns::trim_columns;
 
 /// A reader of compact text, one line at a time.
 #[derive(Drop)]
@@ -40,7 +40,11 @@ impl CompactReader {
     ///
     /// Returns the faults of [`Columns::feed_into`]; after a fault no epoch is open.
     #[inline(always)]
-    pub(crate) fn go_on(&mut self, line: Padded<'_>, lines: &mut Block) -> Result<bool, Fault>
+    pub(crate) fn continue_epoch(
+        &mut self,
+        line: Padded<'_>,
+        lines: &mut Block,
+    ) -> Result<bool, Fault>
         requires open { self.old.stage ≡ Open }
         requires short { length (line_in line) ≤ LINE_LIMIT }
         requires printed { ArePrinted self.old.columns.value lines.old }
@@ -81,7 +85,7 @@ impl CompactReader {
     {
         match self.stage {
             Stage::FirstLines { count: 0 } => {
-                if trimmed(line, 1, 20) != CRINEX_VERSION.as_slice()
+                if trim_columns(line, 1, 20) != CRINEX_VERSION.as_slice()
                     || !is_labelled(line, &CRINEX_VERSION_LABEL)
                 {
                     return Err(Fault::NotCompact);
@@ -109,7 +113,7 @@ impl CompactReader {
                 Ok(true)
             }
             Stage::Looking if !begins_epoch(line) => Ok(false),
-            Stage::Between | Stage::Looking => self.begin(line),
+            Stage::Between | Stage::Looking => self.begin_unit(line),
             Stage::Closed => Ok(false),
             Stage::Open | Stage::Ended(_) => unreachable!(),
         }
@@ -118,7 +122,7 @@ impl CompactReader {
     /// Reads a line that may begin an epoch or an event. `Ok(true)`: it begins an event. Returns `BadEpoch`
     /// if an event's count is malformed, and the faults of [`Columns::begin`].
     #[inline(never)]
-    fn begin(&mut self, line: &[u8]) -> Result<bool, Fault>
+    fn begin_unit(&mut self, line: &[u8]) -> Result<bool, Fault>
         requires stage { (self.old.stage ≡ Between)
             ⊎ ((self.old.stage ≡ Looking) × (begins_epoch line.now ≡ true)) }
         requires short { length line.now ≤ LINE_LIMIT }

@@ -15,7 +15,7 @@ use crate::stage::Stage;
 use crx_base::{Fault, Options, Padded, Refused};
 use crx_compact::Encoder;
 use crx_lines::Line;
-use crx_runs::HandedOut;
+use crx_runs::LineOutput;
 use std::alloc::Global;
 use std::marker::Model;
 
@@ -116,11 +116,11 @@ impl Direction for Compaction {
 
     ghost by_line = { compaction };
 
-    ghost chosen = { λ choices. choices };
+    ghost options_used = { λ choices. choices };
 
     ghost state_after_lines = { compaction_state };
 
-    ghost closing_after = { λ choices lines. [] };
+    ghost lines_at_end_after = { λ choices lines. [] };
 
     ghost filter = { compaction_filter };
 
@@ -128,22 +128,22 @@ impl Direction for Compaction {
 
     ghost ready = { λ c. c.encoder.pending };
 
-    ghost closing = { λ c. [] };
+    ghost lines_at_end = { λ c. [] };
 
-    ghost counted = { λ c. c.index };
+    ghost units_counted = { λ c. c.index };
 
-    ghost was_begun_by = { λ c choices. is_full_where_due c.reader.stage c.encoder.in_full
+    ghost epoch_uses = { λ c choices. is_full_where_due c.reader.stage c.encoder.in_full
         (is_at_every choices.every c.index) };
 
-    ghost takes_at_start = { true };
+    ghost allocates_at_start = { true };
 
-    ghost notes = { λ c choices lines. ⊤ };
+    ghost notes_are_right = { λ c choices lines. ⊤ };
 
-    ghost report_is = { λ c lines. ⊤ };
+    ghost report_is_right = { λ c lines. ⊤ };
 
-    ghost skipping = { λ c choices lines taken skips. tt };
+    ghost no_report_when_skipping = { λ c choices lines taken skips. tt };
 
-    fn chosen(options: Options) -> Options {
+    fn options_used(options: Options) -> Options {
         options
     }
 
@@ -175,25 +175,26 @@ impl Direction for Compaction {
         Ok(true)
     }
 
-    fn take_elsewhere(&mut self, options: &Options, line: Line<'_>) -> Result<HandedOut, Fault> {
+    fn take_elsewhere(&mut self, options: &Options, line: Line<'_>) -> Result<LineOutput, Fault> {
         match self.reader.take(line.bytes())? {
-            RinexStep::Nothing => Ok(HandedOut::Nothing),
+            RinexStep::Nothing => Ok(LineOutput::Nothing),
             RinexStep::Begun => {
-                self.encoder.begin(is_at_every(options.every(), self.index));
+                self.encoder
+                    .begin_epoch(is_at_every(options.every(), self.index));
                 if self.reader.stage.is_in_epoch() {
-                    return Ok(HandedOut::Nothing);
+                    return Ok(LineOutput::Nothing);
                 }
                 end_epoch(&self.reader, &mut self.encoder);
                 self.index += 1;
-                Ok(HandedOut::Lines)
+                Ok(LineOutput::Lines)
             }
             RinexStep::Header { is_first: true } => {
                 self.encoder.put_first_lines(options.date());
-                Ok(HandedOut::AsItIs)
+                Ok(LineOutput::AsItIs)
             }
             _ => {
                 self.encoder.reset();
-                Ok(HandedOut::AsItIs)
+                Ok(LineOutput::AsItIs)
             }
         }
     }

@@ -9,7 +9,7 @@ use crate::stage::Stage;
 use crx_base::{At, Fault, Options, Padded, Refused};
 use crx_lines::Line;
 use crx_rinex::begins_epoch;
-use crx_runs::{HandedOut, Step};
+use crx_runs::{LineOutput, Step};
 use std::alloc::Global;
 use std::marker::Model;
 
@@ -31,8 +31,8 @@ impl<D: Direction> Model for LineEngine<D> {
 
     ghost view = { λ e. record { options = e.options; number = e.number; direction = e.direction; answer = e.answer } };
 
-    ghost invariant = { λ e. (e.number ≤ INPUT_LIMIT) × (D.counted e.direction ≤ e.number)
-        × (D.was_begun_by e.direction e.options ≡ true) × (D.chosen e.options ≡ e.options) };
+    ghost invariant = { λ e. (e.number ≤ INPUT_LIMIT) × (D.units_counted e.direction ≤ e.number)
+        × (D.epoch_uses e.direction e.options ≡ true) × (D.options_used e.options ≡ e.options) };
 }
 
 impl<D: Direction> LineEngine<D> {
@@ -54,15 +54,15 @@ impl<D: Direction> LineEngine<D> {
     /// Returns an engine before the first line of its input. Returns `Refused` if the direction's memory is
     /// refused.
     pub fn new(alloc: Global, options: Options) -> Result<LineEngine<D>, Refused>
-        ensures state { IfOk result (λ e. engine_state D.Direction e ≡ D.state_after_lines (D.chosen options) []) }
+        ensures state { IfOk result (λ e. engine_state D.Direction e ≡ D.state_after_lines (D.options_used options) []) }
         ensures drained { IfOk result (λ e. engine_ready D.Direction e ≡ []) }
-        ensures knows { IfOk result (λ e. D.notes e.direction e.options []) }
-        ensures asked { OnErr result (D.takes_at_start ≡ true) }
+        ensures knows { IfOk result (λ e. D.notes_are_right e.direction e.options []) }
+        ensures asked { OnErr result (D.allocates_at_start ≡ true) }
     {
         // `?` would need a temporary as large as a direction.
         match D::new(alloc) {
             Ok(direction) => Ok(LineEngine {
-                options: D::chosen(options),
+                options: D::options_used(options),
                 number: 0,
                 direction,
                 answer: Ok(Step::Quiet),
@@ -72,19 +72,19 @@ impl<D: Direction> LineEngine<D> {
     }
 
     /// Stores the answer to `fault` in the current line: a warning if it is skipped, otherwise the end of the
-    /// run. `skips`: faults may be skipped at this stage; `is_open`: an epoch is open; `goes_on`: reading may
+    /// run. `skips`: faults may be skipped at this stage; `is_open`: an epoch is open; `resumes`: reading may
     /// resume at this line. Flags instead of the stage need no temporary at each line.
     #[cold]
     #[inline(never)]
-    fn fail(&mut self, skips: bool, is_open: bool, fault: Fault, goes_on: bool)
-        requires counted { D.counted self.old.direction + 1 ≤ self.old.number }
+    fn fail(&mut self, skips: bool, is_open: bool, fault: Fault, resumes: bool)
+        requires counted { D.units_counted self.old.direction + 1 ≤ self.old.number }
         requires drained { engine_ready D.Direction self.old ≡ [] }
         ensures fails { (stage : Stage) → skips ≡ may_skip (bare_phase stage) → is_open ≡ is_open_stage stage
-            → AnswersToFault D.by_line self.old.options self.old.number stage fault goes_on (D.parts self.old.direction)
+            → AnswersToFault D.by_line self.old.options self.old.number stage fault resumes (D.parts self.old.direction)
             self.new.answer (engine_ready D.Direction self.new) (engine_state D.Direction self.new) }
         ensures stays { (choices : Choices) (lines : List InputLine)
-            → D.notes self.old.direction choices lines → D.notes self.new.direction choices lines }
-        ensures once { goes_on ≡ false → IfOk self.new.answer Stays }
+            → D.notes_are_right self.old.direction choices lines → D.notes_are_right self.new.direction choices lines }
+        ensures once { resumes ≡ false → IfOk self.new.answer Stays }
     {
         let notice = At {
             line: self.number,
@@ -96,7 +96,7 @@ impl<D: Direction> LineEngine<D> {
             return;
         }
         // A line that has to be fed again doesn't count yet.
-        let again = is_open & goes_on;
+        let again = is_open & resumes;
         self.direction.end_with(Stage::Looking);
         self.number -= u64::from(again);
         self.answer = Ok(Step::Warned { notice, again });
@@ -105,7 +105,7 @@ impl<D: Direction> LineEngine<D> {
     /// Takes a line as [`Lender::feed`](crate::lender::Lender::feed) does and returns its output. After a
     /// fault it stores the answer and returns `None`: no notice is copied per line.
     #[inline(always)]
-    pub(crate) fn answer_line(&mut self, line: Line<'_>) -> Option<HandedOut>
+    pub(crate) fn answer_line(&mut self, line: Line<'_>) -> Option<LineOutput>
         requires next { IsNextLine (engine_ready D.Direction self.old) self.old.number (line_number line) }
         ensures takes { TakesLine D.Direction self.old (line_shown line.entry) (Content (line_shown line.entry).content)
             (answer_given result self.new.answer) (lines_handed_out result (line_shown line.entry).content
@@ -117,8 +117,8 @@ impl<D: Direction> LineEngine<D> {
         let taken = self.direction.take_in_epoch(line);
         self.number += 1;
         match taken {
-            Ok(false) => Some(HandedOut::Nothing),
-            Ok(true) => Some(HandedOut::Lines),
+            Ok(false) => Some(LineOutput::Nothing),
+            Ok(true) => Some(LineOutput::Lines),
             Err(fault) => {
                 // Faults may be skipped in an open epoch.
                 self.fail(true, true, fault, begins_epoch(line.bytes()));
@@ -135,7 +135,7 @@ impl<D: Direction> LineEngine<D> {
         content: Padded<'_>,
         number: u64,
         is_plain: bool,
-    ) -> Option<HandedOut>
+    ) -> Option<LineOutput>
         requires closed { is_open_stage (D.parts self.old.direction).stage ≡ false }
         requires short { length (line_in content) ≤ LINE_LIMIT }
         requires next { IsNextLine (engine_ready D.Direction self.old) self.old.number number }
@@ -232,14 +232,14 @@ impl<D: Direction> crx_runs::Engine for LineEngine<D> {
 
     ghost taken = { λ e. e.number };
 
-    ghost has_ended = { λ e lines. D.report_is e.direction lines };
+    ghost has_ended = { λ e lines. D.report_is_right e.direction lines };
 
     ghost counted = { λ e lines notices shown. shown.1 };
 
     ghost answer = { λ e. e.answer };
 
     #[inline(always)]
-    fn take(&mut self, line: Line<'_>) -> Option<HandedOut> {
+    fn take(&mut self, line: Line<'_>) -> Option<LineOutput> {
         self.answer_line(line)
     }
 

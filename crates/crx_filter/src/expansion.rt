@@ -4,12 +4,12 @@ use crate::compact_reader::CompactReader;
 use crate::direction::Direction;
 use crate::lender::Lender;
 use crate::stage::Stage;
-use crx_base::memory::boxed;
+use crx_base::memory::try_box;
 use crx_base::{Fault, Options, Refused};
 use crx_compact::{Block, Columns};
 use crx_header::Types;
 use crx_lines::Line;
-use crx_runs::HandedOut;
+use crx_runs::LineOutput;
 use std::alloc::Global;
 use std::marker::Model;
 
@@ -65,11 +65,11 @@ impl Direction for Expansion {
 
     ghost by_line = { expansion };
 
-    ghost chosen = { λ choices. choices };
+    ghost options_used = { λ choices. choices };
 
     ghost state_after_lines = { expansion_state };
 
-    ghost closing_after = { λ choices lines. [] };
+    ghost lines_at_end_after = { λ choices lines. [] };
 
     ghost filter = { expansion_filter };
 
@@ -77,27 +77,27 @@ impl Direction for Expansion {
 
     ghost ready = { expansion_ready };
 
-    ghost closing = { λ e. [] };
+    ghost lines_at_end = { λ e. [] };
 
-    ghost counted = { λ e. 0 };
+    ghost units_counted = { λ e. 0 };
 
-    ghost was_begun_by = { λ e choices. true };
+    ghost epoch_uses = { λ e choices. true };
 
-    ghost takes_at_start = { true };
+    ghost allocates_at_start = { true };
 
-    ghost notes = { λ e choices lines. ⊤ };
+    ghost notes_are_right = { λ e choices lines. ⊤ };
 
-    ghost report_is = { λ e lines. ⊤ };
+    ghost report_is_right = { λ e lines. ⊤ };
 
-    ghost skipping = { λ e choices lines taken skips. tt };
+    ghost no_report_when_skipping = { λ e choices lines taken skips. tt };
 
-    fn chosen(options: Options) -> Options {
+    fn options_used(options: Options) -> Options {
         options
     }
 
     fn new(alloc: Global) -> Result<Expansion, Refused> {
         let lines = Block::new(alloc)?;
-        let columns = boxed(alloc, Columns::new(alloc))?;
+        let columns = try_box(alloc, Columns::new(alloc))?;
         let reader = CompactReader {
             stage: Stage::FirstLines { count: 0 },
             types: Types::new(alloc),
@@ -113,14 +113,14 @@ impl Direction for Expansion {
 
     #[inline(always)]
     fn take_in_epoch(&mut self, line: Line<'_>) -> Result<bool, Fault> {
-        self.reader.go_on(line.padded(), &mut self.lines)
+        self.reader.continue_epoch(line.padded(), &mut self.lines)
     }
 
-    fn take_elsewhere(&mut self, _options: &Options, line: Line<'_>) -> Result<HandedOut, Fault> {
+    fn take_elsewhere(&mut self, _options: &Options, line: Line<'_>) -> Result<LineOutput, Fault> {
         if self.reader.read_between(line.bytes())? {
-            return Ok(HandedOut::AsItIs);
+            return Ok(LineOutput::AsItIs);
         }
-        Ok(HandedOut::Nothing)
+        Ok(LineOutput::Nothing)
     }
 
     fn end_with(&mut self, stage: Stage) {

@@ -4,10 +4,10 @@ ghost use Rattle.std.specs.Prelude.{◌≡◌};
 
 use crate::direction::Direction;
 use crate::engine::LineEngine;
-use crx_base::memory::boxed;
+use crx_base::memory::try_box;
 use crx_base::{At, Options};
 use crx_lines::Line;
-use crx_runs::{HandedOut, Step};
+use crx_runs::{LineOutput, Step};
 use crx_text::Text;
 use crx_text::appending::append;
 use std::alloc::{AllocError, Global};
@@ -52,12 +52,12 @@ impl<D: Direction> Lender<D> {
     /// Returns an engine before the first line of its input, with memory for one line. Returns `AllocError`
     /// if memory is refused.
     pub fn new(alloc: Global, options: Options) -> Result<Lender<D>, AllocError>
-        ensures state { IfOk result (λ e. lender_state D.Direction e ≡ D.state_after_lines (D.chosen options) []) }
+        ensures state { IfOk result (λ e. lender_state D.Direction e ≡ D.state_after_lines (D.options_used options) []) }
         ensures drained { IfOk result (λ e. lender_ready D.Direction e ≡ []) }
-        ensures knows { IfOk result (λ e. D.notes e.engine.direction e.engine.options []) }
+        ensures knows { IfOk result (λ e. D.notes_are_right e.engine.direction e.engine.options []) }
     {
         let engine = LineEngine::new(alloc, options)?;
-        let copied = boxed(alloc, Text::new())?;
+        let copied = try_box(alloc, Text::new())?;
         Ok(Lender {
             engine,
             copied,
@@ -99,9 +99,9 @@ impl<D: Direction> Lender<D> {
     {
         match self.engine.answer_line(line) {
             None => crx_runs::Engine::answer(&self.engine),
-            Some(HandedOut::Nothing) => Ok(Step::Quiet),
-            Some(HandedOut::Lines) => Ok(Step::Ready),
-            Some(HandedOut::AsItIs) => {
+            Some(LineOutput::Nothing) => Ok(Step::Quiet),
+            Some(LineOutput::Lines) => Ok(Step::Ready),
+            Some(LineOutput::AsItIs) => {
                 self.copied.clear();
                 append(&mut self.copied, line.bytes());
                 self.is_pending = true;
@@ -123,9 +123,10 @@ impl<D: Direction> Lender<D> {
         // The direction changes too: it counts the lines that it has lent.
         ensures* after_borrow { sem 𝓛 (Rests (the_row D.row D.Direction) self.entry (λ new. (lender_ready D.Direction new
             ≡ drop 1 (lender_ready D.Direction self.old)) × (lender_state D.Direction new ≡ lender_state D.Direction self.old)
-            × ((choices : Choices) (lines : List InputLine) → D.notes self.old.engine.direction choices lines
-            → D.notes new.engine.direction choices lines)
-            × ((lines : List InputLine) → D.report_is self.old.engine.direction lines → D.report_is new.engine.direction lines)
+            × ((choices : Choices) (lines : List InputLine) → D.notes_are_right self.old.engine.direction choices lines
+            → D.notes_are_right new.engine.direction choices lines)
+            × ((lines : List InputLine) → D.report_is_right self.old.engine.direction lines
+            → D.report_is_right new.engine.direction lines)
             × (new.engine ≡ record self.old.engine { direction = new.engine.direction })
             × (D.parts new.engine.direction ≡ D.parts self.old.engine.direction))) }
     {

@@ -11,7 +11,7 @@ use crx_header::Types;
 use crx_rinex::Epoch;
 use crx_text::Text;
 use crx_text::appending::append;
-use crx_text::columns::trimmed;
+use crx_text::columns::trim_columns;
 use itoa::Buffer;
 
 /// The number of lines in a report.
@@ -72,7 +72,7 @@ pub fn print_report_line(
         0 => {
             text.clear();
             append(text, b"format ");
-            append(text, trimmed(&totals.version, 1, VERSION_WIDTH));
+            append(text, trim_columns(&totals.version, 1, VERSION_WIDTH));
         }
         1 => put_systems(text, types),
         2 => put_count(text, b"epochs ", totals.epochs),

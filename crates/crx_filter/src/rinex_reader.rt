@@ -101,10 +101,10 @@ impl RinexReader {
                 self.stage = with_records_left(left.saturating_sub(1), counted);
                 Ok(RinexStep::Record)
             }
-            Stage::Between => self.begin(line),
+            Stage::Between => self.begin_unit(line),
             Stage::Looking => {
                 if begins_epoch(line) {
-                    self.begin(line)
+                    self.begin_unit(line)
                 } else {
                     Ok(RinexStep::Nothing)
                 }
@@ -116,7 +116,7 @@ impl RinexReader {
 
     /// Reads a line that has to begin an epoch or an event. Returns the faults of [`Head::read`].
     #[inline(always)]
-    fn begin(&mut self, line: &[u8]) -> Result<RinexStep, Fault>
+    fn begin_unit(&mut self, line: &[u8]) -> Result<RinexStep, Fault>
         requires stage { (self.old.stage ≡ Stage.Between)
             ⊎ ((self.old.stage ≡ Stage.Looking) × (begins_epoch line.now ≡ true)) }
         ensures reads { ReadsRinexLine self.old line.now result self.new }

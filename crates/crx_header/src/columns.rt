@@ -7,7 +7,7 @@ ghost use Rattle.crx_text.specs.meaning.Columns.{columns};
 ghost use Rattle.crx_header.specs.meaning.Label.{has_label, number_in};
 
 use crx_base::limits::NAME_WIDTH;
-use crx_text::columns::{character, end_trimmed, trimmed};
+use crx_text::columns::{character, trim_columns, trim_end_columns};
 pub use crx_text::columns::{after_columns, all_blank, padded};
 
 /// Returns the number in three columns from `first` on: digits, with blanks before or after them. Returns
@@ -18,7 +18,7 @@ pub fn number(line: &[u8], first: usize) -> Option<usize>
     ensures value { result ≡ number_in (columns line.now first 3) }
     ensures small { IfSome result (λ number. number < 1000) }
 {
-    let digits = trimmed(line, first, 3);
+    let digits = trim_columns(line, first, 3);
     if digits.is_empty() {
         return None;
     }
@@ -36,7 +36,7 @@ pub fn number(line: &[u8], first: usize) -> Option<usize>
 pub fn is_labelled(line: &[u8], label: &[u8]) -> bool
     ensures value { result ≡ has_label label.now line.now }
 {
-    end_trimmed(line, 61, 20) == label
+    trim_end_columns(line, 61, 20) == label
 }
 
 /// Returns the identifier in three columns from `first` on, with blanks after the line's end.

@@ -7,7 +7,7 @@ use crate::columns::is_labelled;
 use crate::labels::{END_LABEL, VERSION_LABEL};
 use crx_base::Fault;
 use crx_base::limits::VERSION_WIDTH;
-use crx_text::columns::{character, trimmed};
+use crx_text::columns::{character, trim_columns};
 
 /// Checks the first line of a header, `RINEX VERSION / TYPE` (RINEX 3.05, table A2).
 ///
@@ -22,7 +22,7 @@ pub fn header_first(line: &[u8]) -> Result<(), Fault>
     if !is_labelled(line, &VERSION_LABEL) {
         return Err(Fault::MissingVersion);
     }
-    if !is_supported(trimmed(line, 1, VERSION_WIDTH)) {
+    if !is_supported(trim_columns(line, 1, VERSION_WIDTH)) {
         return Err(Fault::UnsupportedVersion);
     }
     if character(line, 21) != b'O' {

@@ -1,6 +1,6 @@
 -- A compaction without `-s` has the fault and the messages of the check.
-use Rattle.crx_filter.proofs.Words
-use Words.{arith, ℕ, ◌≡◌, List, false, map, as_read, lines_of, Choices, compacted, checked, whole_of}
+use Rattle.crx_filter.proofs.Vocabulary
+use Vocabulary.{arith, ℕ, ◌≡◌, List, false, map, as_read, lines_of, Choices, compacted, checked, whole_of}
 use Rattle.crx_filter.proofs.wayback.NormalForm.{whole-none}
 use Rattle.crx_runs.specs.meaning.Messages.{error_text}
 

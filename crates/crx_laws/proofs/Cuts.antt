@@ -1,17 +1,17 @@
 -- An input that is cut off at the end of a line.
-use Rattle.crx_filter.proofs.Words
-use Words.{ℕ, ◌≡◌, ◌≤◌, ◌+◌, Bool, true, false, List, [], ◌∷◌, ◌++◌, map, length, refl, arith, ap, ◌∙◌, inl}
-use Words.{inr}
-use Words.{common_steps, length-append, length-map, map-append, Option, None, Some, ReadLine, Place, FileUnit}
-use Words.{Item, Accepted, Warned, Fault, as_read, InputLine, lines_of, rinex_place, WholeReading}
-use Words.{whole_reading}
-use Words.{reading_from, ended_reading, ended_with, AtLines, AtFault, Looking, Stop, by_bool, nat_lt}
-use Words.{header_has_ended, records_left, IsReadForward, Reading, fault_at_end, whole_compact, compact_place}
-use Words.{compacted, expanded, Choices, sym, continued_reading}
-use Rattle.crx_filter.proofs.accounts.Fates.{told, FateAt}
+use Rattle.crx_filter.proofs.Vocabulary
+use Vocabulary.{ℕ, ◌≡◌, ◌≤◌, ◌+◌, Bool, true, false, List, [], ◌∷◌, ◌++◌, map, length, refl, arith, ap, ◌∙◌, inl}
+use Vocabulary.{inr}
+use Vocabulary.{common_steps, length-append, length-map, map-append, Option, None, Some, ReadLine, Place, FileUnit}
+use Vocabulary.{Item, Accepted, Warned, Fault, as_read, InputLine, lines_of, rinex_place, WholeReading}
+use Vocabulary.{whole_reading}
+use Vocabulary.{reading_from, ended_reading, ended_with, AtLines, AtFault, Looking, Stop, by_bool, nat_lt}
+use Vocabulary.{header_has_ended, records_left, IsReadForward, Reading, fault_at_end, whole_compact, compact_place}
+use Vocabulary.{compacted, expanded, Choices, sym, continued_reading}
+use Rattle.crx_filter.proofs.accounts.LineFates.{told, FateAt}
 use Rattle.crx_filter.proofs.reading.{Forward.rinex-forward, ForwardCompact.compact-forward, Resuming.resumed}
-use Rattle.crx_filter.proofs.reading.KeptThroughout.{IsKept, within-kept, looked-kept}
-use Rattle.crx_filter.proofs.wayback.First.{FirstBack, two-back, two-whole}
+use Rattle.crx_filter.proofs.reading.StepInvariants.{IsKept, within-kept, looked-kept}
+use Rattle.crx_filter.proofs.wayback.FirstTwoLines.{FirstBack, two-back, two-whole}
 use Rattle.crx_filter.specs.OwnStretches.{read_of_file}
 use Rattle.crx_laws.specs.{Blocks.read_of_text, Cuts.{IsNoticed, IsOfAnEnd}}
 

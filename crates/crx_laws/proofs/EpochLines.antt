@@ -1,9 +1,9 @@
 -- The lines of an epoch: their number, and that the lines in compact text are printable.
-use Rattle.crx_filter.proofs.Words
-use Words.{arith, common_steps, refl, sym, [], ℕ, ℤ, suc, ◌≡◌, ◌+◌, true, List, ◌∷◌, map, length, length-map}
-use Words.{Option, Result, and_parts, list_all, ReadLine, Content, Fault, Past, Satellite, is_printable}
-use Words.{without_end_blanks, Done, Epoch, ReadEpoch, Item, Observation, types_in_force, raws_kept}
-use Words.{rinex_place, compact_place}
+use Rattle.crx_filter.proofs.Vocabulary
+use Vocabulary.{arith, common_steps, refl, sym, [], ℕ, ℤ, suc, ◌≡◌, ◌+◌, true, List, ◌∷◌, map, length, length-map}
+use Vocabulary.{Option, Result, and_parts, list_all, ReadLine, Content, Fault, Past, Satellite, is_printable}
+use Vocabulary.{without_end_blanks, Done, Epoch, ReadEpoch, Item, Observation, types_in_force, raws_kept}
+use Vocabulary.{rinex_place, compact_place}
 use Rattle.crx_text.specs.declared.code.Code.{Code}
 use Rattle.crx_compact.specs.meaning.{Cells.{ReadCell, cells_of, after_cells}, CompactPlaces.ReadRow}
 use Rattle.crx_compact.proofs.soundness.Soundness.{AreReadCells, IsReadCell, RowFacts, Paired, epoch-facts}

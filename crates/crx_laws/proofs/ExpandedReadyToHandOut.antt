@@ -1,19 +1,19 @@
 -- The lines of each unit that an expansion accepts can be borrowed.
-use Rattle.crx_filter.proofs.Words.{ℕ, ◌≡◌, ◌+◌, ◌*◌, List, [], ◌∷◌, map, length, arith, length-map, ReadLine}
-use Rattle.crx_filter.proofs.Words.{NAME_WIDTH, TYPES_LIMIT, Epoch, IsWholeEpoch, Count, printed_row}
-use Rattle.crx_filter.proofs.Words.{printed_epoch, HeaderLine, EventLine, EventRecord, Observation, ReadEpoch}
-use Rattle.crx_filter.proofs.Words.{IsGood, Choices, Item, Accepted, Warned, types_in_force, expanded_unit}
-use Rattle.crx_filter.proofs.Words.{compact_reading, OfCopiedLines}
+use Rattle.crx_filter.proofs.Vocabulary.{ℕ, ◌≡◌, ◌+◌, ◌*◌, List, [], ◌∷◌, map, length, arith, length-map, ReadLine}
+use Rattle.crx_filter.proofs.Vocabulary.{NAME_WIDTH, TYPES_LIMIT, Epoch, IsWholeEpoch, Count, printed_row}
+use Rattle.crx_filter.proofs.Vocabulary.{printed_epoch, HeaderLine, EventLine, EventRecord, Observation, ReadEpoch}
+use Rattle.crx_filter.proofs.Vocabulary.{IsGood, Choices, Item, Accepted, Warned, types_in_force, expanded_unit}
+use Rattle.crx_filter.proofs.Vocabulary.{compact_reading, OfCopiedLines}
 use Rattle.crx_base.specs.declared.limits.TheConstants.{CELL_WIDTH}
 use Rattle.crx_laws.specs.Bounds.{AreReadyToHandOut, OfUnits, longest_printed, ExpandedIsReadyToHandOut}
-use Rattle.crx_filter.proofs.reading.WhatWasRead.{compact-items-read}
+use Rattle.crx_filter.proofs.reading.AcceptedUnits.{compact-items-read}
 use Rattle.crx_filter.proofs.wayback.ExpandedWhole.{AreGoodEpochs, epochs-good}
 use Rattle.crx_laws.proofs.output.ReadyToHandOut.{IsShort, contents-short, one-ready_to_hand_out}
-use Rattle.crx_filter.proofs.Words.{AllByRecursion, drop, reading_from, first_lines, compact_place, Bool}
-use Rattle.crx_filter.proofs.wayback.{Cut.OfContent, ExpandedStandard.copied-read}
+use Rattle.crx_filter.proofs.Vocabulary.{AllByRecursion, drop, reading_from, first_lines, compact_place, Bool}
+use Rattle.crx_filter.proofs.wayback.{LinesCutAgain.OfContent, ExpandedStandard.copied-read}
 use Rattle.crx_filter.proofs.wayback.Reading.{of-copied, of-own}
-use Rattle.crx_filter.proofs.accounts.{Copies.compact-copies, Fates.told}
-use Rattle.crx_filter.proofs.reading.{Each.{all-parts, all-drop}, ForwardCompact.compact-forward}
+use Rattle.crx_filter.proofs.accounts.{CopiedUnits.compact-copies, LineFates.told}
+use Rattle.crx_filter.proofs.reading.{ListsOfUnits.{all-parts, all-drop}, ForwardCompact.compact-forward}
 use Rattle.crx_filter.proofs.reading.Resuming.{by_place}
 use Rattle.crx_filter.specs.meaning.WrittenStandard.{rinex_items}
 use Rattle.crx_filter.proofs.wayback.NormalForm.{epoch-within}

@@ -1,15 +1,15 @@
 -- The compact text of a file, followed by the lines after the next file's header, expands to both.
-use Rattle.crx_filter.proofs.Words
-use Words.{common_steps, arith, [], ℕ, ◌≡◌, true, List, ◌∷◌, ◌++◌, map, drop, length}
-use Words.{refl, ap, sym, ◌∙◌, subst, append-nil, append_assoc, drop-append_seam, false≢true, lines_of}
-use Words.{lines_text, as_read, Epoch, HeaderLine, EventLine, EventRecord, Observation, Choices, compacted}
-use Words.{Item, Accepted, Warned, header_has_ended, records_left, types_in_force, AreInPlace}
-use Words.{compact_lines, compact_unit, lines_after, is_interrupted, BeginsAnew, WholeReading, printed_items}
-use Words.{whole_of, HasNormalForm, warnings_in, written_well}
+use Rattle.crx_filter.proofs.Vocabulary
+use Vocabulary.{common_steps, arith, [], ℕ, ◌≡◌, true, List, ◌∷◌, ◌++◌, map, drop, length}
+use Vocabulary.{refl, ap, sym, ◌∙◌, subst, append-nil, append_assoc, drop-append_seam, false≢true, lines_of}
+use Vocabulary.{lines_text, as_read, Epoch, HeaderLine, EventLine, EventRecord, Observation, Choices, compacted}
+use Vocabulary.{Item, Accepted, Warned, header_has_ended, records_left, types_in_force, AreInPlace}
+use Vocabulary.{compact_lines, compact_unit, lines_after, is_interrupted, BeginsAnew, WholeReading, printed_items}
+use Vocabulary.{whole_of, HasNormalForm, warnings_in, written_well}
 use Rattle.std.proofs.lemmas.List.{append_cancel_left}
 use Rattle.crx_filter.specs.OwnStretches.{read_of_file, IsReadWhole}
 use Rattle.crx_filter.proofs.damage.DamagedText.{text-append}
-use Rattle.crx_filter.proofs.stretches.OwnStretches.{file-settled}
+use Rattle.crx_filter.proofs.stretches.StretchesCompactedHere.{file-settled}
 use Rattle.crx_filter.proofs.wayback.{NormalForm.whole-none, Standard.same-reading}
 use Rattle.crx_laws.proofs.blockwise.PieceBack.{own-piece}
 use Rattle.crx_laws.specs.{Again.{EndWithHeader, MakeADay}, Blocks.IsOwnPieceAfter}

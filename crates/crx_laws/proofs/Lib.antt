@@ -6,9 +6,9 @@ pub mod OpenSound
 pub mod blockwise
 pub mod Weights
 pub mod HoursMakeADay
-pub mod Wild
+pub mod WildText
 pub mod Theorems
-pub mod Opened
+pub mod OpenedDefinitions
 pub mod EpochLines
 pub mod Checks
 pub mod Cuts

@@ -1,8 +1,8 @@
 -- An open epoch is sound, and needs one more row.
-use Rattle.crx_filter.proofs.Words.{◌≡◌, ℕ, ◌<◌, zero, suc, List, [], ◌∷◌, Option, Some, None, Result, Ok}
-use Rattle.crx_filter.proofs.Words.{Err, refl, arith, ReadLine, Content, Overlong, Fault, Row, Count, head_of}
-use Rattle.crx_filter.proofs.Words.{OpenEpoch, Beginning, EpochBegins, opened, rows_wanted, with_next_row}
-use Rattle.crx_filter.proofs.Words.{next_row, beginning_of, when_wanted, after_row, epoch_step}
+use Rattle.crx_filter.proofs.Vocabulary.{◌≡◌, ℕ, ◌<◌, zero, suc, List, [], ◌∷◌, Option, Some, None, Result, Ok}
+use Rattle.crx_filter.proofs.Vocabulary.{Err, refl, arith, ReadLine, Content, Overlong, Fault, Row, Count, head_of}
+use Rattle.crx_filter.proofs.Vocabulary.{OpenEpoch, Beginning, EpochBegins, opened, rows_wanted, with_next_row}
+use Rattle.crx_filter.proofs.Vocabulary.{next_row, beginning_of, when_wanted, after_row, epoch_step}
 use Rattle.std.proofs.Common.{IfSome}
 use Rattle.crx_header.specs.ObservationTypes.{AreCounts}
 use Rattle.crx_rinex.specs.EpochPlaces.{still_open, opened_by, opened_at, open_after, open_with}

@@ -1,20 +1,20 @@
 -- The theorems behind the laws: src/lib.rt names the list, and the prover finds the theorem of each law.
 use Rattle.crx_compact.proofs.anywriter.{Epochs.any-epoch, OnlyEpochs.only-epoch, OnlyRows.only-row}
-use Rattle.crx_compact.proofs.anywriter.{OwnReading.{reads-back, steps-read_back}, Rows.any-row}
+use Rattle.crx_compact.proofs.anywriter.{OurReading.{reads-back, steps-read_back}, Rows.any-row}
 use Rattle.crx_compact.proofs.arcs.{Bounds.within-is, Inversion.inverts, Stepping.values-by_tail}
 use Rattle.crx_compact.proofs.reading.{LineByLine.{steps-agree, wanted-where_open}, RawTailing.raw-by_tail}
 use Rattle.crx_compact.proofs.reading.SteadyEpochs.{steady-epoch_against}
 use Rattle.crx_compact.proofs.wayback.Overlays.{overlaid-in_turn, patched-difference}
 use Rattle.crx_filter.proofs.anywriter.AnyText.{any-text, first-units}
-use Rattle.crx_filter.proofs.anywriter.ComesBack.{canonical, comes-back, normal-comes_back}
-use Rattle.crx_filter.proofs.anywriter.ComesBack.{standard-comes_back}
+use Rattle.crx_filter.proofs.anywriter.RestoredFiles.{canonical, comes-back, normal-comes_back}
+use Rattle.crx_filter.proofs.anywriter.RestoredFiles.{standard-comes_back}
 use Rattle.crx_filter.proofs.following.CheckLawful.{check-lawful}
 use Rattle.crx_filter.proofs.output.Readiness.{compaction-ready, expansion-ready}
-use Rattle.crx_filter.proofs.reading.{Anew.on-types, Prefixes.{compacted-first, expanded-first}}
+use Rattle.crx_filter.proofs.reading.{Restarts.on-types, Prefixes.{compacted-first, expanded-first}}
 use Rattle.crx_filter.proofs.reading.{Forward.rinex-forward, ForwardCompact.compact-forward}
 use Rattle.crx_filter.proofs.reading.{Resuming.resumed}
 use Rattle.crx_filter.proofs.reading.InPlace.{items-in_place}
-use Rattle.crx_filter.proofs.reading.WhatWasRead.{items-read, compact-items-read}
+use Rattle.crx_filter.proofs.reading.AcceptedUnits.{items-read, compact-items-read}
 use Rattle.crx_filter.proofs.standard.{CheckEnded.check-ended, CheckStandard.named-where_not}
 use Rattle.crx_filter.proofs.standard.Lossless.{what-passes}
 use Rattle.crx_filter.proofs.wayback.{Canonical.as-normal, ExpandedStandard.expanded-standard}
@@ -22,11 +22,11 @@ use Rattle.crx_filter.proofs.wayback.NormalForm.{read-as_normal, normal-for_good
 use Rattle.crx_header.proofs.Counts.{systems_few}
 use Rattle.crx_laws.proofs.{ExpandedReadyToHandOut.expanded-ready_to_hand_out, HoursMakeADay.make-a_day}
 use Rattle.crx_laws.proofs.Weights.{within-size}
-use Rattle.crx_laws.proofs.{blockwise.GoingOn.stand-alone, output.ReadyToHandOut.compact-ready_to_hand_out}
+use Rattle.crx_laws.proofs.{blockwise.LinesAfterText.stand-alone, output.ReadyToHandOut.compact-ready_to_hand_out}
 use Rattle.crx_laws.proofs.soundness.BoundedReading.{read-bounded}
 use Rattle.crx_lines.proofs.ProgressLemmas.{ended_lines-come_first, lines-last, lines-first}
 use Rattle.crx_lines.proofs.ProgressLemmas.{HasRead-ended, HasRead-start, HasRead-stopped, stopped-cases}
-use Rattle.crx_rinex.proofs.{ReadingBack.{row-back, head-back}, Steady.{steady-first_line, steady-then}}
+use Rattle.crx_rinex.proofs.{ReadingBack.{row-back, head-back}, SteadyPlaces.{steady-first_line, steady-then}}
 
 pub ruleset of_lines = (ended_lines-come_first, lines-last, lines-first, steady-first_line, steady-then)
 

@@ -1,31 +1,31 @@
 -- The output of an expansion is bounded by the lines that it has read: each has a weight, and no unit's text is longer
 -- than its lines weigh.
 use Rattle.std.proofs.lemmas.Grind.{common_steps}
-use Rattle.crx_filter.proofs.Words.{ℕ, zero, suc, ◌≡◌, ◌+◌, ◌-◌, ◌*◌, ◌<◌, ◌≤◌, Bool, List, [], ◌∷◌, ◌++◌}
-use Rattle.crx_filter.proofs.Words.{map, length, drop, refl, ap, sym, ◌∙◌, subst, arith, length-append, ⊤}
-use Rattle.crx_filter.proofs.Words.{◌==◌, AllByRecursion, length-map, flat_map-append, Piece, pieces_of}
-use Rattle.crx_filter.proofs.Words.{onto_first, without_return, line_of, lines_of, lines_text}
-use Rattle.crx_filter.proofs.Words.{ReadLine, Content, Overlong, as_read, IsDecidedAfter, Remains}
-use Rattle.crx_filter.proofs.Words.{IsWholeEpoch, Place, Done, Fails, NeedsMore, printed_epoch, printed_row}
-use Rattle.crx_filter.proofs.Words.{FileUnit, HeaderLine, EventLine, EventRecord, Observation, IsGood, Count}
-use Rattle.crx_filter.proofs.Words.{ReadEpoch, epoch_at, RawEpoch, Choices, Item, Accepted, types_in_force}
-use Rattle.crx_filter.proofs.Words.{Reading, WholeReading, reading_from, raws_kept, compact_place}
-use Rattle.crx_filter.proofs.Words.{first_lines, expanded_unit, whole_compact, expanded, expanded_lines}
-use Rattle.crx_filter.proofs.Words.{ItemsAreRead}
+use Rattle.crx_filter.proofs.Vocabulary.{ℕ, zero, suc, ◌≡◌, ◌+◌, ◌-◌, ◌*◌, ◌<◌, ◌≤◌, Bool, List, [], ◌∷◌, ◌++◌}
+use Rattle.crx_filter.proofs.Vocabulary.{map, length, drop, refl, ap, sym, ◌∙◌, subst, arith, length-append, ⊤}
+use Rattle.crx_filter.proofs.Vocabulary.{◌==◌, AllByRecursion, length-map, flat_map-append, Piece, pieces_of}
+use Rattle.crx_filter.proofs.Vocabulary.{onto_first, without_return, line_of, lines_of, lines_text}
+use Rattle.crx_filter.proofs.Vocabulary.{ReadLine, Content, Overlong, as_read, IsDecidedAfter, Remains}
+use Rattle.crx_filter.proofs.Vocabulary.{IsWholeEpoch, Place, Done, Fails, NeedsMore, printed_epoch, printed_row}
+use Rattle.crx_filter.proofs.Vocabulary.{FileUnit, HeaderLine, EventLine, EventRecord, Observation, IsGood, Count}
+use Rattle.crx_filter.proofs.Vocabulary.{ReadEpoch, epoch_at, RawEpoch, Choices, Item, Accepted, types_in_force}
+use Rattle.crx_filter.proofs.Vocabulary.{Reading, WholeReading, reading_from, raws_kept, compact_place}
+use Rattle.crx_filter.proofs.Vocabulary.{first_lines, expanded_unit, whole_compact, expanded, expanded_lines}
+use Rattle.crx_filter.proofs.Vocabulary.{ItemsAreRead}
 use Rattle.crx_compact.proofs.soundness.Soundness.{epoch-facts}
 use Rattle.crx_compact.specs.meaning.CompactPlaces.{ReadRow}
-use Rattle.crx_filter.proofs.Choosing.{by_bool}
+use Rattle.crx_filter.proofs.CasesOfTests.{by_bool}
 use Rattle.crx_filter.proofs.reading.CompactPrefixes.{whole-at}
 use Rattle.crx_filter.proofs.reading.ForwardCompact.{compact-forward, steady-first_lines, compact_beginning}
-use Rattle.crx_filter.proofs.reading.KeptThroughout.{within-kept}
+use Rattle.crx_filter.proofs.reading.StepInvariants.{within-kept}
 use Rattle.crx_filter.proofs.reading.Resuming.{here-within}
-use Rattle.crx_filter.proofs.reading.WhatStands.{of-unit, of-compact}
-use Rattle.crx_filter.proofs.reading.WhatWasRead.{allowed}
+use Rattle.crx_filter.proofs.reading.UnitsAtLines.{of-unit, of-compact}
+use Rattle.crx_filter.proofs.reading.AcceptedUnits.{allowed}
 use Rattle.crx_filter.proofs.wayback.ExpandedWhole.{AreGoodEpochs, epochs-good}
 use Rattle.crx_laws.specs.Bounds.{AreReadyToHandOut}
 use Rattle.crx_laws.specs.Sizes.{most_for_a_byte, IsWithinSize}
 use Rattle.crx_laws.proofs.ExpandedReadyToHandOut.{epoch-ready_to_hand_out}
-use Rattle.crx_laws.proofs.blockwise.GoingOn.{ended-lines}
+use Rattle.crx_laws.proofs.blockwise.LinesAfterText.{ended-lines}
 
 -- ---- weights of lines, and sizes of texts
 

@@ -1,3 +1,3 @@
 -- Blocks of compact text, expanded after other lines than their own.
-pub mod GoingOn
+pub mod LinesAfterText
 pub mod PieceBack

@@ -85,10 +85,10 @@ pub trait Sink {
     // All bytes taken were passed on, by a flush or otherwise.
     ghost is_current: { Self → Type 0 };
 
-    // Whether the output is awaited, so that `hand_on` passes it on.
+    // Whether the output is awaited, so that `pass_on` passes it on.
     ghost is_awaited: { Self → Bool };
 
-    // Whether a `hand_on` has failed. Then every flush fails.
+    // Whether a `pass_on` has failed. Then every flush fails.
     ghost is_broken: { Self → Bool };
 
     /// Takes the first of `bytes`, at least one if there is one, and returns how many. They count as passed on
@@ -106,7 +106,7 @@ pub trait Sink {
         ensures unbroken { is_broken self.new ≡ is_broken self.old };
 
     /// Passes on the bytes taken to where they are kept. Takes no byte. Returns `WriteFailed` if this fails or
-    /// a [`Sink::hand_on`] has failed.
+    /// a [`Sink::pass_on`] has failed.
     fn flush(&mut self) -> Result<(), WriteFailed>
         ensures none_taken { took self.old [] self.new }
         ensures flushed { OnOk result (is_flushed self.new) }
@@ -117,7 +117,7 @@ pub trait Sink {
         ensures awaited { is_awaited self.new ≡ is_awaited self.old }
         ensures unbroken { is_broken self.new ≡ is_broken self.old };
 
-    /// Marks the output as awaited: from now on each [`Sink::hand_on`] passes it on, and before this call none
+    /// Marks the output as awaited: from now on each [`Sink::pass_on`] passes it on, and before this call none
     /// does. Passes nothing on itself.
     fn await_output(&mut self)
         ensures none_taken { took self.old [] self.new }
@@ -130,7 +130,7 @@ pub trait Sink {
 
     /// Passes on the bytes taken if the output is awaited, and returns whether that succeeded. Takes no byte
     /// and doesn't count as a flush. If it fails, each later flush fails and counts the failure.
-    fn hand_on(&mut self) -> bool
+    fn pass_on(&mut self) -> bool
         ensures none_taken { took self.old [] self.new }
         ensures unasked { flushes self.new ≡ flushes self.old }
         ensures good { failures self.new ≡ failures self.old }
@@ -151,7 +151,7 @@ pub struct Std<D> {
     inner: D,
     failures: u64,
     ends: u64,
-    /// Whether all bytes written were passed on: a flush or [`Sink::hand_on`] said so.
+    /// Whether all bytes written were passed on: a flush or [`Sink::pass_on`] said so.
     flushed: bool,
     flushes: u64,
     /// Whether it is a file that [`open_file`] opened, and nothing was read or written after that.
@@ -237,7 +237,7 @@ impl<D> Std<D> {
     }
 
     /// Returns the same device. `may_wait`: whether its reads may have to wait.
-    pub fn waiting(self, may_wait: bool) -> Std<D>
+    pub fn with_waits(self, may_wait: bool) -> Std<D>
         ensures whole { result ≡ record self { may_wait = may_wait } }
     {
         Std { may_wait, ..self }
@@ -251,7 +251,7 @@ impl<D> Std<D> {
     }
 
     /// Counts a flush with the result `flushed`, also as a failure if it failed, and returns this result.
-    fn counted(&mut self, flushed: io::Result<()>) -> Result<(), WriteFailed>
+    fn count_flush(&mut self, flushed: io::Result<()>) -> Result<(), WriteFailed>
         ensures ok { is_ok result ≡ is_ok flushed }
         ensures good { OnOk result (self.new.failures ≡ self.old.failures) }
         ensures failed { OnErr result (self.new.failures ≡ one_more self.old.failures) }
@@ -366,16 +366,16 @@ impl<D: Write> Sink for Std<D> {
     fn flush(&mut self) -> Result<(), WriteFailed> {
         let flushed = self.inner.flush();
         if self.is_broken {
-            return self.counted(Err(ErrorKind::BrokenPipe.into()));
+            return self.count_flush(Err(ErrorKind::BrokenPipe.into()));
         }
-        self.counted(flushed)
+        self.count_flush(flushed)
     }
 
     fn await_output(&mut self) {
         self.is_awaited = true;
     }
 
-    fn hand_on(&mut self) -> bool {
+    fn pass_on(&mut self) -> bool {
         if self.is_awaited && !self.flushed && !self.is_broken {
             self.flushed = self.inner.flush().is_ok();
             self.is_broken = !self.flushed;

@@ -12,7 +12,7 @@ use crate::phase::Phase;
 use crate::seek::seek;
 use crate::window::{Cut, Window};
 use crx_base::limits::LINE_LIMIT;
-use crx_base::memory::boxed;
+use crx_base::memory::try_box;
 use crx_base::{At, Fault, Padded, Refused};
 use std::alloc::{AllocError, Global};
 
@@ -107,7 +107,7 @@ impl LineReader {
         ensures start { IfOk result
             (λ r. reading r ≡ record { rest = []; passed = 0; number = 0; phase = Phase.Open }) }
     {
-        let window = boxed(alloc, Window::new(alloc)?)?;
+        let window = try_box(alloc, Window::new(alloc)?)?;
         Ok(LineReader {
             number: 0,
             window,
@@ -136,7 +136,7 @@ impl LineReader {
         let Some(len) = feed_from(self.window.as_slice(), 0) else {
             return Ok(None);
         };
-        let cut = self.window.take_line(len, true);
+        let cut = self.window.cut_line(len, true);
         self.passed += len as u64 + 1;
         self.number += 1;
         if cut.to - cut.from > LINE_LIMIT {
@@ -172,7 +172,7 @@ impl LineReader {
             return Ok(None);
         }
         let held = found.len + usize::from(found.is_ended);
-        let cut = self.window.take_line(found.len, found.is_ended);
+        let cut = self.window.cut_line(found.len, found.is_ended);
         self.passed += found.passed + held as u64;
         self.number += 1;
         // More lines may follow a line with an end. After one without, the input has ended.

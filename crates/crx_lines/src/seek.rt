@@ -56,7 +56,7 @@ pub(crate) fn seek<R: Source>(
                 is_ended: true,
             });
         }
-        passed += window.let_go_of_long() as u64;
+        passed += window.drop_long_line() as u64;
         searched = window.as_slice().len();
         let count = window.fill(reader, room)?;
         if count == 0 {

@@ -82,7 +82,7 @@ impl Window {
 
     /// Takes a line of `len` bytes, and the LF after them if `is_ended`; otherwise these are all pending bytes.
     /// Puts a blank after the content, over the LF or the CR before it.
-    pub(crate) fn take_line(&mut self, len: usize, is_ended: bool) -> Cut
+    pub(crate) fn cut_line(&mut self, len: usize, is_ended: bool) -> Cut
         requires { MatchBool is_ended (len < length (kept self.old)) (len ≡ length (kept self.old)) }
         ensures cut { IsCut self.new.bytes.items result }
         ensures shown { cut_shown self.new.bytes.items result
@@ -104,7 +104,7 @@ impl Window {
 
     /// Discards the pending bytes if they are too many for a line and its end, and returns how many it
     /// discarded.
-    pub(crate) fn let_go_of_long(&mut self) -> usize
+    pub(crate) fn drop_long_line(&mut self) -> usize
         ensures count { ((result ≡ 0) × (kept self.new ≡ kept self.old))
             ⊎ ((result ≡ length (kept self.old)) × (LINE_LIMIT + 1 < result) × (kept self.new ≡ [])) }
         ensures room { length (kept self.new) ≤ LINE_LIMIT + 1 }

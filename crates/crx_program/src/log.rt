@@ -185,8 +185,8 @@ impl<S: Sink> Sink for Logged<S> {
         self.inner.await_output();
     }
 
-    fn hand_on(&mut self) -> bool {
-        self.inner.hand_on()
+    fn pass_on(&mut self) -> bool {
+        self.inner.pass_on()
     }
 
     ghost took_none = { λ s. (adds_none s.log.bytes, refl, S.took_none s.inner) };

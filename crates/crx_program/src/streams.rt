@@ -107,7 +107,7 @@ pub fn run_over<H: Files, I: Read, O: Write + Drop, E: Write>(
         → DoesItsJob moment job files.old.log.calls files.new.log.calls result }
     ensures waits { result.input.inner.may_wait ≡ may_wait }
 {
-    let mut input = Logged::new(Std::new(stdin).waiting(may_wait));
+    let mut input = Logged::new(Std::new(stdin).with_waits(may_wait));
     let mut output = Logged::new(Std::new(stdout));
     let mut messages = Logged::new(Std::new(stderr));
     let ended = run_with_files(

@@ -1,6 +1,6 @@
 pub mod Cells
 pub mod Lines
-pub mod Steady
+pub mod SteadyPlaces
 pub mod OpenEpochs
 pub mod Ranges
 pub mod ReadingBack

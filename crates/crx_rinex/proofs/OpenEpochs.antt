@@ -3,7 +3,7 @@ use Rattle.std.proofs.Common.{rules, ◌≡◌, ℕ, ◌-◌, ◌<◌, zero, suc
 use Rattle.std.proofs.Common.{None, Result, refl, inl, arith, append-nil}
 use Rattle.std.{proofs.lemmas.{Grind.common_steps, Option.none-some}, specs.Prelude.⊤}
 use Rattle.crx_base.specs.{declared.fault.Fault.Fault, meaning.AsRead.{ReadLine, Content, Overlong}}
-use Rattle.crx_rinex.proofs.Steady.{steady-here, steady-first_line, steady-then}
+use Rattle.crx_rinex.proofs.SteadyPlaces.{steady-here, steady-first_line, steady-then}
 use Rattle.crx_rinex.specs.EpochPlaces.{EpochStep, Going, Whole, Faulty}
 use Rattle.crx_rinex.specs.EpochPlaces.{after_row, epoch_step, still_open, opened_by, opened_at, open_after}
 use Rattle.crx_rinex.specs.{EpochPlaces.{open_with, place_after}, Laws.{IsWantedWhereOpen, IsDecidedByOpen}}

@@ -22,7 +22,7 @@ use Rattle.crx_rinex.specs.meaning.{Places.{Done, after_lines, then_place}, Prin
 use Rattle.crx_rinex.specs.meaning.{Printing.{printed_head, printed_epoch}, SatelliteLines.{all_some, field}}
 use Rattle.crx_rinex.specs.meaning.SatelliteLines.{flags_at, flags_in, row_with, row_of}
 use Rattle.crx_rinex.specs.meaning.{SatelliteLines.{IsSoundRow, HasItsTypes}, Units.Observation}
-use Rattle.crx_header.{proofs.Apart.other_way, specs.meaning.EpochColumns.{begins_epoch, is_event_flag}}
+use Rattle.crx_header.{proofs.OtherIdentifiers.other_way, specs.meaning.EpochColumns.{begins_epoch, is_event_flag}}
 use Rattle.crx_header.specs.meaning.EpochColumns.{is_observation_flag, satellites_in, satellites_of}
 use Rattle.crx_header.specs.meaning.{EpochColumns.epoch_count, ObservationTypes.Count}
 use Rattle.crx_header.specs.meaning.Satellites.{types_of_satellite}

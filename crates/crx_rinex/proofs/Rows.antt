@@ -5,7 +5,7 @@ use Rattle.std.proofs.lemmas.{Bool.{cases_Bool, leb-true, eqb-false}, Grind.comm
 use Rattle.std.proofs.lemmas.{List.{Elements.All-push}, Slice.Eq.bytes_eq-Decides}
 use Rattle.std.specs.{List.list_any, Option.option_and_then, Str.bytes_eq}
 use Rattle.crx_base.specs.declared.limits.TheConstants.{SATELLITES_LIMIT}
-use Rattle.crx_header.proofs.Apart.{apart-push, other_way}
+use Rattle.crx_header.proofs.OtherIdentifiers.{apart-push, other_way}
 use Rattle.crx_header.specs.meaning.EpochColumns.{satellites_of, count_within_limit}
 use Rattle.crx_rinex.specs.Epochs.{with_row, is_full_epoch, AreEpochParts}
 use Rattle.crx_rinex.specs.meaning.{EpochLines.ObservationHead, Epochs.{has_satellite, IsSoundEpoch}}

@@ -11,7 +11,7 @@ use Rattle.crx_text.specs.meaning.{Numbers.{observation_of, clock_of, IsValue}, 
 use Rattle.crx_base.specs.declared.fault.Fault.{Fault, TheVariants.{BadEpoch, BadClock, BadFlags}}
 use Rattle.crx_base.specs.{declared.limits.TheConstants.SATELLITES_LIMIT, meaning.AsRead.{ReadLine, Content}}
 use Rattle.crx_base.specs.meaning.AsRead.{Overlong}
-use Rattle.crx_header.proofs.{Apart.apart-push, Counts.{allowed_of, system_of}}
+use Rattle.crx_header.proofs.{OtherIdentifiers.apart-push, Counts.{allowed_of, system_of}}
 use Rattle.crx_header.{proofs.FirstColumns.identifier_columns, specs.ObservationTypes.AreCounts}
 use Rattle.crx_header.specs.meaning.{EpochColumns.epoch_count, InOrder.◌or_else◌with◌, ObservationTypes.Count}
 use Rattle.crx_header.specs.meaning.ObservationTypes.{IsAllowedCount, count_of}

@@ -118,7 +118,7 @@ impl RowBuffer {
 
     /// Returns a count of first values; all values after them are missing.
     #[inline(always)]
-    pub fn filled(&self) -> usize
+    pub fn filled_count(&self) -> usize
         ensures missing { AreMissingFrom result self.now.values }
     {
         self.filled

@@ -8,7 +8,7 @@ use Rattle.crx_lines.specs.{Progress.{HasRead, IsStopped}, declared.phase.Phase.
 use Rattle.crx_base.specs.{declared.fault.Fault.Fault, meaning.Lines.{InputLine, lines_of}}
 use Rattle.crx_base.specs.declared.{limits.TheConstants.INPUT_LIMIT}
 use Rattle.crx_base.specs.declared.fault.{Fault.TheVariants.{ReadFailed, OutOfMemory}, At.At}
-use Rattle.crx_runs.proofs.{Salvaged.{AskedOnce, is-open, none-failed, asked-once}, RunEndings.next-stands}
+use Rattle.crx_runs.proofs.{StateAfterRuns.{AskedOnce, is-open, none-failed, asked-once}, RunEndings.next-stands}
 use Rattle.crx_runs.proofs.RunEndings.{handing-stands, reader-stands, start-stands, flush-stands, StandsAfter}
 use Rattle.crx_runs.proofs.{RunEndings.well-front, DeviceSpans.{Joins, took-still}}
 use Rattle.crx_lines.specs.meaning.Devices.{with_failed_flush}

@@ -4,6 +4,6 @@ pub mod LineEndings
 pub mod LinesTaken
 pub mod StepReading
 pub mod RunningSteps
-pub mod Salvaged
+pub mod StateAfterRuns
 pub mod RunEndings
 pub mod Conclusions

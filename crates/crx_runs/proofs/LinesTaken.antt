@@ -12,7 +12,7 @@ use Rattle.crx_runs.specs.Engines.{Adds, Awaited, awaited_notices, EngineAnswers
 use Rattle.crx_runs.specs.Engines.{Stays, answer_given, shown_with}
 use Rattle.crx_runs.specs.Taking.{Becomes, IsLineAfter, IsSettled, TakesNext, WasAnswered, made_by, step_notices}
 use Rattle.crx_runs.specs.declared.engine.Engine.{Ghosts as EngineGhosts}
-use Rattle.crx_runs.specs.declared.engine.HandedOut.{HandedOut, TheVariants.{Nothing, Lines, AsItIs}}
+use Rattle.crx_runs.specs.declared.engine.LineOutput.{LineOutput, TheVariants.{Nothing, Lines, AsItIs}}
 use Rattle.crx_runs.specs.declared.engine.Step.{Step, TheVariants.{Quiet, Ready, Warned}}
 use Rattle.crx_runs.specs.declared.one_line.Halt.{Halt}
 use Rattle.crx_runs.specs.declared.one_line.Halt.TheVariants.{Fault, Unwritten}
@@ -122,7 +122,7 @@ module _ {writer1 writer2 writer messages1 messages2 messages : Device} (w : Joi
       rw (is) (line-cut step drained a halt s)
 
   -- a line with output
-  pub handed-becomes : (out : HandedOut) (stored : Result Step At)
+  pub handed-becomes : (out : LineOutput) (stored : Result Step At)
       → EngineAnswers filter (engine.shows then) (engine.has_ended then) ready lines earlier next
       (answer_given (Some out) stored)
       → IfOk (answer_given (Some out) stored) (λ step. IsDrainedAfter step ready) → (shown : Type 0)

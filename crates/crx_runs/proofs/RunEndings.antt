@@ -8,10 +8,10 @@ use Rattle.crx_base.specs.declared.fault.{At.At, Fault.Fault, Fault.TheVariants.
 use Rattle.crx_base.specs.meaning.Lines.{InputLine}
 use Rattle.crx_runs.proofs.DeviceSpans.{Joins, all-still, notices-append, part-more, part-still, part-then}
 use Rattle.crx_runs.proofs.DeviceSpans.{took-still}
-use Rattle.crx_runs.proofs.Salvaged.{complete-stopped, all-read, all-so-far, taken-read, turn-read}
-use Rattle.crx_runs.proofs.Salvaged.{begins-itself, begins-taken, first-after-turn}
-use Rattle.crx_runs.proofs.Salvaged.{first-before-turn, first-taken}
-use Rattle.crx_runs.proofs.Salvaged.{first-complete}
+use Rattle.crx_runs.proofs.StateAfterRuns.{complete-stopped, all-read, all-so-far, taken-read, turn-read}
+use Rattle.crx_runs.proofs.StateAfterRuns.{begins-itself, begins-taken, first-after-turn}
+use Rattle.crx_runs.proofs.StateAfterRuns.{first-before-turn, first-taken}
+use Rattle.crx_runs.proofs.StateAfterRuns.{first-complete}
 use Rattle.crx_runs.specs.Endings.{EndsAt, EndsBy, HandingFailed, ReaderStopped}
 use Rattle.crx_runs.specs.Endings.{StoppedAtStart, WellDone, Finishes, IsReported, IsFlushed}
 use Rattle.crx_runs.specs.{Endings.{FlushFailed, write_failed_at}, Lawful.{IsLawful, is_of_lines}}

@@ -9,8 +9,8 @@ use Rattle.crx_runs.specs.meaning.Results.{Course}
 use Rattle.crx_base.specs.meaning.Lines.{lines_text}
 use Rattle.crx_runs.specs.meaning.Filters.{Filter, course_with, memory_with, with_next}
 use Rattle.crx_runs.specs.meaning.Spans.{AreNext}
-use Rattle.crx_runs.specs.declared.engine.HandedOut.{HandedOut}
-use Rattle.crx_runs.specs.declared.engine.HandedOut.TheVariants.{Nothing, Lines, AsItIs}
+use Rattle.crx_runs.specs.declared.engine.LineOutput.{LineOutput}
+use Rattle.crx_runs.specs.declared.engine.LineOutput.TheVariants.{Nothing, Lines, AsItIs}
 use Rattle.crx_runs.specs.declared.engine.Step.{Step}
 use Rattle.crx_runs.specs.declared.engine.Step.TheVariants.{Quiet, Ready, Warned}
 
@@ -35,14 +35,14 @@ IsDrainedAfter Quiet ready = ready ≡ []
 IsDrainedAfter (Warned notice again) ready = ready ≡ []
 
 -- the answer to a line: by its output, or the stored answer
-abbrev pub answer_given : Option HandedOut → Result Step At → Result Step At
+abbrev pub answer_given : Option LineOutput → Result Step At → Result Step At
 answer_given None kept = kept
 answer_given (Some Nothing) kept = Ok Quiet
 answer_given (Some Lines) kept = Ok Ready
 answer_given (Some AsItIs) kept = Ok Ready
 
 -- the output of a line: the pending lines and, if the line is copied, the line itself after them
-abbrev pub lines_handed_out : Option HandedOut → List ℕ → List (List ℕ) → List (List ℕ)
+abbrev pub lines_handed_out : Option LineOutput → List ℕ → List (List ℕ) → List (List ℕ)
 lines_handed_out (Some AsItIs) line ready = ready ++ line ∷ []
 lines_handed_out handed_out line ready = ready
 

@@ -33,7 +33,7 @@ pub enum Step {
 
 /// The output of a line without a fault.
 #[derive(Clone, Copy, Debug, PartialEq, Eq)]
-pub enum HandedOut {
+pub enum LineOutput {
     /// No output yet.
     Nothing,
     /// The pending lines.
@@ -67,7 +67,7 @@ pub trait Engine {
 
     /// Takes a line. `Some` is its output, with nothing to report; after `None`, [`Engine::answer`] has the warning or
     /// fault.
-    fn take(&mut self, line: Line<'_>) -> Option<HandedOut>
+    fn take(&mut self, line: Line<'_>) -> Option<LineOutput>
         requires next { IsNextLine (ready self.old) (taken self.old) (line_number line) }
         ensures stepped { HasStepped (filter self.old) (filter self.new)
             (lines_handed_out result (line_shown line.entry).content (ready self.new)) (answer_given result (answer self.new)) }

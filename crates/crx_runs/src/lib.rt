@@ -12,7 +12,7 @@ pub mod start;
 pub mod stepwise;
 pub mod until_failure;
 
-pub use engine::{Engine, HandedOut, Step};
+pub use engine::{Engine, LineOutput, Step};
 pub use outcome::Outcome;
 pub use stepwise::{Run, StepOutcome};
 pub use until_failure::UntilFailure;

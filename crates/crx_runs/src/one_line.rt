@@ -10,9 +10,9 @@ ghost use Rattle.crx_runs.specs.declared.one_line.Halt.TheVariants as halts;
 ghost use Rattle.crx_runs.specs.Taking.{EndWarns, HasHandedOut, HoldsAnswer, IsLineAfter, IsSettled, TakesNext, IsTouchedBy, KeepsLines, KeepsOrder, ReportsLast, made_by, WasAnswered};
 ghost use Rattle.crx_runs.specs.meaning.Spans.{span};
 
-use crate::engine::{Engine, HandedOut, Step};
+use crate::engine::{Engine, LineOutput, Step};
 use crate::message::{Severity, message};
-use crate::ready_lines::{write_handed_out, write_ready};
+use crate::ready_lines::{write_line_output, write_ready};
 use crx_base::At;
 use crx_lines::{Line, Sink, WriteFailed, write_all_counted};
 
@@ -76,7 +76,7 @@ fn write_step<E: Engine, W: Sink, M: Sink>(
             Err(_) => Err(Halt::Unwritten),
         },
         Step::Warned { notice, .. } => {
-            writer.hand_on();
+            writer.pass_on();
             report_warning(writer, messages, notice)
         }
     }
@@ -86,7 +86,7 @@ fn write_step<E: Engine, W: Sink, M: Sink>(
 /// instead ([`Engine::answer`]), and `WriteFailed` if the writer fails. `_messages` is only in the contract: nothing is
 /// reported.
 #[inline(always)]
-pub(crate) fn hand_out<E: Engine, W: Sink, M: Sink>(
+pub(crate) fn feed_line<E: Engine, W: Sink, M: Sink>(
     engine: &mut E,
     writer: &mut W,
     _messages: &M,
@@ -99,9 +99,9 @@ pub(crate) fn hand_out<E: Engine, W: Sink, M: Sink>(
     ensures awaited { W.is_awaited writer.new ≡ W.is_awaited writer.old }
 {
     match engine.take(line) {
-        Some(HandedOut::Nothing) => Ok(true),
+        Some(LineOutput::Nothing) => Ok(true),
         Some(handed_out) => {
-            write_handed_out(engine, writer, line.bytes(), handed_out)?;
+            write_line_output(engine, writer, line.bytes(), handed_out)?;
             Ok(true)
         }
         None => Ok(false),
@@ -112,7 +112,7 @@ pub(crate) fn hand_out<E: Engine, W: Sink, M: Sink>(
 /// there was a warning, or why the run ends.
 #[cold]
 #[inline(never)]
-pub(crate) fn take_again<E: Engine, W: Sink, M: Sink>(
+pub(crate) fn carry_out_answer<E: Engine, W: Sink, M: Sink>(
     engine: &mut E,
     writer: &mut W,
     messages: &mut M,
@@ -129,7 +129,7 @@ pub(crate) fn take_again<E: Engine, W: Sink, M: Sink>(
         return Ok(warned);
     };
     match engine.take(line) {
-        Some(handed_out) => match write_handed_out(engine, writer, line.bytes(), handed_out) {
+        Some(handed_out) => match write_line_output(engine, writer, line.bytes(), handed_out) {
             Ok(()) => Ok(warned),
             Err(_) => Err(Halt::Unwritten),
         },
@@ -155,9 +155,9 @@ pub fn take_line<E: Engine, W: Sink, M: Sink>(
         (span W.Sink writer.old writer.new) (span M.Sink messages.old messages.new) result }
     ensures order { KeepsOrder W.Sink writer.old writer.new messages.old messages.new }
 {
-    match hand_out(engine, writer, messages, line) {
+    match feed_line(engine, writer, messages, line) {
         Ok(true) => Ok(false),
-        Ok(false) => take_again(engine, writer, messages, line),
+        Ok(false) => carry_out_answer(engine, writer, messages, line),
         Err(_) => Err(Halt::Unwritten),
     }
 }

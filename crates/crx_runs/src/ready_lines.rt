@@ -6,7 +6,7 @@ ghost use Rattle.crx_runs.specs.Engines.{lines_handed_out};
 ghost use Rattle.crx_runs.specs.Taking.{KeepsLines};
 ghost use Rattle.crx_runs.specs.meaning.Spans.{TookAll, TookPart, span};
 
-use crate::engine::{Engine, HandedOut};
+use crate::engine::{Engine, LineOutput};
 use crx_lines::{Sink, WriteFailed, write_all_counted};
 
 /// Writes the engine's pending lines, each with LF: usually as one text, one by one if the engine doesn't have them as
@@ -39,14 +39,14 @@ pub(crate) fn write_ready<E: Engine, W: Sink>(
     Ok(())
 }
 
-/// Writes the pending lines and, if the line is copied (`HandedOut::AsItIs`), `content` with LF after them. Returns
+/// Writes the pending lines and, if the line is copied (`LineOutput::AsItIs`), `content` with LF after them. Returns
 /// `WriteFailed` if the writer fails.
 #[inline(never)]
-pub(crate) fn write_handed_out<E: Engine, W: Sink>(
+pub(crate) fn write_line_output<E: Engine, W: Sink>(
     engine: &mut E,
     writer: &mut W,
     content: &[u8],
-    handed_out: HandedOut,
+    handed_out: LineOutput,
 ) -> Result<(), WriteFailed>
     ensures drained { OnOk result (E.ready engine.new ≡ []) }
     ensures kept { KeepsLines E.Engine engine.old engine.new }
@@ -57,7 +57,7 @@ pub(crate) fn write_handed_out<E: Engine, W: Sink>(
     ensures awaited { W.is_awaited writer.new ≡ W.is_awaited writer.old }
 {
     write_ready(engine, writer)?;
-    if let HandedOut::AsItIs = handed_out {
+    if let LineOutput::AsItIs = handed_out {
         if let Err((_, failed)) = write_all_counted(writer, content) {
             return Err(failed);
         }

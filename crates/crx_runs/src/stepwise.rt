@@ -13,7 +13,7 @@ ghost use Rattle.crx_runs.specs.declared.one_line.Halt.{Halt};
 ghost use Rattle.crx_runs.specs.meaning.Spans.{TookAll, reader_span, span};
 
 use crate::engine::Engine;
-use crate::one_line::{Halt, hand_out, take_again, take_end, take_line, take_overlong};
+use crate::one_line::{Halt, carry_out_answer, feed_line, take_end, take_line, take_overlong};
 use crx_base::Fault;
 use crx_lines::phase::Phase;
 use crx_lines::{Line, LineReader, Sink, Source};
@@ -77,14 +77,14 @@ fn take_answer<E: Engine, W: Sink, M: Sink>(
     ensures order { KeepsOrder W.Sink writer.old writer.new messages.old messages.new }
     ensures kept { IsEndKept result ended.old ended.new }
 {
-    stop(ended, take_again(engine, writer, messages, line))
+    stop(ended, carry_out_answer(engine, writer, messages, line))
 }
 
 /// Passes all output on if a read may have to wait; returns whether that succeeded. After a failure the writer is
 /// flushed too, so that the failure is counted.
 #[cold]
 #[inline(never)]
-fn hand_on<R: Source, W: Sink>(reader: &R, writer: &mut W) -> bool
+fn pass_on_before_wait<R: Source, W: Sink>(reader: &R, writer: &mut W) -> bool
     ensures still { result ≡ true → TookAll (span W.Sink writer.old writer.new) [] }
     ensures waited { result ≡ true → R.waits reader.now ≡ true → W.is_awaited writer.new ≡ true }
     ensures current { result ≡ true → W.is_awaited writer.new ≡ true → W.is_current writer.new }
@@ -94,7 +94,7 @@ fn hand_on<R: Source, W: Sink>(reader: &R, writer: &mut W) -> bool
     if reader.may_wait() {
         writer.await_output();
     }
-    if writer.hand_on() {
+    if writer.pass_on() {
         return true;
     }
     match writer.flush() {
@@ -163,7 +163,7 @@ impl<E: Engine + Drop> Run<E> {
         ensures awaited { R.waits reader.old ≡ false → W.is_awaited writer.new ≡ W.is_awaited writer.old }
     {
         match self.input.next_held() {
-            Ok(Some(line)) => match hand_out(&mut self.engine, writer, messages, line) {
+            Ok(Some(line)) => match feed_line(&mut self.engine, writer, messages, line) {
                 Ok(true) => StepOutcome::Taken,
                 Ok(false) => {
                     take_answer(&mut self.engine, &mut self.ended, writer, messages, line)
@@ -171,7 +171,7 @@ impl<E: Engine + Drop> Run<E> {
                 Err(_) => self.fail_to_write(),
             },
             Ok(None) => {
-                if !hand_on(reader, writer) {
+                if !pass_on_before_wait(reader, writer) {
                     return self.fail_to_write();
                 }
                 self.read_step(reader, writer, messages)

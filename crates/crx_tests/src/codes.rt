@@ -1,7 +1,7 @@
 //! Codes: their forms and their printed texts.
 
 use crate::expecting::expect;
-use crate::texts::shown;
+use crate::texts::as_text;
 use crx_text::{BadField, Code, Text, code_print, code_read};
 
 /// Differences, and their printed texts.
@@ -22,7 +22,7 @@ fn prints(difference: i64, digits: &[u8]) -> bool {
 #[test]
 fn texts_of_steps(rt: HostRuntime) {
     for (difference, digits) in STEPS {
-        expect(&rt, prints(*difference, digits), shown(digits));
+        expect(&rt, prints(*difference, digits), as_text(digits));
     }
 }
 
@@ -46,6 +46,6 @@ const FORMS: &[(&[u8], Result<Code, BadField>)] = &[
 #[test]
 fn forms_of_codes(rt: HostRuntime) {
     for (text, code) in FORMS {
-        expect(&rt, code_read(text) == *code, shown(text));
+        expect(&rt, code_read(text) == *code, as_text(text));
     }
 }

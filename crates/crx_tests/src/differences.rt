@@ -1,7 +1,7 @@
 //! Position-wise differences of texts, and back.
 
 use crate::expecting::{expect, expect_at};
-use crate::texts::shown;
+use crate::texts::as_text;
 use crx_base::limits::LINE_LIMIT;
 use crx_text::{Text, diff_text, patch_text, trim_end};
 use std::process::Abort;
@@ -30,7 +30,7 @@ fn marks_of_texts(rt: HostRuntime) {
     assert!(rt; old.extend(OLD).is_ok());
     let mut marks = Text::new();
     for row in MARKS {
-        expect(&rt, has_marks(&old, &mut marks, row), shown(row.0));
+        expect(&rt, has_marks(&old, &mut marks, row), as_text(row.0));
     }
 }
 
@@ -54,7 +54,7 @@ fn texts_of_marks(rt: HostRuntime) {
     assert!(rt; old.extend(OLD).is_ok());
     let mut text = Text::new();
     for row in PATCHES {
-        expect(&rt, gives(&old, &mut text, row), shown(row.0));
+        expect(&rt, gives(&old, &mut text, row), as_text(row.0));
     }
 }
 

@@ -176,7 +176,7 @@ fn lines_within(text: &[u8], bytes: usize) -> usize {
     lines
 }
 
-fn ended(at: At) -> Outcome {
+fn outcome_at(at: At) -> Outcome {
     Outcome {
         status: 1,
         fault: Some(at),

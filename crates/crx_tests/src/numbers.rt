@@ -1,7 +1,7 @@
 //! Numbers in columns: their forms.
 
 use crate::expecting::expect;
-use crate::texts::shown;
+use crate::texts::as_text;
 use crx_text::{BadField, clock_read, obs_read};
 
 /// Fields, and their values.
@@ -21,7 +21,7 @@ const OBSERVATIONS: Fields<'_> = &[
 #[test]
 fn forms_of_observations(rt: HostRuntime) {
     for (field, value) in OBSERVATIONS {
-        expect(&rt, obs_read(field) == *value, shown(field));
+        expect(&rt, obs_read(field) == *value, as_text(field));
     }
 }
 
@@ -38,6 +38,6 @@ const CLOCK_OFFSETS: Fields<'_> = &[
 #[test]
 fn forms_of_clock_offsets(rt: HostRuntime) {
     for (field, value) in CLOCK_OFFSETS {
-        expect(&rt, clock_read(field) == *value, shown(field));
+        expect(&rt, clock_read(field) == *value, as_text(field));
     }
 }

@@ -1,7 +1,7 @@
 //! Dates that are accepted or refused.
 
 use crate::expecting::expect;
-use crate::texts::shown;
+use crate::texts::as_text;
 use crx_filter::Options;
 
 /// Dates, and whether they are accepted.
@@ -27,6 +27,6 @@ fn is_so(date: &[u8], good: bool) -> bool {
 #[test]
 fn refuses_long_dates_and_other_bytes(rt: HostRuntime) {
     for (date, good) in DATES {
-        expect(&rt, is_so(date, *good), shown(date));
+        expect(&rt, is_so(date, *good), as_text(date));
     }
 }

@@ -77,7 +77,7 @@ const TWICE: Answer = Answer {
 };
 
 /// Returns the number of the last line that counts, after a line that was fed once.
-fn counted(step: Step, taken: u64) -> u64
+fn number_after(step: Step, taken: u64) -> u64
     requires { taken < 1000 }
     ensures { result ≡ taken_after step taken }
 {

@@ -115,7 +115,7 @@ pub fn text(alloc: Global, names: &str) -> Result<Vec<u8>, AllocError> {
 }
 
 /// Returns bytes as a text for a message, or an empty text if they are none.
-pub fn shown(bytes: &[u8]) -> &str {
+pub fn as_text(bytes: &[u8]) -> &str {
     match str::from_utf8(bytes) {
         Ok(text) => text,
         Err(_) => "",

@@ -5,7 +5,7 @@ ghost use Rattle.std.specs.Option.{option_map};
 ghost use Rattle.std.specs.Result.{result_ok};
 
 use crate::code_digits::{FEW, digits_before_blank, row_number, write_signed};
-use crate::digits::{signed, split_minus, split_minus_of_cell};
+use crate::digits::{split_minus, split_minus_of_cell, with_sign};
 use crate::lanes::LANES;
 use crate::number::BadField;
 use crate::text::{Text, TextFull};
@@ -184,7 +184,7 @@ pub fn step_of_length(line: Padded<'_>, at: usize, characters: usize) -> Option<
         return None;
     }
     let size = row_number(digits, count)?;
-    Some(signed(is_below, size))
+    Some(with_sign(is_below, size))
 }
 
 // Returns the number before a text's first blank, or up to its end, and the index after the blank. Returns
@@ -198,5 +198,5 @@ fn number_before_blank(text: &[u8]) -> Option<(i64, usize)>
 {
     let (is_below, digits) = split_minus(text);
     let (size, next) = digits_before_blank(digits)?;
-    Some((signed(is_below, size), next + usize::from(is_below)))
+    Some((with_sign(is_below, size), next + usize::from(is_below)))
 }

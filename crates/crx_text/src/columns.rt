@@ -48,7 +48,7 @@ pub fn all_blank(text: &[u8]) -> bool
 
 /// Returns `width` columns from `first` on, without the blanks at their end.
 #[tactic(auto, using(crate::proofs::Blanks::end_blanks_columns))]
-pub fn end_trimmed(line: &[u8], first: usize, width: usize) -> &[u8]
+pub fn trim_end_columns(line: &[u8], first: usize, width: usize) -> &[u8]
     requires from_one { 1 ≤ first }
     ensures value { result.now ≡ without_end_blanks (columns line.now first width) }
 {
@@ -57,7 +57,7 @@ pub fn end_trimmed(line: &[u8], first: usize, width: usize) -> &[u8]
 
 /// Returns `width` columns from `first` on, without the blanks at both ends.
 #[tactic(auto, using(crate::proofs::Blanks::blanks_columns))]
-pub fn trimmed(line: &[u8], first: usize, width: usize) -> &[u8]
+pub fn trim_columns(line: &[u8], first: usize, width: usize) -> &[u8]
     requires from_one { 1 ≤ first }
     ensures value { result.now ≡ without_blanks (columns line.now first width) }
     ensures within { length result.now ≤ width }

@@ -53,7 +53,7 @@ pub(crate) fn split_minus_of_cell(text: &[u8]) -> (bool, &[u8])
 
 // Returns the number of this size, below zero if `is_below`.
 #[inline(always)]
-pub(crate) fn signed(is_below: bool, size: u64) -> i64
+pub(crate) fn with_sign(is_below: bool, size: u64) -> i64
     requires { size < 2 ^ 63 }
     ensures { result ≡ signed_number is_below size }
 {

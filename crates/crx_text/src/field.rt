@@ -9,7 +9,7 @@ ghost use Rattle.crx_text.specs.Fields.{IsPlain, weighed, plain_digits};
 ghost use Rattle.crx_text.specs.Numbers.{IsObservation};
 ghost use Rattle.crx_text.specs.meaning.Numbers.{signed_number};
 
-use crate::digits::signed;
+use crate::digits::with_sign;
 use std::simd::prelude::*;
 
 // The lanes of a field's columns among the 16.
@@ -76,5 +76,5 @@ pub(crate) fn value(columns: u8x16) -> i64
         .saturating_sub(u8x16::splat(b'0'))
         .swizzle([1, 2, 3, 0, 4, 5, 6, 0, 7, 8, 9, 0, 11, 12, 13, 0]);
     let size = of_groups(digits.dot4(u8x16::from_array(WEIGHTS)));
-    signed(has_minus, size)
+    with_sign(has_minus, size)
 }

@@ -13,7 +13,7 @@ ghost use Rattle.crx_text.specs.Numbers.{IsObservation, IsClock};
 ghost use Rattle.crx_text.specs.meaning.Texts.{is_kept};
 
 use crate::columns::trim_start;
-use crate::digits::{WIDEST, digits_read, signed, split_minus};
+use crate::digits::{WIDEST, digits_read, split_minus, with_sign};
 use crate::text::Text;
 use crate::{field, field_text};
 use crx_base::limits::{
@@ -188,7 +188,7 @@ fn number_read(field: &[u8], width: usize, decimals: usize) -> Result<Option<i64
     let Some(size) = digits_read(whole, &rest[point + 1..]) else {
         return Err(BadField);
     };
-    Ok(Some(signed(is_below, size)))
+    Ok(Some(with_sign(is_below, size)))
 }
 
 // Prints a number right justified, digit by digit.

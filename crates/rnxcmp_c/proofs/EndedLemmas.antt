@@ -1,12 +1,12 @@
 -- The promises of a run about files follow from its result, by the laws.
 use Rattle.std.proofs.{Common.{rules, arith}, lemmas.Grind.common_steps}
-use Rattle.rnxcmp_c.proofs.Words.{◌≡◌, ◌⊎◌, ℕ, List, true, code_of_fault, InputTooLong, Choices, expanded}
-use Rattle.rnxcmp_c.proofs.Words.{checked, what-passes, FilterResult, Answer, OUTPUT_LIMIT, BothTexts}
-use Rattle.rnxcmp_c.proofs.Words.{HasNoMemory, RunHasEnded, RunHasResult, StopsAtLimit, StopsForMemory}
-use Rattle.rnxcmp_c.proofs.Words.{StopsWhenFull, Task, Compact, Expand}
-use Rattle.rnxcmp_c.proofs.Words.{Check, run_for, CallBringsBackWhatPasses}
-use Rattle.rnxcmp_c.proofs.{Kept.brings-back, Lossless.brings-back_passed}
-use Rattle.rnxcmp_c.proofs.Words.{CallBringsBackWhatWasCompacted, CallSavesAllElse}
+use Rattle.rnxcmp_c.proofs.Vocabulary.{◌≡◌, ◌⊎◌, ℕ, List, true, code_of_fault, InputTooLong, Choices, expanded}
+use Rattle.rnxcmp_c.proofs.Vocabulary.{checked, what-passes, FilterResult, Answer, OUTPUT_LIMIT, BothTexts}
+use Rattle.rnxcmp_c.proofs.Vocabulary.{HasNoMemory, RunHasEnded, RunHasResult, StopsAtLimit, StopsForMemory}
+use Rattle.rnxcmp_c.proofs.Vocabulary.{StopsWhenFull, Task, Compact, Expand}
+use Rattle.rnxcmp_c.proofs.Vocabulary.{Check, run_for, CallBringsBackWhatPasses}
+use Rattle.rnxcmp_c.proofs.{PromisesOfCalls.brings-back, Lossless.brings-back_passed}
+use Rattle.rnxcmp_c.proofs.Vocabulary.{CallBringsBackWhatWasCompacted, CallSavesAllElse}
 use Rattle.rnxcmp_c.specs.meaning.Ended.{CheckPromises, ExpansionPromises}
 use Rattle.rnxcmp_c.specs.meaning.Stretches.{CallKeepsUndamaged, CallWritesWholeUnits}
 use Rattle.crx_filter.proofs.{damage.DamageStays.all-saved, standard.CheckStandard.named-where_not}
@@ -14,7 +14,7 @@ use Rattle.crx_filter.proofs.accounts.ByResults.{compaction-keeps, expansion-kee
 use Rattle.crx_filter.specs.meaning.{ByResults.ExpansionKeeps, CompactText.ReadsAnyText}
 use Rattle.rnxcmp_c.specs.meaning.Kept.{TaskKeeps}
 use Rattle.crx_filter.proofs.stretches.StretchesSaved.{rest-kept}
-use Rattle.crx_filter.proofs.anywriter.{AnyRun.reads-any, AnyText.first-units, OnlyTexts.only-text}
+use Rattle.crx_filter.proofs.anywriter.{RunsOfAnyText.reads-any, AnyText.first-units, AcceptedTexts.only-text}
 
 -- the promises of an expansion follow from its result
 pub record KeepsPromises (holds : FilterResult → Type 0) (choices : Choices) (text : List ℕ) : Type 0 where

@@ -1,8 +1,8 @@
 -- How many bytes a call uses of those that the input may still have.
 use Rattle.std.proofs.lemmas.Grind.{common_steps}
-use Rattle.rnxcmp_c.proofs.Words.{◌≡◌, ℕ, ◌-◌, ◌<◌, false, true, List, length, take, arith, length-append}
-use Rattle.rnxcmp_c.proofs.Words.{INPUT_LIMIT}
-use Rattle.rnxcmp_c.proofs.Words.{HandleState, BothTexts, Task, run_for, texts_of_held, ready_in, READY_LIMIT}
+use Rattle.rnxcmp_c.proofs.Vocabulary.{◌≡◌, ℕ, ◌-◌, ◌<◌, false, true, List, length, take, arith, length-append}
+use Rattle.rnxcmp_c.proofs.Vocabulary.{INPUT_LIMIT}
+use Rattle.rnxcmp_c.proofs.Vocabulary.{HandleState, BothTexts, Task, run_for, texts_of_held, ready_in, READY_LIMIT}
 use Rattle.rnxcmp_c.specs.{Going.IsTaken, Past.StopsSoon, meaning.Handles.TakesBytes}
 
 module _ (task : Task) (fed : List ℕ) (taken : BothTexts) (bytes allowed : List ℕ)

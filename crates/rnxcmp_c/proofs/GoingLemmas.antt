@@ -1,17 +1,17 @@
 -- The bytes that are fed continue a run or stop it.
 use Rattle.std.proofs.{Common.{rules, ◌≢◌, slice_index}, lemmas.{Grind.common_steps, List.get_or-take}}
 use Rattle.std.proofs.lemmas.List.Elements.{All-append, All-from_get_or}
-use Rattle.rnxcmp_c.proofs.Words.{Some, ◌≡◌, inl, inr, ℕ, ◌+◌, ◌-◌, ◌<◌, ◌≤◌, ⊎_elim}
-use Rattle.rnxcmp_c.proofs.Words.{true, false, List, [], ◌∷◌, ◌++◌, length, take, drop, None, refl, sym, ap}
-use Rattle.rnxcmp_c.proofs.Words.{◌∙◌, arith, append-nil, append_assoc, length-append}
-use Rattle.rnxcmp_c.proofs.Words.{length-take, InputLine, lines_of, BothTexts, TaskRun}
-use Rattle.rnxcmp_c.proofs.Words.{ended_lines_of, HasNoFeed, At, IsLawful, Filter, with_next, notices_text}
-use Rattle.rnxcmp_c.proofs.Words.{Begins, Course, are_some, HandleState, IsText, IsGoing, MovesOn}
-use Rattle.rnxcmp_c.proofs.Words.{with_one_more, piece_line, FilterResult, result_of_course}
-use Rattle.rnxcmp_c.proofs.Words.{IsAll, StopsShort, MovesWithin, OutOfMemory, StopsForMemory}
-use Rattle.rnxcmp_c.proofs.Words.{StepStops, ready_in, LINE_ROOM}
-use Rattle.rnxcmp_c.proofs.Words.{on_ok_weaker, IfErr-weaker, Result}
-use Rattle.rnxcmp_c.proofs.Words.{READY_LIMIT, Stop, Fault, Limit, line_reached, memory_next}
+use Rattle.rnxcmp_c.proofs.Vocabulary.{Some, ◌≡◌, inl, inr, ℕ, ◌+◌, ◌-◌, ◌<◌, ◌≤◌, ⊎_elim}
+use Rattle.rnxcmp_c.proofs.Vocabulary.{true, false, List, [], ◌∷◌, ◌++◌, length, take, drop, None, refl, sym, ap}
+use Rattle.rnxcmp_c.proofs.Vocabulary.{◌∙◌, arith, append-nil, append_assoc, length-append}
+use Rattle.rnxcmp_c.proofs.Vocabulary.{length-take, InputLine, lines_of, BothTexts, TaskRun}
+use Rattle.rnxcmp_c.proofs.Vocabulary.{ended_lines_of, HasNoFeed, At, IsLawful, Filter, with_next, notices_text}
+use Rattle.rnxcmp_c.proofs.Vocabulary.{Begins, Course, are_some, HandleState, IsText, IsGoing, MovesOn}
+use Rattle.rnxcmp_c.proofs.Vocabulary.{with_one_more, piece_line, FilterResult, result_of_course}
+use Rattle.rnxcmp_c.proofs.Vocabulary.{IsAll, StopsShort, MovesWithin, OutOfMemory, StopsForMemory}
+use Rattle.rnxcmp_c.proofs.Vocabulary.{StepStops, ready_in, LINE_ROOM}
+use Rattle.rnxcmp_c.proofs.Vocabulary.{on_ok_weaker, IfErr-weaker, Result}
+use Rattle.rnxcmp_c.proofs.Vocabulary.{READY_LIMIT, Stop, Fault, Limit, line_reached, memory_next}
 use Rattle.rnxcmp_c.specs.{Counting.take-of_taken, Past.StopsSoon}
 use Rattle.rnxcmp_c.specs.Going.{IsSoFar, EndStaysWithin, IsLineEnded, RunIsStopped, LastIsTaken, StopsAs}
 use Rattle.rnxcmp_c.specs.Going.{StopsEarly}

@@ -1,14 +1,14 @@
 -- A handle stays sound from call to call.
 use Rattle.std.proofs.{lemmas.Grind.common_steps}
 use Rattle.rnxcmp_c.proofs.PieceLemmas.{none-or}
-use Rattle.rnxcmp_c.proofs.Words.{◌≡◌, ◌⊎◌, inl, inr, ℕ, ◌<◌, ◌≤◌, ◌-◌, List, [], ◌++◌, length, Option}
-use Rattle.rnxcmp_c.proofs.Words.{Some, None, take, drop, refl, arith, append-nil, length-append, ⊎_elim}
-use Rattle.rnxcmp_c.proofs.Words.{lines_of}
-use Rattle.rnxcmp_c.proofs.Words.{ended_lines_of, ended_lines-come_first, Outcome, ReaderRuns, FeedsBy}
-use Rattle.rnxcmp_c.proofs.Words.{HasEndedBy, HasFedBy, ReaderStands, BothTexts, rooms}
-use Rattle.rnxcmp_c.proofs.Words.{StandsBy, FilterResult, answer_now, is_some, false, limit_for, FeedsBytes}
-use Rattle.rnxcmp_c.proofs.Words.{HasFed}
-use Rattle.rnxcmp_c.proofs.Words.{Task, Answer, AnyEngine, HandleState, Reader}
+use Rattle.rnxcmp_c.proofs.Vocabulary.{◌≡◌, ◌⊎◌, inl, inr, ℕ, ◌<◌, ◌≤◌, ◌-◌, List, [], ◌++◌, length, Option}
+use Rattle.rnxcmp_c.proofs.Vocabulary.{Some, None, take, drop, refl, arith, append-nil, length-append, ⊎_elim}
+use Rattle.rnxcmp_c.proofs.Vocabulary.{lines_of}
+use Rattle.rnxcmp_c.proofs.Vocabulary.{ended_lines_of, ended_lines-come_first, Outcome, ReaderRuns, FeedsBy}
+use Rattle.rnxcmp_c.proofs.Vocabulary.{HasEndedBy, HasFedBy, ReaderStands, BothTexts, rooms}
+use Rattle.rnxcmp_c.proofs.Vocabulary.{StandsBy, FilterResult, answer_now, is_some, false, limit_for, FeedsBytes}
+use Rattle.rnxcmp_c.proofs.Vocabulary.{HasFed}
+use Rattle.rnxcmp_c.proofs.Vocabulary.{Task, Answer, AnyEngine, HandleState, Reader}
 use Rattle.rnxcmp_c.specs.Handles.{IsFresh, IsOverWith, ReaderEndsBy, ReaderHasEnded, ReaderHasPassed}
 use Rattle.rnxcmp_c.specs.Holding.{HoldsNothing}
 use Rattle.rnxcmp_c.proofs.{GoingLemmas.early-weaker, ReaderLemmas.{ended-as, lawful-for}}

@@ -1,10 +1,10 @@
 -- The machine values of a `Loose` and of a `OnceBox`. Assumes `Logic`.
 use Rattle.std.proofs.{Common.{arith, ℕ}, lemmas.Grind.common_steps}
-use Rattle.rnxcmp_c.proofs.RawWords.{◌≡◌, List, [], ◌∷◌, refl, Ura, Val, vstruct, vcons, vnil, Logic, Item}
-use Rattle.rnxcmp_c.proofs.RawWords.{Goal, Step, step, ‵, ◌$◌, fjoin, fpack, feq_i, Valss, RawPtr, nothing}
-use Rattle.rnxcmp_c.proofs.RawWords.{within, shape, dnil, vptr, fst∗, sem, move, drop, fsplit, fpick, feq_l}
-use Rattle.rnxcmp_c.proofs.RawWords.{RattleType, block_ptr, in_a_block, layout, Al, handle_tells, Good}
-use Rattle.rnxcmp_c.proofs.RawWords.{box_owns}
+use Rattle.rnxcmp_c.proofs.PointerVocabulary.{◌≡◌, List, [], ◌∷◌, refl, Ura, Val, vstruct, vcons, vnil, Logic, Item}
+use Rattle.rnxcmp_c.proofs.PointerVocabulary.{Goal, Step, step, ‵, ◌$◌, fjoin, fpack, feq_i, Valss, RawPtr, nothing}
+use Rattle.rnxcmp_c.proofs.PointerVocabulary.{within, shape, dnil, vptr, fst∗, sem, move, drop, fsplit, fpick, feq_l}
+use Rattle.rnxcmp_c.proofs.PointerVocabulary.{RattleType, block_ptr, in_a_block, layout, Al, handle_tells, Good}
+use Rattle.rnxcmp_c.proofs.PointerVocabulary.{box_owns}
 use mathlib.Core.Bool.{true, ◌&&◌}
 use lib.Dec.{T}
 use mir.{Syntax.{impl, tnil}, Val.{has_ty, WT}}

@@ -1,8 +1,8 @@
 -- The bytes kept of a line show whether the whole line is too long, and otherwise are all its bytes.
 use Rattle.std.proofs.{Common.min, Math.Nat.min_comm, lemmas.{Bool.cases_lt, List.take_min}}
-use Rattle.rnxcmp_c.proofs.Words.{◌≡◌, ◌⊎◌, ⊎_elim, ℕ, ◌<◌, ◌≤◌, List, length, take}
-use Rattle.rnxcmp_c.proofs.Words.{ap, ◌∙◌, arith, length-take, take_all, LINE_LIMIT, without_return}
-use Rattle.rnxcmp_c.proofs.Words.{LINE_ROOM}
+use Rattle.rnxcmp_c.proofs.Vocabulary.{◌≡◌, ◌⊎◌, ⊎_elim, ℕ, ◌<◌, ◌≤◌, List, length, take}
+use Rattle.rnxcmp_c.proofs.Vocabulary.{ap, ◌∙◌, arith, length-take, take_all, LINE_LIMIT, without_return}
+use Rattle.rnxcmp_c.proofs.Vocabulary.{LINE_ROOM}
 use Rattle.crx_lines.proofs.ReturnLemmas.{length-without_return}
 
 pub none-or : (n : ℕ) → (n ≡ 0) ⊎ (0 < n)

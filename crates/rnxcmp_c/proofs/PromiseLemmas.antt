@@ -1,21 +1,21 @@
 -- The state of a reader as a promise about its run.
 use Rattle.std.proofs.lemmas.Grind.{common_steps}
-use Rattle.rnxcmp_c.proofs.Words.{◌≡◌, ◌⊎◌, inl, inr, ⊎_elim, ℕ, List, [], ◌∷◌, ◌++◌}
-use Rattle.rnxcmp_c.proofs.Words.{take, drop, append_assoc, Option, Some, None, is_some, true, false, arith}
-use Rattle.rnxcmp_c.proofs.Words.{refl, sym, ◌∙◌, append-nil, InputLine, lines_of, At}
-use Rattle.rnxcmp_c.proofs.Words.{with_next, notices_text, Begins, FilterResult}
-use Rattle.rnxcmp_c.proofs.Words.{AreNext, Outcome}
+use Rattle.rnxcmp_c.proofs.Vocabulary.{◌≡◌, ◌⊎◌, inl, inr, ⊎_elim, ℕ, List, [], ◌∷◌, ◌++◌}
+use Rattle.rnxcmp_c.proofs.Vocabulary.{take, drop, append_assoc, Option, Some, None, is_some, true, false, arith}
+use Rattle.rnxcmp_c.proofs.Vocabulary.{refl, sym, ◌∙◌, append-nil, InputLine, lines_of, At}
+use Rattle.rnxcmp_c.proofs.Vocabulary.{with_next, notices_text, Begins, FilterResult}
+use Rattle.rnxcmp_c.proofs.Vocabulary.{AreNext, Outcome}
 use Rattle.rnxcmp_c.specs.{Going.IsLastLine, Handles.ReaderHasEnded}
-use Rattle.rnxcmp_c.proofs.Words.{ReaderStands}
-use Rattle.rnxcmp_c.proofs.Words.{StandsBy, answer_now, HasEndedBy}
-use Rattle.rnxcmp_c.proofs.Words.{HasFedBy, texts_of_held, Holds, Handle, FeedsBytes}
-use Rattle.rnxcmp_c.proofs.Words.{filter_for, result_for, Answer, joined_texts}
-use Rattle.rnxcmp_c.proofs.Words.{Reader, BothTexts, RunHasEnded, StopsAtLimit, StopsForMemory}
-use Rattle.rnxcmp_c.proofs.Words.{Task, Compact, Expand, Check, handle_answer, run_for}
-use Rattle.rnxcmp_c.proofs.{Cut.begins-next, HandleLemmas.{either-fed, ends-stands, feeds-stands}}
+use Rattle.rnxcmp_c.proofs.Vocabulary.{ReaderStands}
+use Rattle.rnxcmp_c.proofs.Vocabulary.{StandsBy, answer_now, HasEndedBy}
+use Rattle.rnxcmp_c.proofs.Vocabulary.{HasFedBy, texts_of_held, Holds, Handle, FeedsBytes}
+use Rattle.rnxcmp_c.proofs.Vocabulary.{filter_for, result_for, Answer, joined_texts}
+use Rattle.rnxcmp_c.proofs.Vocabulary.{Reader, BothTexts, RunHasEnded, StopsAtLimit, StopsForMemory}
+use Rattle.rnxcmp_c.proofs.Vocabulary.{Task, Compact, Expand, Check, handle_answer, run_for}
+use Rattle.rnxcmp_c.proofs.{EndAtLine.begins-next, HandleLemmas.{either-fed, ends-stands, feeds-stands}}
 use Rattle.rnxcmp_c.proofs.GoingLemmas.{begins-then, notices-both}
 use Rattle.rnxcmp_c.proofs.ReaderLemmas.{ended-as, lawful-for, output-for}
-use Rattle.rnxcmp_c.proofs.Words.{with_one_more, bare_answer, MISUSED}
+use Rattle.rnxcmp_c.proofs.Vocabulary.{with_one_more, bare_answer, MISUSED}
 use Rattle.rnxcmp_c.specs.Opened.{EndsHandle, FeedsHandle, HandleStands, IsSoundHandle, has_ended, run_state}
 use Rattle.rnxcmp_c.specs.{Handles.{fault_now, status_now}, Opened.texts_kept}
 use Rattle.rnxcmp_c.specs.meaning.Handles.{HandlePromise, RunWasEnded, TakesBytes}

@@ -1,7 +1,7 @@
 -- The machine value of a `ReaderBox`. Assumes `Logic`.
-use Rattle.rnxcmp_c.proofs.RawWords.{List, [], ◌∷◌, refl, Ura, Val, vstruct, vcons, vnil, Logic, Item, Goal}
-use Rattle.rnxcmp_c.proofs.RawWords.{Step, step, ‵, ◌$◌, fjoin, fpack, feq_i, Valss, RawPtr, Ptr, ptr_val}
-use Rattle.rnxcmp_c.proofs.RawWords.{nothing, within, shape, Reader, reader_box_owns}
+use Rattle.rnxcmp_c.proofs.PointerVocabulary.{List, [], ◌∷◌, refl, Ura, Val, vstruct, vcons, vnil, Logic, Item, Goal}
+use Rattle.rnxcmp_c.proofs.PointerVocabulary.{Step, step, ‵, ◌$◌, fjoin, fpack, feq_i, Valss, RawPtr, Ptr, ptr_val}
+use Rattle.rnxcmp_c.proofs.PointerVocabulary.{nothing, within, shape, Reader, reader_box_owns}
 use Rattle.rnxcmp_c.specs.contracts.reader_box.ReaderBox as place
 
 abbrev pub word : Ptr → Val

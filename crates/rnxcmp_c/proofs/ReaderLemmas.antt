@@ -1,16 +1,16 @@
 -- A reader's run has ended like the whole run of its input.
 use Rattle.std.proofs.{lemmas.Grind.common_steps}
-use Rattle.rnxcmp_c.proofs.Words.{◌≡◌, ◌⊎◌, inl, inr, ⊎_elim, ℕ, List, ◌++◌, Some, None, refl, ◌≤◌, ◌+◌}
-use Rattle.rnxcmp_c.proofs.Words.{◌∷◌, []}
-use Rattle.rnxcmp_c.proofs.Words.{ap, arith, length, append-nil, append_assoc, length-append, InputLine}
-use Rattle.rnxcmp_c.proofs.{GoingLemmas.early-weaker, Words.lines_of}
-use Rattle.rnxcmp_c.proofs.Words.{INPUT_LIMIT, At, InputTooLong, IsLawful, Filter, with_next, Begins}
-use Rattle.rnxcmp_c.proofs.Words.{with_one_more}
-use Rattle.rnxcmp_c.proofs.Words.{Course, check-lawful, compaction-lawful, expansion-lawful, Outcome, IsAll}
-use Rattle.rnxcmp_c.proofs.Words.{Stop, Fault, Limit, result_of_course, FilterResult, BothTexts}
-use Rattle.rnxcmp_c.proofs.Words.{StopsWhenFull}
-use Rattle.rnxcmp_c.proofs.Words.{engine_filter, has_ended_of, run_for, limit_for, result_for, Task, Compact}
-use Rattle.rnxcmp_c.proofs.Words.{Expand, Check, filter_for, AnyEngine, HandleState, ended_lines_of}
+use Rattle.rnxcmp_c.proofs.Vocabulary.{◌≡◌, ◌⊎◌, inl, inr, ⊎_elim, ℕ, List, ◌++◌, Some, None, refl, ◌≤◌, ◌+◌}
+use Rattle.rnxcmp_c.proofs.Vocabulary.{◌∷◌, []}
+use Rattle.rnxcmp_c.proofs.Vocabulary.{ap, arith, length, append-nil, append_assoc, length-append, InputLine}
+use Rattle.rnxcmp_c.proofs.{GoingLemmas.early-weaker, Vocabulary.lines_of}
+use Rattle.rnxcmp_c.proofs.Vocabulary.{INPUT_LIMIT, At, InputTooLong, IsLawful, Filter, with_next, Begins}
+use Rattle.rnxcmp_c.proofs.Vocabulary.{with_one_more}
+use Rattle.rnxcmp_c.proofs.Vocabulary.{Course, check-lawful, compaction-lawful, expansion-lawful, Outcome, IsAll}
+use Rattle.rnxcmp_c.proofs.Vocabulary.{Stop, Fault, Limit, result_of_course, FilterResult, BothTexts}
+use Rattle.rnxcmp_c.proofs.Vocabulary.{StopsWhenFull}
+use Rattle.rnxcmp_c.proofs.Vocabulary.{engine_filter, has_ended_of, run_for, limit_for, result_for, Task, Compact}
+use Rattle.rnxcmp_c.proofs.Vocabulary.{Expand, Check, filter_for, AnyEngine, HandleState, ended_lines_of}
 use Rattle.rnxcmp_c.specs.Going.{IsSoFar, FailsIn, IsLastLine, RunIsStopped, StopsAs, StopsEarly}
 use Rattle.rnxcmp_c.specs.Handles.{EndsRunBy, EndsWithin, IsOf, IsPut, status_at_end}
 

@@ -1,13 +1,13 @@
 -- The texts collected from a whole run are its result, or its output is longer than its limit.
 use Rattle.std.proofs.lemmas.{Bool.cases_lt, Grind.common_steps}
 use Rattle.rnxcmp_c.proofs.{GoingLemmas.begins-then, ReaderLemmas.lawful-for}
-use Rattle.rnxcmp_c.proofs.{ReaderLemmas.output-for, Words.{◌≡◌, ⊎_elim, inl, inr, ℕ, ◌≤◌, List, [], ◌++◌}}
-use Rattle.rnxcmp_c.proofs.Words.{length, take, true, refl, sym, ap, ◌∙◌, arith, append-nil}
-use Rattle.rnxcmp_c.proofs.Words.{length-append}
-use Rattle.rnxcmp_c.proofs.Words.{take_all, lines_of, ended_lines_of, code_of_fault, OutOfMemory}
-use Rattle.rnxcmp_c.proofs.Words.{INPUT_LIMIT, ended_lines-come_first, Outcome, Begins, FilterResult}
-use Rattle.rnxcmp_c.proofs.Words.{Device, Answer, AnswersWithin, BothTexts, HasNoMemory}
-use Rattle.rnxcmp_c.proofs.Words.{placed, Task, filter_for, result_for}
+use Rattle.rnxcmp_c.proofs.{ReaderLemmas.output-for, Vocabulary.{◌≡◌, ⊎_elim, inl, inr, ℕ, ◌≤◌, List, [], ◌++◌}}
+use Rattle.rnxcmp_c.proofs.Vocabulary.{length, take, true, refl, sym, ap, ◌∙◌, arith, append-nil}
+use Rattle.rnxcmp_c.proofs.Vocabulary.{length-append}
+use Rattle.rnxcmp_c.proofs.Vocabulary.{take_all, lines_of, ended_lines_of, code_of_fault, OutOfMemory}
+use Rattle.rnxcmp_c.proofs.Vocabulary.{INPUT_LIMIT, ended_lines-come_first, Outcome, Begins, FilterResult}
+use Rattle.rnxcmp_c.proofs.Vocabulary.{Device, Answer, AnswersWithin, BothTexts, HasNoMemory}
+use Rattle.rnxcmp_c.proofs.Vocabulary.{placed, Task, filter_for, result_for}
 use Rattle.rnxcmp_c.specs.{Collecting.{AnswersRun, IsEmpty, TakeEnough, taken_of}, Counting.Took}
 use Rattle.rnxcmp_c.specs.{declared.devices.Counted.Counted, meaning.Answers.AnswersAlone}
 use Rattle.crx_runs.specs.meaning.Interruptions.{AreReported, IsFrontPart, Stands, complete_lines}
@@ -15,7 +15,7 @@ use Rattle.crx_runs.specs.meaning.Runs.{IsResult, RunsAs}
 use Rattle.crx_runs.specs.meaning.Spans.{Input}
 use Rattle.crx_base.specs.declared.fault.Fault.{Fault}
 use Rattle.crx_base.specs.declared.fault.Fault.TheVariants.{InputTooLong, ReadFailed, WriteFailed}
-use Rattle.rnxcmp_c.proofs.Words.{At, Option, None, Some, ◌-◌}
+use Rattle.rnxcmp_c.proofs.Vocabulary.{At, Option, None, Some, ◌-◌}
 use Rattle.std.specs.Prelude.{◌^◌}
 use Rattle.crx_lines.specs.meaning.Devices.{tally_of}
 

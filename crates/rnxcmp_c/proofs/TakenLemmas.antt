@@ -1,9 +1,9 @@
 -- The texts taken from a handle were kept before, and taking them doesn't change the run's state.
 use Rattle.std.proofs.{lemmas.Grind.common_steps, Common.arith}
-use Rattle.rnxcmp_c.proofs.Words.{◌≡◌, inl, inr, ⊎_elim, ℕ, List, ◌++◌, Option, Some, None, sym, subst}
-use Rattle.rnxcmp_c.proofs.Words.{append_assoc, KeepsToLimit, Outcome, StandsBy, limit_for, BothTexts}
-use Rattle.rnxcmp_c.proofs.Words.{joined_texts, rooms}
-use Rattle.rnxcmp_c.proofs.Words.{Task, waiting, Pending, Reader}
+use Rattle.rnxcmp_c.proofs.Vocabulary.{◌≡◌, inl, inr, ⊎_elim, ℕ, List, ◌++◌, Option, Some, None, sym, subst}
+use Rattle.rnxcmp_c.proofs.Vocabulary.{append_assoc, KeepsToLimit, Outcome, StandsBy, limit_for, BothTexts}
+use Rattle.rnxcmp_c.proofs.Vocabulary.{joined_texts, rooms}
+use Rattle.rnxcmp_c.proofs.Vocabulary.{Task, waiting, Pending, Reader}
 use Rattle.rnxcmp_c.proofs.GoingLemmas.{early-weaker}
 
 module _ (task : Task) (old : Reader) (fed : List ℕ) (taken : BothTexts) (output messages : Pending)

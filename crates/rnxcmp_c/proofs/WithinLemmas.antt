@@ -1,10 +1,10 @@
 -- The output stays within its limit, or the output of the line is dropped.
 use Rattle.std.proofs.{Common.{rules, Result, Ok, Err}, lemmas.Grind.common_steps, lemmas.Result.IfErr-at_err}
-use Rattle.rnxcmp_c.proofs.Words.{◌≡◌, ℕ, ◌+◌, ◌<◌, List, [], ◌++◌, length, take, refl, sym, ap, ◌∙◌, arith}
-use Rattle.rnxcmp_c.proofs.Words.{length-append, ◌⊎◌, inl, inr, ⊎_elim, append-nil, Bool, ◌||◌, Option, IfErr}
-use Rattle.rnxcmp_c.proofs.Words.{IfOk, At, OutOfMemory, Halt, Begins, Course, IsKept}
-use Rattle.rnxcmp_c.proofs.Words.{MovesWithin, PassesLimit, StepStops, StopsBy, StopsShort, StopsCounted}
-use Rattle.rnxcmp_c.proofs.Words.{waiting, HandleState, Stop, Fault, Limit, take_at}
+use Rattle.rnxcmp_c.proofs.Vocabulary.{◌≡◌, ℕ, ◌+◌, ◌<◌, List, [], ◌++◌, length, take, refl, sym, ap, ◌∙◌, arith}
+use Rattle.rnxcmp_c.proofs.Vocabulary.{length-append, ◌⊎◌, inl, inr, ⊎_elim, append-nil, Bool, ◌||◌, Option, IfErr}
+use Rattle.rnxcmp_c.proofs.Vocabulary.{IfOk, At, OutOfMemory, Halt, Begins, Course, IsKept}
+use Rattle.rnxcmp_c.proofs.Vocabulary.{MovesWithin, PassesLimit, StepStops, StopsBy, StopsShort, StopsCounted}
+use Rattle.rnxcmp_c.proofs.Vocabulary.{waiting, HandleState, Stop, Fault, Limit, take_at}
 use Rattle.rnxcmp_c.specs.{Going.LosesText, declared.handle_state.Mark.Mark}
 use Rattle.rnxcmp_c.specs.Holding.{AreCutTo, IsCounted, IsCutBack, StaysWithin, IsMark, IsMarkWithin}
 

@@ -35,7 +35,7 @@ pub struct Answer {
 }
 
 /// Returns an answer without texts.
-pub(crate) fn bare(status: u32, line: u64, code: u32) -> Answer
+pub(crate) fn answer_without_texts(status: u32, line: u64, code: u32) -> Answer
     ensures { result ≡ bare_answer status line code }
 {
     Answer {
@@ -48,10 +48,10 @@ pub(crate) fn bare(status: u32, line: u64, code: u32) -> Answer
 }
 
 /// Returns the answer of a run that a fault ended at `line`, without texts.
-pub(crate) fn failed(line: u64, fault: Fault) -> Answer
+pub(crate) fn answer_of_fault(line: u64, fault: Fault) -> Answer
     ensures { result ≡ bare_answer 1 line (code_of_fault fault) }
 {
-    bare(1, line, u32::from(fault.code()))
+    answer_without_texts(1, line, u32::from(fault.code()))
 }
 
 /// Returns the fault of a run whose output or messages couldn't be kept at `line`, because the system refused memory.

@@ -174,7 +174,7 @@ impl Sink for Counted {
 
     fn await_output(&mut self) {}
 
-    fn hand_on(&mut self) -> bool {
+    fn pass_on(&mut self) -> bool {
         true
     }
 

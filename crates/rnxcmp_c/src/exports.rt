@@ -21,7 +21,7 @@ ghost use Rattle.rnxcmp_c.specs.declared.answer.TheConstants.{BAD_DATE};
 ghost use Rattle.rnxcmp_c.specs.meaning.Promises.{CallBringsBackWhatWasCompacted, CallJudgesStandard, CallSavesAllElse};
 ghost use Rattle.rnxcmp_c.specs.meaning.Stretches.{CallKeepsUndamaged, CallWritesWholeUnits};
 
-use crate::answer::{Answer, BAD_DATE, bare, failed};
+use crate::answer::{Answer, BAD_DATE, answer_of_fault, answer_without_texts};
 use crate::devices::{Counted, Given};
 use crate::runs::answer_of;
 use crx_base::Fault;
@@ -56,10 +56,10 @@ pub extern "C" fn rnxcmp_c_compact(
         (rooms output.old messages.old) (rooms output.new messages.new) }
 {
     let Ok(options) = Options::new(Some(every), skip, date) else {
-        return bare(BAD_DATE, 0, 0);
+        return answer_without_texts(BAD_DATE, 0, 0);
     };
     if input.len() as u64 > INPUT_LIMIT {
-        return failed(0, Fault::InputTooLong);
+        return answer_of_fault(0, Fault::InputTooLong);
     }
     let mut reader = Given::new(input);
     let mut written = Counted::new(alloc, output.len(), max_output);
@@ -101,7 +101,7 @@ pub extern "C" fn rnxcmp_c_expand(
         (rooms output.old messages.old) (rooms output.new messages.new) }
 {
     if input.len() as u64 > INPUT_LIMIT {
-        return failed(0, Fault::InputTooLong);
+        return answer_of_fault(0, Fault::InputTooLong);
     }
     // An expansion uses no other option.
     let Ok(options) = Options::new(None, skip, b"") else {
@@ -131,7 +131,7 @@ pub extern "C" fn rnxcmp_c_check(
         (result.output_length ≤ length output.old → CallJudgesStandard result.status input.now) }
 {
     if input.len() as u64 > INPUT_LIMIT {
-        return failed(0, Fault::InputTooLong);
+        return answer_of_fault(0, Fault::InputTooLong);
     }
     let mut reader = Given::new(input);
     let mut written = Counted::new(alloc, output.len(), 0);

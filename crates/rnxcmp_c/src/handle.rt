@@ -19,14 +19,14 @@ ghost use Rattle.rnxcmp_c.specs.meaning.Ended.{CheckPromises};
 ghost use Rattle.rnxcmp_c.specs.meaning.Kept.{TaskKeeps};
 ghost use Rattle.rnxcmp_c.specs.declared.answer.TheConstants.{MISUSED};
 
-use crate::answer::{Answer, BAD_DATE, MISUSED, bare, failed};
+use crate::answer::{Answer, BAD_DATE, MISUSED, answer_of_fault, answer_without_texts};
 use crate::engines::AnyEngine;
 use crate::handle_state::HandleState;
 use crate::loose::Loose;
 use crate::reader::Reader;
 use crate::reader_box::ReaderBox;
 use crx_base::Fault;
-use crx_base::memory::boxed;
+use crx_base::memory::try_box;
 use crx_filter::Options;
 use crx_filter::checking::{Checking, no_options};
 use crx_filter::compaction::Compaction;
@@ -80,7 +80,7 @@ fn open(alloc: Global, handle: &mut Handle, engine: AnyEngine, max_output: u64) 
 {
     let held = match HandleState::new(alloc, max_output) {
         Ok(held) => held,
-        Err(refused) => return failed(0, Fault::from(refused)),
+        Err(refused) => return answer_of_fault(0, Fault::from(refused)),
     };
     let reader = Reader {
         engine,
@@ -88,12 +88,12 @@ fn open(alloc: Global, handle: &mut Handle, engine: AnyEngine, max_output: u64) 
         fed: 0,
         outcome: None,
     };
-    match boxed(alloc, reader) {
+    match try_box(alloc, reader) {
         Ok(reader) => {
             put_in(handle, reader);
-            bare(0, 0, 0)
+            answer_without_texts(0, 0, 0)
         }
-        Err(refused) => failed(0, Fault::from(refused)),
+        Err(refused) => answer_of_fault(0, Fault::from(refused)),
     }
 }
 
@@ -117,14 +117,14 @@ pub extern "C" fn rnxcmp_c_open_compact(
     ensures answer { handle.old.is_open ≡ false → is_date date.now ≡ true → AnswersOpening result }
 {
     if handle.is_open {
-        return bare(MISUSED, 0, 0);
+        return answer_without_texts(MISUSED, 0, 0);
     }
     let Ok(options) = Options::new(Some(every), skip, date) else {
-        return bare(BAD_DATE, 0, 0);
+        return answer_without_texts(BAD_DATE, 0, 0);
     };
     match LineEngine::<Compaction>::new(alloc, options) {
         Ok(compactor) => open(alloc, handle, AnyEngine::Compacting(compactor), max_output),
-        Err(refused) => failed(0, Fault::from(refused)),
+        Err(refused) => answer_of_fault(0, Fault::from(refused)),
     }
 }
 
@@ -143,14 +143,14 @@ pub extern "C" fn rnxcmp_c_open_expand(
     ensures answer { handle.old.is_open ≡ false → AnswersOpening result }
 {
     if handle.is_open {
-        return bare(MISUSED, 0, 0);
+        return answer_without_texts(MISUSED, 0, 0);
     }
     let Ok(options) = Options::new(None, skip, b"") else {
         unreachable!()
     };
     match LineEngine::<Expansion>::new(alloc, options) {
         Ok(expander) => open(alloc, handle, AnyEngine::Expanding(expander), max_output),
-        Err(refused) => failed(0, Fault::from(refused)),
+        Err(refused) => answer_of_fault(0, Fault::from(refused)),
     }
 }
 
@@ -163,11 +163,11 @@ pub extern "C" fn rnxcmp_c_open_check(alloc: Global, handle: &mut Handle) -> Ans
     ensures answer { handle.old.is_open ≡ false → AnswersOpening result }
 {
     if handle.is_open {
-        return bare(MISUSED, 0, 0);
+        return answer_without_texts(MISUSED, 0, 0);
     }
     match LineEngine::<Checking>::new(alloc, no_options()) {
         Ok(checker) => open(alloc, handle, AnyEngine::Checking(checker), 0),
-        Err(refused) => failed(0, Fault::from(refused)),
+        Err(refused) => answer_of_fault(0, Fault::from(refused)),
     }
 }
 
@@ -202,10 +202,10 @@ pub extern "C" fn rnxcmp_c_feed(
 {
     *used = 0;
     if !handle.is_open {
-        return bare(MISUSED, 0, 0);
+        return answer_without_texts(MISUSED, 0, 0);
     }
     let mut reader = take_out(handle, alloc);
-    let (count, answer) = reader.take_in(bytes);
+    let (count, answer) = reader.read_bytes(bytes);
     put_in(handle, reader);
     *used = count;
     answer
@@ -237,7 +237,7 @@ pub extern "C" fn rnxcmp_c_end(alloc: Global, handle: &mut Handle) -> Answer
         fed)) }
 {
     if !handle.is_open {
-        return bare(MISUSED, 0, 0);
+        return answer_without_texts(MISUSED, 0, 0);
     }
     let mut reader = take_out(handle, alloc);
     let answer = reader.take_end();
@@ -286,10 +286,10 @@ pub extern "C" fn rnxcmp_c_take(
         fed)) }
 {
     if !handle.is_open {
-        return bare(MISUSED, 0, 0);
+        return answer_without_texts(MISUSED, 0, 0);
     }
     let mut reader = take_out(handle, alloc);
-    let answer = reader.hand_out(output, messages);
+    let answer = reader.move_out(output, messages);
     put_in(handle, reader);
     answer
 }

@@ -3,7 +3,7 @@
 use crate::limits::READY_LIMIT;
 use crate::pending::Pending;
 use crate::piece::Piece;
-use crx_base::memory::boxed;
+use crx_base::memory::try_box;
 use crx_base::{PaddedCopy, Refused};
 use std::alloc::Global;
 
@@ -48,7 +48,7 @@ impl HandleState {
         ensures { IfOk result (HoldsNothing limit) }
     {
         let tail = Piece::new(alloc)?;
-        let copy = boxed(alloc, PaddedCopy::new())?;
+        let copy = try_box(alloc, PaddedCopy::new())?;
         Ok(HandleState {
             tail,
             copy,

@@ -40,7 +40,7 @@ fn content_of(bytes: &[u8]) -> (&[u8], bool)
 /// Counts the output added since `mark`, and stores whether there was a warning. Returns `Stop::Limit` if the output
 /// would be longer than its limit, `OutOfMemory` at line `number` if one of the texts couldn't be kept, and otherwise
 /// the step's fault, if it has one. In the first two cases both texts are cut back to `mark`.
-fn counted(
+fn count_output(
     held: &mut HandleState,
     mark: Mark,
     number: u64,
@@ -97,7 +97,7 @@ fn take_within<E: Engine>(
     };
     held.tail.bytes.clear();
     held.number = number;
-    counted(held, mark, number, taken)
+    count_output(held, mark, number, taken)
 }
 
 /// Uses the first of some bytes, up to an LF, which ends a line that is then taken; all bytes if there is no LF.
@@ -161,5 +161,5 @@ pub(crate) fn take_last<E: Engine>(engine: &mut E, held: &mut HandleState) -> Re
     let mark = held.mark();
     let number = held.number;
     let taken = take_end(engine, &mut held.output, &mut held.messages);
-    counted(held, mark, number, taken)
+    count_output(held, mark, number, taken)
 }

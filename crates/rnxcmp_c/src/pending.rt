@@ -63,7 +63,7 @@ impl Pending {
     }
 
     /// Moves the first waiting bytes to the front of `room`, as many as fit.
-    pub(crate) fn hand_out(&mut self, room: &mut [u8])
+    pub(crate) fn move_out(&mut self, room: &mut [u8])
         ensures room { room.new ≡ placed (waiting self.old) room.old }
         ensures left { waiting self.new ≡ drop (length room.old) (waiting self.old) }
         ensures counts { CountsAlike self.old self.new }
@@ -141,7 +141,7 @@ impl Sink for Pending {
 
     fn await_output(&mut self) {}
 
-    fn hand_on(&mut self) -> bool {
+    fn pass_on(&mut self) -> bool {
         true
     }
 

@@ -7,7 +7,9 @@ ghost use Rattle.rnxcmp_c.specs.meaning.Handles.{Task, joined_texts};
 ghost use Rattle.rnxcmp_c.specs.Waiting.{waiting};
 ghost use Rattle.rnxcmp_c.specs.meaning.Answers.{BothTexts, rooms};
 
-use crate::answer::{Answer, MISUSED, OUTPUT_LIMIT, bare, line_and_code, no_memory_at};
+use crate::answer::{
+    Answer, MISUSED, OUTPUT_LIMIT, answer_without_texts, line_and_code, no_memory_at,
+};
 use crate::engines::{AnyEngine, end_engine, feed_engine, status_at_end};
 use crate::handle_state::HandleState;
 use crate::stop::Stop;
@@ -74,14 +76,14 @@ impl Reader {
     /// Feeds bytes of the input, if the run continues, until `READY_LIMIT` bytes wait to be taken. A byte above
     /// `INPUT_LIMIT` ends the run. Returns how many bytes were used, and the run's state; `MISUSED` if the run has
     /// ended.
-    pub(crate) fn take_in(&mut self, bytes: &[u8]) -> (usize, Answer)
+    pub(crate) fn read_bytes(&mut self, bytes: &[u8]) -> (usize, Answer)
         requires { (task : Task) × (fed : List ℕ) × (taken : BothTexts)
             × ReaderStands task self.old fed taken }
         ensures { (task : Task) (fed : List ℕ) (taken : BothTexts) → ReaderStands task self.old fed taken
             → Feeds task self.old self.new fed taken bytes.now result.0 result.1 }
     {
         if self.outcome.is_some() {
-            return (0, bare(MISUSED, 0, 0));
+            return (0, answer_without_texts(MISUSED, 0, 0));
         }
         // The bytes that the input may still have.
         let count = (bytes.len() as u64).min(INPUT_LIMIT - self.fed) as usize;
@@ -114,7 +116,7 @@ impl Reader {
             → Ends task self.old self.new fed taken result }
     {
         if self.outcome.is_some() {
-            return bare(MISUSED, 0, 0);
+            return answer_without_texts(MISUSED, 0, 0);
         }
         match end_engine(&mut self.engine, &mut self.held) {
             Ok(()) => {
@@ -133,7 +135,7 @@ impl Reader {
 
     /// Moves the waiting output and messages to the front of two buffers, as far as they fit, and returns the run's
     /// state.
-    pub(crate) fn hand_out(&mut self, output: &mut [u8], messages: &mut [u8]) -> Answer
+    pub(crate) fn move_out(&mut self, output: &mut [u8], messages: &mut [u8]) -> Answer
         ensures taken { HandsOut (self.old ∷ []) (self.new ∷ []) (rooms output.old messages.old)
             (rooms output.new messages.new) result }
         ensures stands { (task : Task) (fed : List ℕ) (taken : BothTexts)
@@ -141,8 +143,8 @@ impl Reader {
             (rooms (take (length output.old) (waiting self.old.held.output))
             (take (length messages.old) (waiting self.old.held.messages)))) }
     {
-        self.held.output.hand_out(output);
-        self.held.messages.hand_out(messages);
+        self.held.output.move_out(output);
+        self.held.messages.move_out(messages);
         self.answer()
     }
 }

@@ -4,7 +4,7 @@ ghost use Rattle.rnxcmp_c.specs.meaning.Answers.{rooms};
 ghost use Rattle.rnxcmp_c.specs.Collecting.{AnswersRun, TakeEnough};
 
 use crate::answer::{
-    Answer, NO_ROOM, OUTPUT_LIMIT, bare, failed, line_and_code, no_memory_at, place,
+    Answer, NO_ROOM, OUTPUT_LIMIT, answer_without_texts, failed, line_and_code, no_memory_at, place,
 };
 use crate::devices::Counted;
 use crx_runs::Outcome;
@@ -25,12 +25,12 @@ pub(crate) fn answer_of(
         (rooms output_room.old messages_room.old) (rooms output_room.new messages_room.new) }
 {
     if most > 0 && output.count as u64 > most {
-        return bare(OUTPUT_LIMIT, 0, 0);
+        return answer_without_texts(OUTPUT_LIMIT, 0, 0);
     }
     let (line, code) = line_and_code(outcome.fault);
     let no_memory = no_memory_at(line).fault;
     if code == u32::from(no_memory.code()) || output.failures != 0 || messages.failures != 0 {
-        return failed(line, no_memory);
+        return answer_of_fault(line, no_memory);
     }
     place(&output.bytes, output_room);
     place(&messages.bytes, messages_room);

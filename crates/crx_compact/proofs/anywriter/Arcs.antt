@@ -1,9 +1,9 @@
 -- An arc, whoever wrote it: its coded value stands for its newest value, and leaves its tail.
-use Rattle.crx_compact.proofs.Words.{◌≡◌, refl, ℕ, ℤ, List, [], ◌∷◌, Option}
-use Rattle.crx_compact.proofs.Words.{Some, None, Ok, ap, ◌∙◌, length, min}
-use Rattle.crx_compact.proofs.Words.{inl, inr, difference, value_of_code, arc_of_code, differences_of}
-use Rattle.crx_compact.proofs.Words.{values_of}
-use Rattle.crx_compact.proofs.Words.{IsWithin, IsMissingOrWithin, ArcTail, in_range, arith, common_steps}
+use Rattle.crx_compact.proofs.Vocabulary.{◌≡◌, refl, ℕ, ℤ, List, [], ◌∷◌, Option}
+use Rattle.crx_compact.proofs.Vocabulary.{Some, None, Ok, ap, ◌∙◌, length, min}
+use Rattle.crx_compact.proofs.Vocabulary.{inl, inr, difference, value_of_code, arc_of_code, differences_of}
+use Rattle.crx_compact.proofs.Vocabulary.{values_of}
+use Rattle.crx_compact.proofs.Vocabulary.{IsWithin, IsMissingOrWithin, ArcTail, in_range, arith, common_steps}
 use Rattle.crx_compact.proofs.arcs.Inversion.{numbers_of, value-numbers}
 use Rattle.crx_compact.proofs.arcs.Stepping.{values-by_tail, first-differences}
 use Rattle.crx_compact.proofs.arcs.{Weights.difference-zero, Bounds.within-is}

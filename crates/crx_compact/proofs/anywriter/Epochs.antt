@@ -1,20 +1,20 @@
 -- The lines of an epoch, whoever wrote them, are read as that epoch.
-use Rattle.crx_compact.proofs.Words.{◌≡◌, refl, ℕ, List, [], ◌∷◌, ◌++◌, Bool, true, false}
-use Rattle.crx_compact.proofs.Words.{Option, Some, Ok, map, length, arith, ap, sym, ◌∙◌, ◌+◌}
-use Rattle.crx_compact.proofs.Words.{list_all, AllByRecursion, length-map, unwrap_or, if◌then◌else◌}
-use Rattle.crx_compact.proofs.Words.{Count, IsWholeEpoch, epoch_text, at-without_end_blanks}
-use Rattle.crx_compact.proofs.Words.{without_end_blanks, patched, is_printable}
-use Rattle.crx_compact.proofs.Words.{ReadLine, Content, Done, Place, RawRow, RawEpoch, ReadRow}
-use Rattle.crx_compact.proofs.Words.{rows_read, epoch_at, epoch_after, clock_line_read}
-use Rattle.crx_compact.proofs.Words.{Satellite, satellites_of_line, begins_epoch}
-use Rattle.crx_compact.proofs.Words.{past_of_tail, Tail, no_tail, tail_left, tail_for_line}
-use Rattle.crx_compact.proofs.Words.{raw_row_tail_after, raw_tail_after, tail_named, CLOCK_WIDTH, Epoch}
+use Rattle.crx_compact.proofs.Vocabulary.{◌≡◌, refl, ℕ, List, [], ◌∷◌, ◌++◌, Bool, true, false}
+use Rattle.crx_compact.proofs.Vocabulary.{Option, Some, Ok, map, length, arith, ap, sym, ◌∙◌, ◌+◌}
+use Rattle.crx_compact.proofs.Vocabulary.{list_all, AllByRecursion, length-map, unwrap_or, if◌then◌else◌}
+use Rattle.crx_compact.proofs.Vocabulary.{Count, IsWholeEpoch, epoch_text, at-without_end_blanks}
+use Rattle.crx_compact.proofs.Vocabulary.{without_end_blanks, patched, is_printable}
+use Rattle.crx_compact.proofs.Vocabulary.{ReadLine, Content, Done, Place, RawRow, RawEpoch, ReadRow}
+use Rattle.crx_compact.proofs.Vocabulary.{rows_read, epoch_at, epoch_after, clock_line_read}
+use Rattle.crx_compact.proofs.Vocabulary.{Satellite, satellites_of_line, begins_epoch}
+use Rattle.crx_compact.proofs.Vocabulary.{past_of_tail, Tail, no_tail, tail_left, tail_for_line}
+use Rattle.crx_compact.proofs.Vocabulary.{raw_row_tail_after, raw_tail_after, tail_named, CLOCK_WIDTH, Epoch}
 use Rattle.crx_compact.proofs.SoundTexts.{patched-trimmed, trimmed-again}
 use Rattle.crx_compact.proofs.reading.RawTailing.{place-by_tail, left-by_tail}
 use Rattle.crx_compact.proofs.soundness.Soundness.{reads-soundly}
-use Rattle.crx_compact.proofs.wayback.Facts.{IsTypedRow, typed-rows, text-kept}
+use Rattle.crx_compact.proofs.wayback.WritableEpochs.{IsTypedRow, typed-rows, text-kept}
 use Rattle.crx_compact.proofs.wayback.Reading.{text-other, text-columns, text-good}
-use Rattle.crx_compact.proofs.Words.{append-nil, map-map, rules}
+use Rattle.crx_compact.proofs.Vocabulary.{append-nil, map-map, rules}
 use Rattle.crx_compact.specs.OpenEpochs.{held_after, placed_as}
 use Rattle.crx_compact.specs.meaning.AnyWriter.{WrittenRow, WrittenEpoch, code_now, row_now, epoch_now}
 use Rattle.crx_compact.specs.meaning.AnyWriter.{goes_on_from, nothing_written, AreRowLines, AreLinesAfter}
@@ -22,11 +22,11 @@ use Rattle.crx_compact.specs.AnyWriter.{value_now, row_left, epoch_left, EpochRe
 use Rattle.crx_compact.proofs.anywriter.{Arcs.{Goes, goes}, Rows.{any-row, marks-printable}}
 use Rattle.crx_compact.proofs.anywriter.Rows.{at-same, all-same, CanFollow, row-follows}
 use Rattle.crx_compact.proofs.anywriter.Texts.{spelled-characters, code-printable}
-use Rattle.crx_compact.proofs.Words.{is_event_line, is_event_flag, is_observation_flag, character_at}
-use Rattle.crx_compact.proofs.Words.{character_of, by_position, at, common_steps}
-use Rattle.crx_compact.proofs.Words.{and_parts}
+use Rattle.crx_compact.proofs.Vocabulary.{is_event_line, is_event_flag, is_observation_flag, character_at}
+use Rattle.crx_compact.proofs.Vocabulary.{character_of, by_position, at, common_steps}
+use Rattle.crx_compact.proofs.Vocabulary.{and_parts}
 use Rattle.crx_compact.proofs.{Characters.{if_some, at-by_position}}
-use Rattle.crx_compact.proofs.{wayback.Facts.{text-head, head-counted}}
+use Rattle.crx_compact.proofs.{wayback.WritableEpochs.{text-head, head-counted}}
 
 -- ---- the satellites' lines
 

@@ -1,25 +1,25 @@
 -- The lines that are read as an epoch are lines that some writer may write for it.
-use Rattle.crx_compact.proofs.Words.{◌≡◌, refl, ℕ, zero, suc, List, [], ◌∷◌, ◌++◌, Bool, true, false, Option}
-use Rattle.crx_compact.proofs.Words.{Some, None, map, length, arith, ap, sym, ◌∙◌, ◌*◌, ◌+◌, ◌≤◌}
-use Rattle.crx_compact.proofs.Words.{AllByRecursion, option_map, flat_map, if◌then◌else◌}
-use Rattle.crx_compact.proofs.Words.{length-append, same_Some, each_place, named}
-use Rattle.crx_compact.proofs.Words.{Done, rules, by_position}
-use Rattle.crx_compact.proofs.Words.{Count, Row, ReadRow, Satellite, IsWholeEpoch, types_of_satellite}
-use Rattle.crx_compact.proofs.Words.{past_of_tail, tail_for_line, tail_left, begins_epoch, epoch_text}
-use Rattle.crx_compact.proofs.Words.{columns, at-append, at-append_past, at-drop, without_end_blanks, patched}
-use Rattle.crx_compact.proofs.Words.{CLOCK_WIDTH, length-columns}
+use Rattle.crx_compact.proofs.Vocabulary.{◌≡◌, refl, ℕ, zero, suc, List, [], ◌∷◌, ◌++◌, Bool, true, false, Option}
+use Rattle.crx_compact.proofs.Vocabulary.{Some, None, map, length, arith, ap, sym, ◌∙◌, ◌*◌, ◌+◌, ◌≤◌}
+use Rattle.crx_compact.proofs.Vocabulary.{AllByRecursion, option_map, flat_map, if◌then◌else◌}
+use Rattle.crx_compact.proofs.Vocabulary.{length-append, same_Some, each_place, named}
+use Rattle.crx_compact.proofs.Vocabulary.{Done, rules, by_position}
+use Rattle.crx_compact.proofs.Vocabulary.{Count, Row, ReadRow, Satellite, IsWholeEpoch, types_of_satellite}
+use Rattle.crx_compact.proofs.Vocabulary.{past_of_tail, tail_for_line, tail_left, begins_epoch, epoch_text}
+use Rattle.crx_compact.proofs.Vocabulary.{columns, at-append, at-append_past, at-drop, without_end_blanks, patched}
+use Rattle.crx_compact.proofs.Vocabulary.{CLOCK_WIDTH, length-columns}
 use Rattle.crx_compact.proofs.PlaceByPlace.{at-take, at-padded}
-use Rattle.crx_compact.proofs.Words.{each_place-same, character_of}
+use Rattle.crx_compact.proofs.Vocabulary.{each_place-same, character_of}
 use Rattle.crx_compact.proofs.{SoundTexts.{patched-trimmed, trimmed-again}, EpochLines.{names_of}}
 use Rattle.crx_compact.proofs.soundness.Soundness.{Paired, RowFacts, facts-against}
 use Rattle.crx_compact.proofs.reading.RawTailing.{place-by_tail}
 use Rattle.std.proofs.lemmas.List.Folds.{flat_map-map}
 use Rattle.crx_compact.proofs.Lists.{all-from}
-use Rattle.crx_compact.proofs.wayback.{Facts.{IsTypedRow, typed-rows}, Rows.found-row, Runs.named-made}
+use Rattle.crx_compact.proofs.wayback.{WritableEpochs.{IsTypedRow, typed-rows}, Rows.found-row, Runs.named-made}
 use Rattle.crx_compact.specs.meaning.AnyWriter.{WrittenRow, WrittenEpoch, row_now, epoch_now}
 use Rattle.crx_compact.specs.meaning.AnyWriter.{goes_on_from, nothing_written, flags_in, AreRowLines}
 use Rattle.crx_compact.specs.AnyWriter.{epoch_left}
-use Rattle.crx_compact.proofs.{EpochTexts.blank-after, Words.{columns-are, unwrap_or, Tail, Past}}
+use Rattle.crx_compact.proofs.{EpochTexts.blank-after, Vocabulary.{columns-are, unwrap_or, Tail, Past}}
 use Rattle.crx_compact.specs.AnyWriter.{row_before}
 use Rattle.crx_compact.specs.AnyWriter.{ReadsSomebodysEpoch}
 use Rattle.crx_compact.proofs.anywriter.{OnlyRows.{row-back, arc-back, columns-all}}

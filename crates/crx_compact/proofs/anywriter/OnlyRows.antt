@@ -1,19 +1,19 @@
 -- Each line that is read is one that some writer may write.
-use Rattle.crx_compact.proofs.Words.{◌≡◌, refl, ℕ, ℤ, zero, suc, List, [], ◌∷◌, ◌++◌, Option, Some, None, Ok}
-use Rattle.crx_compact.proofs.Words.{map, length, min, arith, ap, sym, ◌∙◌, ◌*◌, ◌+◌, ◌≤◌, inl, inr, drop}
-use Rattle.crx_compact.proofs.Words.{list_all, ReadCell, cells_of, after_cells, first_cell, after_cell}
-use Rattle.crx_compact.proofs.Words.{is_blank}
-use Rattle.crx_compact.proofs.Words.{Code, Missing, Start, Step, code_of, difference, value_of_code}
-use Rattle.crx_compact.proofs.Words.{without_end_blanks, before_end_blanks, length-map, rules, replicate}
+use Rattle.crx_compact.proofs.Vocabulary.{◌≡◌, refl, ℕ, ℤ, zero, suc, List, [], ◌∷◌, ◌++◌, Option, Some, None, Ok}
+use Rattle.crx_compact.proofs.Vocabulary.{map, length, min, arith, ap, sym, ◌∙◌, ◌*◌, ◌+◌, ◌≤◌, inl, inr, drop}
+use Rattle.crx_compact.proofs.Vocabulary.{list_all, ReadCell, cells_of, after_cells, first_cell, after_cell}
+use Rattle.crx_compact.proofs.Vocabulary.{is_blank}
+use Rattle.crx_compact.proofs.Vocabulary.{Code, Missing, Start, Step, code_of, difference, value_of_code}
+use Rattle.crx_compact.proofs.Vocabulary.{without_end_blanks, before_end_blanks, length-map, rules, replicate}
 use Rattle.crx_compact.proofs.arcs.Inversion.{numbers_of}
 use Rattle.crx_compact.proofs.arcs.Stepping.{values-by_tail, numbers-values}
 use Rattle.crx_compact.proofs.soundness.Soundness.{AreReadCells, RowFacts, line-facts}
 use Rattle.crx_compact.proofs.{EpochTexts.blank-after, PlaceByPlace.at-padded}
-use Rattle.crx_compact.proofs.Words.{ArcTail, Satellite}
+use Rattle.crx_compact.proofs.Vocabulary.{ArcTail, Satellite}
 use Rattle.crx_compact.specs.ArcSteps.{arc_after_number, value_of_tail}
-use Rattle.crx_compact.proofs.Words.{ReadRow, past_of_tail, tail_named, cell_of_tail}
-use Rattle.crx_compact.proofs.Words.{flags_of_tail, OBSERVATION_WIDTH, columns, is_printable}
-use Rattle.crx_compact.proofs.Words.{at, at-without_end_blanks, patched, and_parts}
+use Rattle.crx_compact.proofs.Vocabulary.{ReadRow, past_of_tail, tail_named, cell_of_tail}
+use Rattle.crx_compact.proofs.Vocabulary.{flags_of_tail, OBSERVATION_WIDTH, columns, is_printable}
+use Rattle.crx_compact.proofs.Vocabulary.{at, at-without_end_blanks, patched, and_parts}
 use Rattle.crx_compact.proofs.Characters.{at-by_position}
 use Rattle.crx_compact.proofs.{wayback.Overlays.at_past}
 use Rattle.crx_compact.proofs.SoundTexts.{patched-trimmed, trimmed-again, same-cut, cut-all}

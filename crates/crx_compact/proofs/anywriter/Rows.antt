@@ -1,26 +1,26 @@
 -- A satellite's line, whoever wrote it, is read as its row.
-use Rattle.crx_compact.proofs.Words.{◌≡◌, refl, ℕ, ℤ, suc, List, [], ◌∷◌, true, false, Option, Some, None}
-use Rattle.crx_compact.proofs.Words.{Result, Ok, map, length, arith, ap, sym, ◌∙◌, ◌*◌, ◌+◌, drop}
-use Rattle.crx_compact.proofs.Words.{list_all, length-map, slice_index_or, option_map, rules, common_steps}
-use Rattle.crx_compact.proofs.Words.{Code, Missing, Fault, code_of, cells_of, after_cells}
-use Rattle.crx_compact.proofs.Words.{cells_read, ReadCell, IsValue, OBSERVATION_WIDTH}
-use Rattle.crx_compact.proofs.Words.{without_end_blanks, patched, character_of}
-use Rattle.crx_compact.proofs.Words.{by_position, at, at-without_end_blanks, at-drop}
-use Rattle.crx_compact.proofs.Words.{list_all-from_at, is_blank, is_kept, is_printable}
-use Rattle.crx_compact.proofs.Words.{IsSoundRow, satellite_line_read, row_of_cells, past_of_tail}
-use Rattle.crx_compact.proofs.Words.{raw_row_tail_after, tail_named, cell_of_tail, flags_of_tail}
-use Rattle.crx_compact.proofs.Words.{arc_of_code, ArcTail, RowTail, named}
-use Rattle.crx_compact.proofs.Words.{each_place, begins_epoch, columns, ReadRow}
+use Rattle.crx_compact.proofs.Vocabulary.{◌≡◌, refl, ℕ, ℤ, suc, List, [], ◌∷◌, true, false, Option, Some, None}
+use Rattle.crx_compact.proofs.Vocabulary.{Result, Ok, map, length, arith, ap, sym, ◌∙◌, ◌*◌, ◌+◌, drop}
+use Rattle.crx_compact.proofs.Vocabulary.{list_all, length-map, slice_index_or, option_map, rules, common_steps}
+use Rattle.crx_compact.proofs.Vocabulary.{Code, Missing, Fault, code_of, cells_of, after_cells}
+use Rattle.crx_compact.proofs.Vocabulary.{cells_read, ReadCell, IsValue, OBSERVATION_WIDTH}
+use Rattle.crx_compact.proofs.Vocabulary.{without_end_blanks, patched, character_of}
+use Rattle.crx_compact.proofs.Vocabulary.{by_position, at, at-without_end_blanks, at-drop}
+use Rattle.crx_compact.proofs.Vocabulary.{list_all-from_at, is_blank, is_kept, is_printable}
+use Rattle.crx_compact.proofs.Vocabulary.{IsSoundRow, satellite_line_read, row_of_cells, past_of_tail}
+use Rattle.crx_compact.proofs.Vocabulary.{raw_row_tail_after, tail_named, cell_of_tail, flags_of_tail}
+use Rattle.crx_compact.proofs.Vocabulary.{arc_of_code, ArcTail, RowTail, named}
+use Rattle.crx_compact.proofs.Vocabulary.{each_place, begins_epoch, columns, ReadRow}
 use Rattle.crx_compact.proofs.Characters.{same_characters, at-by_position, list_all-at}
 use Rattle.crx_compact.proofs.SoundTexts.{patched-trimmed, first-columns, held-columns}
-use Rattle.crx_compact.proofs.{wayback.Runs.named-made, wayback.Rows.value-fits, Words.{map-map, subst}}
+use Rattle.crx_compact.proofs.{wayback.Runs.named-made, wayback.Rows.value-fits, Vocabulary.{map-map, subst}}
 use Rattle.crx_compact.specs.meaning.AnyWriter.{Arc, WrittenRow, WrittenEpoch, code_now}
 use Rattle.crx_compact.specs.meaning.AnyWriter.{row_now, arc_in, flags_in, IsRowLine}
 use Rattle.crx_compact.specs.AnyWriter.{value_now, arc_left, row_left, epoch_left, ReadsAnyRow}
 use Rattle.crx_compact.proofs.anywriter.Arcs.{Goes, goes}
 use Rattle.crx_compact.proofs.anywriter.Texts.{AreTexts, spelled-characters, cells-again, line-other}
 use Rattle.crx_compact.proofs.anywriter.Texts.{with_blanks, texts-printable}
-use Rattle.crx_compact.proofs.Words.{Bool}
+use Rattle.crx_compact.proofs.Vocabulary.{Bool}
 
 abbrev codes_wanted : List (Option Arc) → List (Option Code)
 codes_wanted arcs = map (λ (arc : Option Arc). Some (code_now arc)) arcs

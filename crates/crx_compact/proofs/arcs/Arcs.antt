@@ -1,9 +1,9 @@
 -- Arcs over every list of values and every list of coded values, one more at a time.
-use Rattle.crx_compact.proofs.Words.{◌≡◌, ℕ, ℤ, [], ◌∷◌, zero, suc, Some, None, sym, ◌∙◌, ap, Code, Step}
-use Rattle.crx_compact.proofs.Words.{refl, List, Option, stretch, value_of, Missing, Start, code_at}
-use Rattle.crx_compact.proofs.Words.{arith, since_start, value_since, arc_of_value, arc_of_code, common_steps}
-use Rattle.crx_compact.proofs.Words.{WRITTEN_ORDER, value_of_code, code_of_value, option_map}
-use Rattle.crx_compact.proofs.Words.{in_range, arc_tail, started_tail, value_at, rules}
+use Rattle.crx_compact.proofs.Vocabulary.{◌≡◌, ℕ, ℤ, [], ◌∷◌, zero, suc, Some, None, sym, ◌∙◌, ap, Code, Step}
+use Rattle.crx_compact.proofs.Vocabulary.{refl, List, Option, stretch, value_of, Missing, Start, code_at}
+use Rattle.crx_compact.proofs.Vocabulary.{arith, since_start, value_since, arc_of_value, arc_of_code, common_steps}
+use Rattle.crx_compact.proofs.Vocabulary.{WRITTEN_ORDER, value_of_code, code_of_value, option_map}
+use Rattle.crx_compact.proofs.Vocabulary.{in_range, arc_tail, started_tail, value_at, rules}
 use Rattle.crx_compact.specs.meaning.ArcValues.{Started, onto_started}
 use Rattle.crx_compact.specs.ArcLaws.{arc_of_values, CodesOfValues, accepted, arc_of_codes, ValuesOfCodes}
 use Rattle.crx_compact.proofs.arcs.Inversion.{value-first}

@@ -1,8 +1,8 @@
 -- Differences of values in range are numbers that a coded value can hold.
-use Rattle.crx_compact.proofs.Words.{◌≡◌, ℕ, zero, suc, ◌+◌, ◌^◌, ◌<◌, ◌≤◌, min, true, ℤ, pos, neg_ℤ}
-use Rattle.crx_compact.proofs.Words.{List, [], ◌∷◌, length, AllByRecursion, arith, ints, WRITTEN_ORDER}
-use Rattle.crx_compact.proofs.Words.{DIGITS_LIMIT, IsWithin, IsShort, IsPrintable, code_at}
-use Rattle.crx_compact.proofs.Words.{difference, is_within}
+use Rattle.crx_compact.proofs.Vocabulary.{◌≡◌, ℕ, zero, suc, ◌+◌, ◌^◌, ◌<◌, ◌≤◌, min, true, ℤ, pos, neg_ℤ}
+use Rattle.crx_compact.proofs.Vocabulary.{List, [], ◌∷◌, length, AllByRecursion, arith, ints, WRITTEN_ORDER}
+use Rattle.crx_compact.proofs.Vocabulary.{DIGITS_LIMIT, IsWithin, IsShort, IsPrintable, code_at}
+use Rattle.crx_compact.proofs.Vocabulary.{difference, is_within}
 use Rattle.std.specs.Prelude.{◌↔◌, ◌≤ℤ◌}
 use Rattle.std.proofs.Math.Nat.{pow-le-pow_right}
 use Rattle.crx_compact.proofs.arcs.Weights.{difference-suc, difference-zero}

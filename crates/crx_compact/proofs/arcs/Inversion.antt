@@ -1,7 +1,7 @@
 -- The coded values of an arc stand for its values: an induction on the order and on the arc, by one recurrence of the sums.
-use Rattle.crx_compact.proofs.Words.{◌≡◌, refl, ℕ, zero, suc, ◌+◌, ◌-◌, ◌<◌, ◌≤◌, min, ℤ, pos, List, [], ◌∷◌}
-use Rattle.crx_compact.proofs.Words.{◌++◌, length, take, Some, sym, ◌∙◌, ap, arith, le_of_suc-le-suc}
-use Rattle.crx_compact.proofs.Words.{not-suc-le-zero, rules, ints, length-append, since_start, common_steps}
+use Rattle.crx_compact.proofs.Vocabulary.{◌≡◌, refl, ℕ, zero, suc, ◌+◌, ◌-◌, ◌<◌, ◌≤◌, min, ℤ, pos, List, [], ◌∷◌}
+use Rattle.crx_compact.proofs.Vocabulary.{◌++◌, length, take, Some, sym, ◌∙◌, ap, arith, le_of_suc-le-suc}
+use Rattle.crx_compact.proofs.Vocabulary.{not-suc-le-zero, rules, ints, length-append, since_start, common_steps}
 use Rattle.std.specs.Prelude.{◌+ℤ◌, ◌-ℤ◌, ◌*ℤ◌, reverse}
 use Rattle.std.proofs.lemmas.List.{reverse-append, take-append-le, length-reverse}
 use Rattle.crx_compact.specs.meaning.Differences.{binomial, weighted, difference, value_at}

@@ -1,11 +1,11 @@
 -- Running differences: their step, and their size.
-use Rattle.crx_compact.proofs.Words.{◌≡◌, ◌≤◌, ◌<◌, refl, ℕ, zero, suc, ◌+◌, ◌-◌, ◌^◌, ℤ, pos, List, [], ◌∷◌}
-use Rattle.crx_compact.proofs.Words.{◌++◌, length, take, drop, min, slice_index_or, slice_set}
-use Rattle.crx_compact.proofs.Words.{Some, ◌*◌, ap, arith, rules}
-use Rattle.crx_compact.proofs.Words.{ints, common_steps, IsWithin, IsShort, Step, code_of_value, arc_of_value}
-use Rattle.crx_compact.proofs.Words.{value_of_code, arc_of_code, ◌+ℤ◌, ◌-ℤ◌, w64, to_z-of_z}
-use Rattle.crx_compact.proofs.Words.{drop-set-lt, differences_after, onto_sum, differences_by, highest}
-use Rattle.crx_compact.proofs.{Words.{in_range}, arcs.Bounds.ten-more}
+use Rattle.crx_compact.proofs.Vocabulary.{◌≡◌, ◌≤◌, ◌<◌, refl, ℕ, zero, suc, ◌+◌, ◌-◌, ◌^◌, ℤ, pos, List, [], ◌∷◌}
+use Rattle.crx_compact.proofs.Vocabulary.{◌++◌, length, take, drop, min, slice_index_or, slice_set}
+use Rattle.crx_compact.proofs.Vocabulary.{Some, ◌*◌, ap, arith, rules}
+use Rattle.crx_compact.proofs.Vocabulary.{ints, common_steps, IsWithin, IsShort, Step, code_of_value, arc_of_value}
+use Rattle.crx_compact.proofs.Vocabulary.{value_of_code, arc_of_code, ◌+ℤ◌, ◌-ℤ◌, w64, to_z-of_z}
+use Rattle.crx_compact.proofs.Vocabulary.{drop-set-lt, differences_after, onto_sum, differences_by, highest}
+use Rattle.crx_compact.proofs.{Vocabulary.{in_range}, arcs.Bounds.ten-more}
 use Rattle.std.proofs.Common.{FitsSigned, to_z, of_z}
 use Rattle.std.proofs.{lemmas.List.{drop_all, length-take, take_all}, Math.Nat.pow-le-pow_right}
 use Rattle.crx_compact.specs.Arcs.{IsBelow, AreBelow, value_bound, kept_tail, IsArcInRange, IsNewestWithin}

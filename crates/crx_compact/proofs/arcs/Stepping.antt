@@ -1,9 +1,9 @@
 -- The step of the running differences, both ways.
-use Rattle.crx_compact.proofs.Words.{◌≡◌, refl, ℕ, zero, suc, ◌-◌, min, ℤ, pos, List, [], ◌∷◌, length, take}
-use Rattle.crx_compact.proofs.Words.{ap, arith, rules, ints, each_place, common_steps, ◌+ℤ◌, ◌-ℤ◌, difference}
-use Rattle.crx_compact.proofs.Words.{value_at, differences_of, values_of, differences_after, highest}
+use Rattle.crx_compact.proofs.Vocabulary.{◌≡◌, refl, ℕ, zero, suc, ◌-◌, min, ℤ, pos, List, [], ◌∷◌, length, take}
+use Rattle.crx_compact.proofs.Vocabulary.{ap, arith, rules, ints, each_place, common_steps, ◌+ℤ◌, ◌-ℤ◌, difference}
+use Rattle.crx_compact.proofs.Vocabulary.{value_at, differences_of, values_of, differences_after, highest}
 use Rattle.crx_compact.proofs.arcs.Inversion.{numbers_of, value-numbers, value-first, value-step}
-use Rattle.crx_compact.proofs.Words.{differences_by, take-each_place}
+use Rattle.crx_compact.proofs.Vocabulary.{differences_by, take-each_place}
 use Rattle.crx_compact.proofs.{arcs.Weights.{difference-suc, difference-zero}, arcs.Inversion.without_oldest}
 use Rattle.crx_compact.specs.{meaning.Differences.newest, ArcLaws.{CodesByTail, ValuesByTail}}
 

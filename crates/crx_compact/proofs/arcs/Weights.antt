@@ -1,6 +1,6 @@
 -- Sums of weighted numbers, and differences as such sums.
-use Rattle.crx_compact.proofs.Words.{◌≡◌, refl, ℕ, zero, suc, ◌+◌, ℤ, pos, neg_ℤ, ◌+ℤ◌, ◌-ℤ◌, ◌*ℤ◌, List, []}
-use Rattle.crx_compact.proofs.Words.{◌∷◌, ap, arith, ints, binomial, weighted, difference}
+use Rattle.crx_compact.proofs.Vocabulary.{◌≡◌, refl, ℕ, zero, suc, ◌+◌, ℤ, pos, neg_ℤ, ◌+ℤ◌, ◌-ℤ◌, ◌*ℤ◌, List, []}
+use Rattle.crx_compact.proofs.Vocabulary.{◌∷◌, ap, arith, ints, binomial, weighted, difference}
 use lib.IntN.{ℤ_ind, +ℤ_one, -ℤ_one, +ℤ-suc_ℤ, +ℤ-pred_ℤ, suc_ℤ-*ℤ, pred_ℤ-*ℤ, +ℤ_idr, zero-*ℤ}
 use Rattle.crx_compact.specs.meaning.Differences.{alternating}
 

@@ -9,7 +9,7 @@ use Rattle.std.proofs.lemmas.Map.Keys.{IsDistinct-from_apart, apart_from_distinc
 use Rattle.std.proofs.lemmas.Option.{get_or_from_slice_get, slice_get-get_or, slice_get-map, slice_get_within}
 use Rattle.std.specs.{Str.bytes_eq, List.IsDistinct, Map.keys_of}
 use Rattle.crx_header.specs.meaning.Satellites.{is_among}
-use Rattle.crx_header.proofs.Apart.{other_way}
+use Rattle.crx_header.proofs.OtherIdentifiers.{other_way}
 use Rattle.crx_compact.specs.Entries.{Entry, IsAt, IsOrder, entry_at, in_order, key_of}
 use Rattle.std.proofs.Common.{rules}
 

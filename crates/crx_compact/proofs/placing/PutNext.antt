@@ -8,7 +8,7 @@ use Rattle.std.proofs.{Math.Seq.take-set-lt, lemmas.Grind.common_steps}
 use Rattle.std.specs.{Str.bytes_eq, List.IsDistinct, Map.keys_of}
 use Rattle.crx_compact.specs.Entries.{Entry, IsPutNext, key_of}
 use Rattle.crx_compact.proofs.placing.Ranges.{rest-brought, rest-next, swap-is}
-use Rattle.crx_compact.proofs.{Making.taken_more, RowByRow.{IsThere, is-there}}
+use Rattle.crx_compact.proofs.{OneByOne.taken_more, RowByRow.{IsThere, is-there}}
 
 -- if it is at that place already
 pub put-same : (placed : ℕ) (es : List Entry) → IsPutNext placed placed es es

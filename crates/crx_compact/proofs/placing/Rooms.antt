@@ -1,10 +1,10 @@
 -- The room of the known satellites, by look-ups in their map.
-use Rattle.crx_compact.proofs.Words.{◌≡◌, ℕ, ◌≤◌, false, List, [], ◌∷◌, Some, option_map, refl, sym}
-use Rattle.crx_compact.proofs.Words.{◌∙◌, arith, rules, bytes_eq, false≢true, is_among}
-use Rattle.crx_compact.proofs.Words.{HasRoom, KeepsRooms, is_some, ap}
+use Rattle.crx_compact.proofs.Vocabulary.{◌≡◌, ℕ, ◌≤◌, false, List, [], ◌∷◌, Some, option_map, refl, sym}
+use Rattle.crx_compact.proofs.Vocabulary.{◌∙◌, arith, rules, bytes_eq, false≢true, is_among}
+use Rattle.crx_compact.proofs.Vocabulary.{HasRoom, KeepsRooms, is_some, ap}
 use Rattle.std.specs.Map.{lookup}
 use Rattle.std.proofs.{lemmas.Bool.cases_Bool, lemmas.Grind.common_steps}
-use Rattle.crx_header.proofs.Apart.{other_way}
+use Rattle.crx_header.proofs.OtherIdentifiers.{other_way}
 use Rattle.crx_compact.specs.{Entries.{Entry, key_of, rooms_of}, meaning.Sequences.named}
 use Rattle.crx_compact.specs.Placing.{SatelliteTail}
 

@@ -1,11 +1,11 @@
 -- The history of one satellite with a row changes: so does its row, and no other.
 use Rattle.crx_compact.proofs.CellsFor.{cell-there, each_place-below}
-use Rattle.crx_compact.proofs.Words.{◌≡◌, ℕ, suc, ◌-◌, ◌<◌, ◌≤◌, List, [], ◌∷◌, ◌++◌, length, map, take}
-use Rattle.crx_compact.proofs.Words.{slice_get, drop, Option, Some, ap, sym, ◌∙◌, arith, slice_set}
-use Rattle.crx_compact.proofs.Words.{slice_index_or, bytes_eq, length-map, length-take-le, same_Some, subst}
-use Rattle.crx_compact.proofs.Words.{slice_get-map, ArcTail}
-use Rattle.crx_compact.proofs.Words.{HasRoom, PlacedRows, RowTail, row_or_blank, HasCome}
-use Rattle.crx_compact.proofs.{ComeRows.come-name, placing.Found.at-seam}
+use Rattle.crx_compact.proofs.Vocabulary.{◌≡◌, ℕ, suc, ◌-◌, ◌<◌, ◌≤◌, List, [], ◌∷◌, ◌++◌, length, map, take}
+use Rattle.crx_compact.proofs.Vocabulary.{slice_get, drop, Option, Some, ap, sym, ◌∙◌, arith, slice_set}
+use Rattle.crx_compact.proofs.Vocabulary.{slice_index_or, bytes_eq, length-map, length-take-le, same_Some, subst}
+use Rattle.crx_compact.proofs.Vocabulary.{slice_get-map, ArcTail}
+use Rattle.crx_compact.proofs.Vocabulary.{HasRoom, PlacedRows, RowTail, row_or_blank, HasCome}
+use Rattle.crx_compact.proofs.{RowsByHistory.come-name, placing.LookUps.at-seam}
 use Rattle.crx_compact.proofs.placing.Orders.{set-in_order, there-in_order}
 use Rattle.std.proofs.Common.{set, ℤ}
 use Rattle.crx_compact.proofs.placing.EntryChanges.{changed-is, room-there, shown-same}

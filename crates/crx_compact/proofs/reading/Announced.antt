@@ -1,8 +1,8 @@
 -- The satellites of an open epoch stay those that its text announces, each with its count of types.
-use Rattle.crx_compact.proofs.Words.{◌≡◌, ◌≤◌, suc, List, ◌∷◌, length, map, Some, All, arith, rules}
-use Rattle.crx_compact.proofs.Words.{SATELLITES_LIMIT, satellites_few, satellite_of}
-use Rattle.crx_compact.proofs.Words.{ℕ, unwrap_or, same_Some, columns, IsRowRead, RowTail}
-use Rattle.crx_compact.proofs.Words.{slice_get, slice_set, length-map, IsAnnounced, OpenHistory, common_steps}
+use Rattle.crx_compact.proofs.Vocabulary.{◌≡◌, ◌≤◌, suc, List, ◌∷◌, length, map, Some, All, arith, rules}
+use Rattle.crx_compact.proofs.Vocabulary.{SATELLITES_LIMIT, satellites_few, satellite_of}
+use Rattle.crx_compact.proofs.Vocabulary.{ℕ, unwrap_or, same_Some, columns, IsRowRead, RowTail}
+use Rattle.crx_compact.proofs.Vocabulary.{slice_get, slice_set, length-map, IsAnnounced, OpenHistory, common_steps}
 use Rattle.crx_compact.specs.Placing.{HasAllowedCount}
 use Rattle.std.proofs.Math.ListN.{get_or-map}
 

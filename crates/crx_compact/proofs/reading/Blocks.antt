@@ -1,9 +1,9 @@
 -- Epochs that are read line by line, by the raw epochs that were accepted.
-use Rattle.crx_compact.proofs.Words.{◌≡◌, ℕ, suc, List, [], ◌∷◌, ◌++◌, length, Option, Some, None}
-use Rattle.crx_compact.proofs.Words.{◌∙◌, arith, inl, inr, ◌⊎◌, ReadLine, Content, Fault}
-use Rattle.crx_compact.proofs.Words.{OutOfMemory, Epoch, Count, Place, Done, Fails, RawEpoch, epoch_at, Tail}
-use Rattle.crx_compact.proofs.Words.{tail_left, ColumnsState, HasMade, epoch_after, first_step, held_after}
-use Rattle.crx_compact.proofs.{Words.{placed_as, step_in}, reading.LineByLine.{steps-agree, steps-from_open}}
+use Rattle.crx_compact.proofs.Vocabulary.{◌≡◌, ℕ, suc, List, [], ◌∷◌, ◌++◌, length, Option, Some, None}
+use Rattle.crx_compact.proofs.Vocabulary.{◌∙◌, arith, inl, inr, ◌⊎◌, ReadLine, Content, Fault}
+use Rattle.crx_compact.proofs.Vocabulary.{OutOfMemory, Epoch, Count, Place, Done, Fails, RawEpoch, epoch_at, Tail}
+use Rattle.crx_compact.proofs.Vocabulary.{tail_left, ColumnsState, HasMade, epoch_after, first_step, held_after}
+use Rattle.crx_compact.proofs.{Vocabulary.{placed_as, step_in}, reading.LineByLine.{steps-agree, steps-from_open}}
 use Rattle.crx_compact.proofs.soundness.Soundness.{reads-soundly}
 use Rattle.crx_compact.proofs.reading.RawTailing.{place-by_tail, left-by_tail}
 use Rattle.std.proofs.Common.{length-append}

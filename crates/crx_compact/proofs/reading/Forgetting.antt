@@ -1,7 +1,7 @@
 -- A line that begins with > forgets the lines before it.
-use Rattle.crx_compact.proofs.Words.{◌≡◌, ◌+◌, length, ℕ, true, List, ◌∷◌, take, map}
-use Rattle.crx_compact.proofs.Words.{rules, arith}
-use Rattle.crx_compact.proofs.Words.{ReadLine, Content, Count, RawEpoch, begins_epoch, Forgets}
+use Rattle.crx_compact.proofs.Vocabulary.{◌≡◌, ◌+◌, length, ℕ, true, List, ◌∷◌, take, map}
+use Rattle.crx_compact.proofs.Vocabulary.{rules, arith}
+use Rattle.crx_compact.proofs.Vocabulary.{ReadLine, Content, Count, RawEpoch, begins_epoch, Forgets}
 use Rattle.crx_compact.proofs.soundness.Soundness.{epoch-facts}
 
 first-line : (count more : ℕ) (line other : List ℕ) (lines : List ReadLine) (own : List (List ℕ))

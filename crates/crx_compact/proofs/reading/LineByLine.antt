@@ -1,17 +1,17 @@
 -- The steps of a reader, line by line, agree with reading all lines so far at once.
-use Rattle.crx_compact.proofs.Words.{◌≡◌, Satellite, rows_read, tail_named, opened_raw, held_after}
-use Rattle.crx_compact.proofs.Words.{refl, List, [], arith, Fault, Count, Place, Fails, padded}
-use Rattle.crx_compact.proofs.Words.{rules, ℕ, Result, Content, ReadRow, ArcTail, RowTail, RawStep}
-use Rattle.crx_compact.proofs.Words.{opening, suc, patched, ReadLine, one_line, and_then, ReadCell, held_row}
-use Rattle.crx_compact.proofs.Words.{row_step, ◌+◌, ◌∷◌, ◌++◌, map, Some, None, Ok, Err, sym, ◌∙◌, ap, Done}
-use Rattle.crx_compact.proofs.Words.{Tail, length, clock_line_read, epoch_after_line, tail_for_line}
-use Rattle.crx_compact.proofs.Words.{step_with_rows, Option, after_lines, epoch_begun, arc_of_code}
-use Rattle.crx_compact.proofs.Words.{shown_value, common_steps, option_map, true≢false, then_place}
-use Rattle.crx_compact.proofs.Words.{BegunEpoch, whole_epoch, tail_opened, take_all, map-map, shown_row}
-use Rattle.crx_compact.proofs.Words.{HeldEpoch, with_rows, next_step, placed_as, satellite_line_read}
-use Rattle.crx_compact.proofs.Words.{epoch_of_rows, whole_or_awaiting, raw_step_with_row, past_of_tail}
-use Rattle.crx_compact.proofs.Words.{before_clock, place_of_step, append_assoc, length-append}
-use Rattle.crx_compact.proofs.{placing.Found.at-seam, ShownRows.set-next}
+use Rattle.crx_compact.proofs.Vocabulary.{◌≡◌, Satellite, rows_read, tail_named, opened_raw, held_after}
+use Rattle.crx_compact.proofs.Vocabulary.{refl, List, [], arith, Fault, Count, Place, Fails, padded}
+use Rattle.crx_compact.proofs.Vocabulary.{rules, ℕ, Result, Content, ReadRow, ArcTail, RowTail, RawStep}
+use Rattle.crx_compact.proofs.Vocabulary.{opening, suc, patched, ReadLine, one_line, and_then, ReadCell, held_row}
+use Rattle.crx_compact.proofs.Vocabulary.{row_step, ◌+◌, ◌∷◌, ◌++◌, map, Some, None, Ok, Err, sym, ◌∙◌, ap, Done}
+use Rattle.crx_compact.proofs.Vocabulary.{Tail, length, clock_line_read, epoch_after_line, tail_for_line}
+use Rattle.crx_compact.proofs.Vocabulary.{step_with_rows, Option, after_lines, epoch_begun, arc_of_code}
+use Rattle.crx_compact.proofs.Vocabulary.{shown_value, common_steps, option_map, true≢false, then_place}
+use Rattle.crx_compact.proofs.Vocabulary.{BegunEpoch, whole_epoch, tail_opened, take_all, map-map, shown_row}
+use Rattle.crx_compact.proofs.Vocabulary.{HeldEpoch, with_rows, next_step, placed_as, satellite_line_read}
+use Rattle.crx_compact.proofs.Vocabulary.{epoch_of_rows, whole_or_awaiting, raw_step_with_row, past_of_tail}
+use Rattle.crx_compact.proofs.Vocabulary.{before_clock, place_of_step, append_assoc, length-append}
+use Rattle.crx_compact.proofs.{placing.LookUps.at-seam, ShownRows.set-next}
 use Rattle.crx_compact.proofs.{soundness.Soundness.{Paired, RowFacts, rows-facts}}
 use Rattle.crx_compact.proofs.reading.PaddedRows.{row-opened, row-shows}
 use Rattle.std.specs.Option.{is_some}

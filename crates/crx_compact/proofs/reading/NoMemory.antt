@@ -1,7 +1,7 @@
 -- OutOfMemory is no fault of a line of an epoch.
-use Rattle.crx_compact.proofs.Words.{◌≡◌, ℕ, suc, ℤ, [], ◌∷◌, Err, Code, common_steps}
-use Rattle.crx_compact.proofs.Words.{cells_read, OutOfMemory, Content, List, Option, Result, Fault, arith}
-use Rattle.crx_compact.proofs.Words.{step_in, next_step, RowTail, Tail}
+use Rattle.crx_compact.proofs.Vocabulary.{◌≡◌, ℕ, suc, ℤ, [], ◌∷◌, Err, Code, common_steps}
+use Rattle.crx_compact.proofs.Vocabulary.{cells_read, OutOfMemory, Content, List, Option, Result, Fault, arith}
+use Rattle.crx_compact.proofs.Vocabulary.{step_in, next_step, RowTail, Tail}
 use Rattle.crx_compact.specs.OpenEpochs.{OpenRawEpoch, OpenClock, Faulty, ColumnsState, line_step}
 use Rattle.crx_compact.specs.OpenEpochs.{whole_or_awaiting}
 

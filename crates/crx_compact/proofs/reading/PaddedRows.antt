@@ -1,15 +1,15 @@
 -- The rows of an open epoch: a satellite's line is read after the row that the epoch line leaves as after the satellite's history, and the
 -- row after the line shows the line's row.
-use Rattle.crx_compact.proofs.Words.{◌≡◌, None, Some, suc, ◌<◌, ◌*◌, ◌∷◌, map, Tail}
-use Rattle.crx_compact.proofs.Words.{Satellite, flags_held, tail_named, ap, length-map, each_place}
-use Rattle.crx_compact.proofs.Words.{columns, shown_value, past_of_row, after_cells, common_steps}
-use Rattle.crx_compact.proofs.Words.{held_from, ReadCell, cells_of, shown_row}
-use Rattle.crx_compact.proofs.Words.{slice_index_or, index-each_place, value_at_place}
-use Rattle.crx_compact.proofs.Words.{ℕ, List, Option, arith, padded, length, rules}
-use Rattle.crx_compact.proofs.Words.{held_row, row_held, patched, Missing, ReadRow, ArcTail, RowTail}
-use Rattle.crx_compact.proofs.Words.{arcs_of_tail, past_of_tail, satellite_of}
-use Rattle.crx_compact.proofs.Words.{row_of_cells, cell_of_tail, value_of_code, flags_of_tail}
-use Rattle.crx_compact.proofs.Words.{arc_of_code, at-without_end_blanks, length-each_place, OBSERVATION_WIDTH}
+use Rattle.crx_compact.proofs.Vocabulary.{◌≡◌, None, Some, suc, ◌<◌, ◌*◌, ◌∷◌, map, Tail}
+use Rattle.crx_compact.proofs.Vocabulary.{Satellite, flags_held, tail_named, ap, length-map, each_place}
+use Rattle.crx_compact.proofs.Vocabulary.{columns, shown_value, past_of_row, after_cells, common_steps}
+use Rattle.crx_compact.proofs.Vocabulary.{held_from, ReadCell, cells_of, shown_row}
+use Rattle.crx_compact.proofs.Vocabulary.{slice_index_or, index-each_place, value_at_place}
+use Rattle.crx_compact.proofs.Vocabulary.{ℕ, List, Option, arith, padded, length, rules}
+use Rattle.crx_compact.proofs.Vocabulary.{held_row, row_held, patched, Missing, ReadRow, ArcTail, RowTail}
+use Rattle.crx_compact.proofs.Vocabulary.{arcs_of_tail, past_of_tail, satellite_of}
+use Rattle.crx_compact.proofs.Vocabulary.{row_of_cells, cell_of_tail, value_of_code, flags_of_tail}
+use Rattle.crx_compact.proofs.Vocabulary.{arc_of_code, at-without_end_blanks, length-each_place, OBSERVATION_WIDTH}
 use Rattle.crx_compact.proofs.SoundTexts.{same-cut}
 use Rattle.crx_compact.proofs.{CellsRead.{cells-within, shown-code}, PlaceByPlace.at-take}
 use Rattle.crx_compact.proofs.{Characters.at-by_position, soundness.Soundness.{AreReadCells, RowFacts}}

@@ -1,14 +1,14 @@
 -- The tail of a block of raw epochs determines the meaning of the next one, and the next tail.
 use Rattle.std.proofs.lemmas.Grind.{common_steps}
-use Rattle.crx_compact.proofs.Words.{◌≡◌, refl, ℕ, List, [], ◌∷◌, ◌*◌, map, length, Option, Some}
-use Rattle.crx_compact.proofs.Words.{unwrap_or, option_map, sym, ◌∙◌, ap, get_or_past, patched, ReadLine}
-use Rattle.crx_compact.proofs.Words.{Count, stretch, RawRow, RawEpoch, block_of, overlaid, raw_row_named}
-use Rattle.crx_compact.proofs.Words.{raw_run_of, marks_of, code_in, since_start, Past, past_of_block}
-use Rattle.crx_compact.proofs.Words.{past_of_epochs, past_of_line, epoch_at, RowTail, tail_left, no_tail}
-use Rattle.crx_compact.proofs.Words.{tail_named, cell_of_tail, flags_of_tail, flags_held, raw_row_tail_after}
-use Rattle.crx_compact.proofs.Words.{raw_tail_after, arc_of_code, past_of_tail, tail_for_line, epoch_after}
-use Rattle.crx_compact.proofs.Words.{HasSingleLines, each_place-same, index-each_place, arith, rules}
-use Rattle.crx_compact.proofs.{Words.{raw_row_tail, tail_of_block, started_tail}, Lists.mapped-same}
+use Rattle.crx_compact.proofs.Vocabulary.{◌≡◌, refl, ℕ, List, [], ◌∷◌, ◌*◌, map, length, Option, Some}
+use Rattle.crx_compact.proofs.Vocabulary.{unwrap_or, option_map, sym, ◌∙◌, ap, get_or_past, patched, ReadLine}
+use Rattle.crx_compact.proofs.Vocabulary.{Count, stretch, RawRow, RawEpoch, block_of, overlaid, raw_row_named}
+use Rattle.crx_compact.proofs.Vocabulary.{raw_run_of, marks_of, code_in, since_start, Past, past_of_block}
+use Rattle.crx_compact.proofs.Vocabulary.{past_of_epochs, past_of_line, epoch_at, RowTail, tail_left, no_tail}
+use Rattle.crx_compact.proofs.Vocabulary.{tail_named, cell_of_tail, flags_of_tail, flags_held, raw_row_tail_after}
+use Rattle.crx_compact.proofs.Vocabulary.{raw_tail_after, arc_of_code, past_of_tail, tail_for_line, epoch_after}
+use Rattle.crx_compact.proofs.Vocabulary.{HasSingleLines, each_place-same, index-each_place, arith, rules}
+use Rattle.crx_compact.proofs.{Vocabulary.{raw_row_tail, tail_of_block, started_tail}, Lists.mapped-same}
 use Rattle.crx_compact.proofs.{wayback.Overlays.{overlaid-patched, overlaid-take}, wayback.Runs.named-made}
 use Rattle.crx_compact.proofs.arcs.Arcs.{value-next, number-next}
 use Rattle.std.proofs.Math.Path.{fun_ext}

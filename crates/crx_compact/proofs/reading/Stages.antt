@@ -1,10 +1,10 @@
 -- A reader of compact epochs, by the lines that were read of an epoch.
-use Rattle.crx_compact.proofs.Words.{◌≡◌, List, Some, None, SatelliteLine, Bool}
-use Rattle.crx_compact.proofs.Words.{true, if◌then◌else◌, tail_of_history}
-use Rattle.crx_compact.proofs.Words.{ℕ, tail_held, with_rows, OpenHistory}
-use Rattle.crx_compact.proofs.Words.{arith, Expected, rules}
-use Rattle.crx_compact.proofs.Words.{Content, Reading, is_idle, step_in, step_at}
-use Rattle.crx_compact.proofs.Words.{ColumnsState, columns_state}
+use Rattle.crx_compact.proofs.Vocabulary.{◌≡◌, List, Some, None, SatelliteLine, Bool}
+use Rattle.crx_compact.proofs.Vocabulary.{true, if◌then◌else◌, tail_of_history}
+use Rattle.crx_compact.proofs.Vocabulary.{ℕ, tail_held, with_rows, OpenHistory}
+use Rattle.crx_compact.proofs.Vocabulary.{arith, Expected, rules}
+use Rattle.crx_compact.proofs.Vocabulary.{Content, Reading, is_idle, step_in, step_at}
+use Rattle.crx_compact.proofs.Vocabulary.{ColumnsState, columns_state}
 use Rattle.crx_compact.specs.OpenEpochs.{awaits_row}
 use Rattle.crx_compact.specs.declared.columns.Expected.TheVariants.{EpochLine}
 

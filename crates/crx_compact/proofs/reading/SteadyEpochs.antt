@@ -1,8 +1,8 @@
 -- An epoch, or its fault, at compact lines doesn't depend on the lines after it.
-use Rattle.crx_compact.proofs.Words.{ℕ, List, [], ◌∷◌, Option, Count, Satellite, Past, BegunEpoch, rows_read}
-use Rattle.crx_compact.proofs.Words.{epoch_after_line, epoch_against, arith, rules}
+use Rattle.crx_compact.proofs.Vocabulary.{ℕ, List, [], ◌∷◌, Option, Count, Satellite, Past, BegunEpoch, rows_read}
+use Rattle.crx_compact.proofs.Vocabulary.{epoch_after_line, epoch_against, arith, rules}
 use Rattle.crx_rinex.specs.Steady.{IsSteady}
-use Rattle.crx_rinex.proofs.Steady.{steady-here, steady-first_line, steady-then}
+use Rattle.crx_rinex.proofs.SteadyPlaces.{steady-here, steady-first_line, steady-then}
 
 pub steady-rows_read : (past : Past) (satellites : List Satellite) → IsSteady (rows_read past satellites)
 steady-rows_read past [] = steady-here []

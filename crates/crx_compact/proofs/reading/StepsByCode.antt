@@ -1,10 +1,10 @@
 -- The step that a line makes in an open epoch, by its effect on a history.
-use Rattle.crx_compact.proofs.Words.{◌≡◌, ◌≤◌, ◌<◌, ℕ, ◌+◌, Some, None, Err, Tail, refl, ap}
-use Rattle.crx_compact.proofs.Words.{◌==◌, false, true, List, length, arith, Fault, Epoch, Reading, RowTail}
-use Rattle.crx_compact.proofs.Words.{Content, row_held, HasMade, RawStep, with_rows, IsRowRead}
-use Rattle.crx_compact.proofs.Words.{satellite_of, slice_get, next_step, whole_epoch, OpenHistory}
-use Rattle.crx_compact.proofs.Words.{shown_epoch}
-use Rattle.crx_compact.proofs.Words.{lines_to, take_all, HasPrintedLines, step_with_rows, tail_of_history}
+use Rattle.crx_compact.proofs.Vocabulary.{◌≡◌, ◌≤◌, ◌<◌, ℕ, ◌+◌, Some, None, Err, Tail, refl, ap}
+use Rattle.crx_compact.proofs.Vocabulary.{◌==◌, false, true, List, length, arith, Fault, Epoch, Reading, RowTail}
+use Rattle.crx_compact.proofs.Vocabulary.{Content, row_held, HasMade, RawStep, with_rows, IsRowRead}
+use Rattle.crx_compact.proofs.Vocabulary.{satellite_of, slice_get, next_step, whole_epoch, OpenHistory}
+use Rattle.crx_compact.proofs.Vocabulary.{shown_epoch}
+use Rattle.crx_compact.proofs.Vocabulary.{lines_to, take_all, HasPrintedLines, step_with_rows, tail_of_history}
 use Rattle.crx_compact.proofs.{RowByRow.is-there}
 use Rattle.std.proofs.lemmas.Option.{slice_get_past}
 use Rattle.crx_compact.specs.{OpenEpochs.{Idle, Whole, Faulty, makes_epoch}}

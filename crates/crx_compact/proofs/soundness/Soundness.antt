@@ -1,17 +1,17 @@
 -- Facts about an epoch that was read.
-use Rattle.crx_compact.proofs.Words.{◌≡◌, suc, List, Some, None, Done, Code, Past, ◌+◌, ◌*◌}
-use Rattle.crx_compact.proofs.Words.{true, length, Option, Result, Count, Place, RawRow, subst}
-use Rattle.crx_compact.proofs.Words.{rules, BegunEpoch, begins_epoch, past_of_line, row_of_cells, Row}
-use Rattle.crx_compact.proofs.Words.{Err, not, epoch_begun, Fault, apart-map, Truncated, Satellite, are_marks}
-use Rattle.crx_compact.proofs.Words.{rows_read, raw_run_of, cells_read, length-map, then_place, first_line}
-use Rattle.crx_compact.proofs.Words.{NotAnEpoch, each_place, ℕ, ℤ, ◌∷◌, map, Ok, sym, ◌∙◌, ap, []}
-use Rattle.crx_compact.proofs.Words.{code_of, Content, BadClock, without_end_blanks, take, epoch_against}
-use Rattle.crx_compact.proofs.Words.{epoch_at, slice_index_or, AllByRecursion, clock_line_read, common_steps}
-use Rattle.crx_compact.proofs.Words.{Missing, arith, ReadRow, columns, ReadLine, BadFlags, RawEpoch}
-use Rattle.crx_compact.proofs.Words.{block_of, marks_of, ReadCell, cells_of, ReadEpoch, cell_read}
-use Rattle.crx_compact.proofs.Words.{if◌then◌else◌, satellites_of_line, satellite_line_read, epoch_after_line}
-use Rattle.crx_compact.proofs.Words.{after_cells, raw_row_named, past_of_block, epoch_of_rows}
-use Rattle.crx_compact.proofs.{Words.⊤, Results.{no-err, and_then-ok, if-err, if-true}}
+use Rattle.crx_compact.proofs.Vocabulary.{◌≡◌, suc, List, Some, None, Done, Code, Past, ◌+◌, ◌*◌}
+use Rattle.crx_compact.proofs.Vocabulary.{true, length, Option, Result, Count, Place, RawRow, subst}
+use Rattle.crx_compact.proofs.Vocabulary.{rules, BegunEpoch, begins_epoch, past_of_line, row_of_cells, Row}
+use Rattle.crx_compact.proofs.Vocabulary.{Err, not, epoch_begun, Fault, apart-map, Truncated, Satellite, are_marks}
+use Rattle.crx_compact.proofs.Vocabulary.{rows_read, raw_run_of, cells_read, length-map, then_place, first_line}
+use Rattle.crx_compact.proofs.Vocabulary.{NotAnEpoch, each_place, ℕ, ℤ, ◌∷◌, map, Ok, sym, ◌∙◌, ap, []}
+use Rattle.crx_compact.proofs.Vocabulary.{code_of, Content, BadClock, without_end_blanks, take, epoch_against}
+use Rattle.crx_compact.proofs.Vocabulary.{epoch_at, slice_index_or, AllByRecursion, clock_line_read, common_steps}
+use Rattle.crx_compact.proofs.Vocabulary.{Missing, arith, ReadRow, columns, ReadLine, BadFlags, RawEpoch}
+use Rattle.crx_compact.proofs.Vocabulary.{block_of, marks_of, ReadCell, cells_of, ReadEpoch, cell_read}
+use Rattle.crx_compact.proofs.Vocabulary.{if◌then◌else◌, satellites_of_line, satellite_line_read, epoch_after_line}
+use Rattle.crx_compact.proofs.Vocabulary.{after_cells, raw_row_named, past_of_block, epoch_of_rows}
+use Rattle.crx_compact.proofs.{Vocabulary.⊤, GoodResults.{no-err, and_then-ok, if-err, if-true}}
 use Rattle.crx_compact.proofs.{wayback.Overlays.columns-cut, Marks.{cells-count, texts-count}}
 use Rattle.crx_compact.proofs.{Identifiers.each-own, EpochLines.{differ, names_of, LineFacts, line-facts_of}}
 use Rattle.crx_compact.specs.Expansion.{all_ok, text_of, row_from, rows_from, epoch_of_block}

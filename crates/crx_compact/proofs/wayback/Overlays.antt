@@ -1,11 +1,11 @@
 -- Texts by their characters: a patch by a difference returns the text, marks over one another are patches in turn, and texts and marks can
 -- be cut at a width.
-use Rattle.crx_compact.proofs.Words.{◌≡◌, is_blank, character_of, each_place, latest_mark, overlaid}
-use Rattle.crx_compact.proofs.Words.{refl, ◌≢◌, List, length, mark_of, patched, shown, longest, columns}
-use Rattle.crx_compact.proofs.Words.{ℕ, ◌≤◌, [], ◌∷◌, All, ◌∙◌, ap, at, ◌<◌, map, take}
-use Rattle.crx_compact.proofs.Words.{if◌then◌else◌, arith, text_difference, index-each_place, get_or_past}
-use Rattle.crx_compact.proofs.Words.{without_end_blanks, at-without_end_blanks, cases_lt}
-use Rattle.crx_compact.proofs.{Words.{rules, patched_in_turn}, SoundTexts.{same-columns}}
+use Rattle.crx_compact.proofs.Vocabulary.{◌≡◌, is_blank, character_of, each_place, latest_mark, overlaid}
+use Rattle.crx_compact.proofs.Vocabulary.{refl, ◌≢◌, List, length, mark_of, patched, shown, longest, columns}
+use Rattle.crx_compact.proofs.Vocabulary.{ℕ, ◌≤◌, [], ◌∷◌, All, ◌∙◌, ap, at, ◌<◌, map, take}
+use Rattle.crx_compact.proofs.Vocabulary.{if◌then◌else◌, arith, text_difference, index-each_place, get_or_past}
+use Rattle.crx_compact.proofs.Vocabulary.{without_end_blanks, at-without_end_blanks, cases_lt}
+use Rattle.crx_compact.proofs.{Vocabulary.{rules, patched_in_turn}, SoundTexts.{same-columns}}
 use Rattle.crx_compact.proofs.Characters.{same_characters, at-by_position, at-take_past}
 use Rattle.crx_compact.proofs.{PlaceByPlace.at-take, wayback.Runs.IsUnmarked}
 

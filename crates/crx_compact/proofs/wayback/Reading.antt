@@ -1,12 +1,12 @@
 -- The text of an epoch line is read as its columns and satellites; and texts of coded values.
-use Rattle.crx_compact.proofs.Words.{◌≡◌, refl, true, false, List, ◌∷◌, [], ℕ, drop}
-use Rattle.crx_compact.proofs.Words.{Ok, ◌+◌, ◌*◌, arith, and_parts, rules, length, Row}
-use Rattle.crx_compact.proofs.Words.{Epoch, Count, IsWholeEpoch, begins_epoch}
-use Rattle.crx_compact.proofs.Words.{columns, epoch_text, satellites_of_text, few_kept}
-use Rattle.crx_compact.proofs.Words.{at-append_past}
-use Rattle.crx_compact.proofs.Words.{list_all, without_end_blanks, at-without_end_blanks, common_steps}
-use Rattle.crx_compact.proofs.wayback.Facts.{head-counted, typed-rows, text-head, length-text, names-read}
-use Rattle.crx_compact.proofs.wayback.Facts.{satellites_of_rows, satellites-good}
+use Rattle.crx_compact.proofs.Vocabulary.{◌≡◌, refl, true, false, List, ◌∷◌, [], ℕ, drop}
+use Rattle.crx_compact.proofs.Vocabulary.{Ok, ◌+◌, ◌*◌, arith, and_parts, rules, length, Row}
+use Rattle.crx_compact.proofs.Vocabulary.{Epoch, Count, IsWholeEpoch, begins_epoch}
+use Rattle.crx_compact.proofs.Vocabulary.{columns, epoch_text, satellites_of_text, few_kept}
+use Rattle.crx_compact.proofs.Vocabulary.{at-append_past}
+use Rattle.crx_compact.proofs.Vocabulary.{list_all, without_end_blanks, at-without_end_blanks, common_steps}
+use Rattle.crx_compact.proofs.wayback.WritableEpochs.{head-counted, typed-rows, text-head, length-text, names-read}
+use Rattle.crx_compact.proofs.wayback.WritableEpochs.{satellites_of_rows, satellites-good}
 use Rattle.crx_compact.proofs.{SoundTexts.first-columns, anywriter.Texts.is_code_character}
 use Rattle.crx_compact.proofs.{Identifiers.none-earlier}
 use Rattle.std.proofs.Common.{drop_of_length-le}

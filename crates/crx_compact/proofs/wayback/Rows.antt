@@ -1,19 +1,19 @@
 -- The rows of a satellite's run can be written.
 use Rattle.crx_compact.proofs.Characters.{bytes_eq-is}
-use Rattle.crx_compact.proofs.Words.{◌≡◌, ◌-◌, ◌^◌, Bool, List, Some, None}
-use Rattle.crx_compact.proofs.Words.{refl, length, Option, stretch, code_at}
-use Rattle.crx_compact.proofs.Words.{ℕ, ℤ, ◌∷◌, map, All, ap, Row, subst}
-use Rattle.crx_compact.proofs.Words.{arith, Epoch, Marked, run_of, arc_of, Count, []}
-use Rattle.crx_compact.proofs.Words.{each_place, since_full, row_named}
-use Rattle.crx_compact.proofs.Words.{slice_index_or, AllByRecursion, IsValue}
-use Rattle.crx_compact.proofs.Words.{value_in, AreWhole}
-use Rattle.crx_compact.proofs.Words.{IsWithin}
-use Rattle.crx_compact.proofs.Words.{IsMissingOrWithin, OBSERVATION_WIDTH}
-use Rattle.crx_compact.proofs.Words.{IsPrintable, CLOCK_WIDTH}
-use Rattle.crx_compact.proofs.Words.{WRITTEN_ORDER}
-use Rattle.crx_compact.proofs.wayback.Facts.{IsTypedRow, typed-rows}
+use Rattle.crx_compact.proofs.Vocabulary.{◌≡◌, ◌-◌, ◌^◌, Bool, List, Some, None}
+use Rattle.crx_compact.proofs.Vocabulary.{refl, length, Option, stretch, code_at}
+use Rattle.crx_compact.proofs.Vocabulary.{ℕ, ℤ, ◌∷◌, map, All, ap, Row, subst}
+use Rattle.crx_compact.proofs.Vocabulary.{arith, Epoch, Marked, run_of, arc_of, Count, []}
+use Rattle.crx_compact.proofs.Vocabulary.{each_place, since_full, row_named}
+use Rattle.crx_compact.proofs.Vocabulary.{slice_index_or, AllByRecursion, IsValue}
+use Rattle.crx_compact.proofs.Vocabulary.{value_in, AreWhole}
+use Rattle.crx_compact.proofs.Vocabulary.{IsWithin}
+use Rattle.crx_compact.proofs.Vocabulary.{IsMissingOrWithin, OBSERVATION_WIDTH}
+use Rattle.crx_compact.proofs.Vocabulary.{IsPrintable, CLOCK_WIDTH}
+use Rattle.crx_compact.proofs.Vocabulary.{WRITTEN_ORDER}
+use Rattle.crx_compact.proofs.wayback.WritableEpochs.{IsTypedRow, typed-rows}
 use Rattle.crx_compact.proofs.wayback.Runs.{marked, rows_before}
-use Rattle.crx_compact.proofs.Words.{rules, common_steps, CodesFit}
+use Rattle.crx_compact.proofs.Vocabulary.{rules, common_steps, CodesFit}
 use Rattle.crx_compact.proofs.Lists.{all-from}
 use Rattle.crx_compact.proofs.arcs.Bounds.{IsNear, code-printable}
 use Rattle.crx_rinex.specs.meaning.EpochLines.{IsClockOffset}

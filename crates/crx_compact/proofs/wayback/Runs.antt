@@ -1,8 +1,8 @@
 -- Epochs with their marks, the first characters of their lines, and the rows of a satellite before one.
-use Rattle.crx_compact.proofs.Words.{◌≡◌, ◌≢◌, ℕ, [], ◌∷◌, map, ◌∙◌, ap, Row, at}
-use Rattle.crx_compact.proofs.Words.{refl, Bool, true, List, false, rules, named}
-use Rattle.crx_compact.proofs.Words.{Epoch, nat_eq, Marked, back_to, mark_of, stretch, row_named, option_map}
-use Rattle.crx_compact.proofs.Words.{at-without_end_blanks, by_position, if◌then◌else◌, text_difference}
+use Rattle.crx_compact.proofs.Vocabulary.{◌≡◌, ◌≢◌, ℕ, [], ◌∷◌, map, ◌∙◌, ap, Row, at}
+use Rattle.crx_compact.proofs.Vocabulary.{refl, Bool, true, List, false, rules, named}
+use Rattle.crx_compact.proofs.Vocabulary.{Epoch, nat_eq, Marked, back_to, mark_of, stretch, row_named, option_map}
+use Rattle.crx_compact.proofs.Vocabulary.{at-without_end_blanks, by_position, if◌then◌else◌, text_difference}
 use Rattle.crx_compact.proofs.Characters.{at-by_position}
 
 -- ---- marks

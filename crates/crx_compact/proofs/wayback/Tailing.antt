@@ -1,12 +1,12 @@
 -- The tail of the epochs determines the next epoch's lines and the next tail: so an epoch is coded after others.
-use Rattle.crx_compact.proofs.Words.{◌≡◌, text_difference, satellite_line, index-each_place, lines_after_tail}
-use Rattle.crx_compact.proofs.Words.{refl, [], Option, Epoch, Marked, run_of, arc_of, tail_of, no_tail}
-use Rattle.crx_compact.proofs.Words.{ℕ, ℤ, Bool, true, List, ◌∷◌, map, Some, Row, Tail, common_steps}
-use Rattle.crx_compact.proofs.Words.{if◌then◌else◌, indicators_before, tail_written_after}
-use Rattle.crx_compact.proofs.Words.{option_map, epoch_line, get_or_past, row_line_in, row_tail_in}
-use Rattle.crx_compact.proofs.Words.{WRITTEN_ORDER, cell_of_tail, flags_of_tail, are_different, compact_epoch}
-use Rattle.crx_compact.proofs.Words.{back_to, stretch, epoch_text, row_named, RowTail, tail_named, tail_after}
-use Rattle.crx_compact.proofs.{Words.{arc_tail, rules, arith, IsSoundEpoch}, arcs.Arcs.{code-next, arc-next}}
+use Rattle.crx_compact.proofs.Vocabulary.{◌≡◌, text_difference, satellite_line, index-each_place, lines_after_tail}
+use Rattle.crx_compact.proofs.Vocabulary.{refl, [], Option, Epoch, Marked, run_of, arc_of, tail_of, no_tail}
+use Rattle.crx_compact.proofs.Vocabulary.{ℕ, ℤ, Bool, true, List, ◌∷◌, map, Some, Row, Tail, common_steps}
+use Rattle.crx_compact.proofs.Vocabulary.{if◌then◌else◌, indicators_before, tail_written_after}
+use Rattle.crx_compact.proofs.Vocabulary.{option_map, epoch_line, get_or_past, row_line_in, row_tail_in}
+use Rattle.crx_compact.proofs.Vocabulary.{WRITTEN_ORDER, cell_of_tail, flags_of_tail, are_different, compact_epoch}
+use Rattle.crx_compact.proofs.Vocabulary.{back_to, stretch, epoch_text, row_named, RowTail, tail_named, tail_after}
+use Rattle.crx_compact.proofs.{Vocabulary.{arc_tail, rules, arith, IsSoundEpoch}, arcs.Arcs.{code-next, arc-next}}
 use Rattle.crx_compact.proofs.{Lists.mapped-same, wayback.Rows.run-begins, Identifiers.each-own}
 use Rattle.crx_compact.proofs.{wayback.Runs.{marked, named-made, rows_before}, SoundTexts.before-trimmed}
 use Rattle.crx_compact.specs.{Tails.{row_tail, tail_or_nothing}, Laws.{EpochByTail}}

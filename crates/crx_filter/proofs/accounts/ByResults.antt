@@ -1,12 +1,12 @@
 -- The promises of compactions, expansions and checks follow from the definitions of their results, by the laws.
-use Rattle.crx_filter.proofs.Words
-use Words.{common_steps, arith, ℕ, ◌≡◌, List, ap, sym, ◌∙◌, subst, append-nil, Choices, compacted, expanded}
-use Words.{checked, FilterResult}
-use Rattle.crx_filter.proofs.accounts.{Told.{file-told, text-told}, Leaving.leaves-out}
-use Rattle.crx_filter.proofs.accounts.Shortness.{short-blocks}
-use Rattle.crx_filter.proofs.anywriter.{AnyRun.reads-any, OnlyTexts.only-text}
+use Rattle.crx_filter.proofs.Vocabulary
+use Vocabulary.{common_steps, arith, ℕ, ◌≡◌, List, ap, sym, ◌∙◌, subst, append-nil, Choices, compacted, expanded}
+use Vocabulary.{checked, FilterResult}
+use Rattle.crx_filter.proofs.accounts.{OwnedLines.{file-told, text-told}, LinesLeftOut.leaves-out}
+use Rattle.crx_filter.proofs.accounts.ShortBlocks.{short-blocks}
+use Rattle.crx_filter.proofs.anywriter.{RunsOfAnyText.reads-any, AcceptedTexts.only-text}
 use Rattle.crx_filter.proofs.wayback.{Canonical.same-compaction, ExpandedStandard.expanded-standard}
-use Rattle.crx_filter.proofs.{anywriter.ComesBack.texts-of_units, standard.CheckStandard.named-where_not}
+use Rattle.crx_filter.proofs.{anywriter.RestoredFiles.texts-of_units, standard.CheckStandard.named-where_not}
 use Rattle.crx_filter.{proofs.standard.Lossless.what-passes, specs.meaning.Accounts.AccountsForFile}
 use Rattle.crx_filter.specs.meaning.{Accounts.AccountsForText, ByResults.{CompactionKeeps, ExpansionKeeps}}
 use Rattle.crx_filter.specs.meaning.ByResults.{CheckKeeps, GivesBackWhatPasses}

@@ -1,37 +1,37 @@
 -- Compact text of a file's units, whoever wrote it, expands to their RINEX text.
 use Rattle.crx_filter.proofs
-use proofs.Words.{common_steps, drop, ℕ, suc, ◌≡◌, ◌+◌, ◌<◌, Bool, true, false, cond, List, [], ◌∷◌, ◌++◌}
-use proofs.Words.{map}
-use proofs.Words.{length, Option, Some, None}
-use proofs.Words.{by_bool, refl, ap, sym, ◌∙◌, subst, arith, append-nil, is_some}
-use proofs.Words.{Content, Epoch, Done}
-use proofs.Words.{FileUnit, HeaderLine, EventLine, EventRecord, Observation, Item, Accepted, Count}
-use proofs.Words.{RawEpoch, ReadEpoch}
-use proofs.Words.{header_has_ended, records_left, records_count_types, types_in_force, types_fault}
-use proofs.Words.{Reading, AtLines, reading_from, ended_reading, compact_place, compact_epoch_place}
-use proofs.Words.{is_event_line, records_in, raws_kept}
-use proofs.Words.{IsWholeEpoch, expanded_unit, warnings_in, result_of}
-use proofs.Words.{written_well}
-use Rattle.crx_filter.proofs.{Words.{IsInPlace, AreInPlace}, following.Following.body-place}
-use Rattle.crx_filter.proofs.reading.{ForwardCompact.{compact-forward, compact_beginning}, Ending.closes-well}
-pub use Rattle.crx_filter.proofs.wayback.First.{two-read, whole-read}
-use Rattle.crx_filter.proofs.wayback.{Carried.{IsLike, header-here, record-here, unit-more}}
+use proofs.Vocabulary.{common_steps, drop, ℕ, suc, ◌≡◌, ◌+◌, ◌<◌, Bool, true, false, cond, List, [], ◌∷◌, ◌++◌}
+use proofs.Vocabulary.{map}
+use proofs.Vocabulary.{length, Option, Some, None}
+use proofs.Vocabulary.{by_bool, refl, ap, sym, ◌∙◌, subst, arith, append-nil, is_some}
+use proofs.Vocabulary.{Content, Epoch, Done}
+use proofs.Vocabulary.{FileUnit, HeaderLine, EventLine, EventRecord, Observation, Item, Accepted, Count}
+use proofs.Vocabulary.{RawEpoch, ReadEpoch}
+use proofs.Vocabulary.{header_has_ended, records_left, records_count_types, types_in_force, types_fault}
+use proofs.Vocabulary.{Reading, AtLines, reading_from, ended_reading, compact_place, compact_epoch_place}
+use proofs.Vocabulary.{is_event_line, records_in, raws_kept}
+use proofs.Vocabulary.{IsWholeEpoch, expanded_unit, warnings_in, result_of}
+use proofs.Vocabulary.{written_well}
+use Rattle.crx_filter.proofs.{Vocabulary.{IsInPlace, AreInPlace}, following.Agreement.body-place}
+use Rattle.crx_filter.proofs.reading.{ForwardCompact.{compact-forward, compact_beginning}, EndAtStops.closes-well}
+pub use Rattle.crx_filter.proofs.wayback.FirstTwoLines.{two-read, whole-read}
+use Rattle.crx_filter.proofs.wayback.{UnitsReadAgain.{IsLike, header-here, record-here, unit-more}}
 use Rattle.crx_filter.specs.meaning.{Expanded.{rinex_unit, empties_state}, WrittenStandard.rinex_items}
 use Rattle.crx_filter.specs.meaning.UnitsAndText.{as_items, rinex_text}
-use Rattle.crx_compact.proofs.Words.{epoch_at, at}
-use Rattle.crx_compact.proofs.Words.{tail_left}
-use Rattle.crx_compact.proofs.Words.{if◌then◌else◌}
-use Rattle.crx_compact.proofs.Words.{same_Some}
+use Rattle.crx_compact.proofs.Vocabulary.{epoch_at, at}
+use Rattle.crx_compact.proofs.Vocabulary.{tail_left}
+use Rattle.crx_compact.proofs.Vocabulary.{if◌then◌else◌}
+use Rattle.crx_compact.proofs.Vocabulary.{same_Some}
 use Rattle.crx_compact.specs.meaning.AnyWriter.{WrittenRow, WrittenEpoch, epoch_now}
 use Rattle.crx_compact.specs.meaning.AnyWriter.{AreRowLines, AreEpochLines}
 use Rattle.crx_compact.specs.AnyWriter.{epoch_left, IsLeft}
-use Rattle.crx_compact.proofs.Words.{Tail}
+use Rattle.crx_compact.proofs.Vocabulary.{Tail}
 use Rattle.crx_header.{proofs.Counts.types_of-push}
 use Rattle.crx_filter.specs.meaning.Stretches.{AreLinesOn}
 use Rattle.crx_filter.specs.meaning.CompactText.{AreLinesOfUnit, AreLinesOf, AreUnitsInPlace}
 use Rattle.crx_filter.specs.CompactText.{ExpandsAnyText, IsOfOneFile, WritesFirstUnits}
 use Rattle.crx_filter.proofs.reading.{CompactPrefixes.reading-at, Prefixes.expanded-first}
-use proofs.Words.{compact_reading}
+use proofs.Vocabulary.{compact_reading}
 use Rattle.crx_filter.proofs.wayback.ExpandedStandard.{printed-read}
 use Rattle.crx_filter.proofs.wayback.Units.{none-warned, units-again}
 use Rattle.crx_compact.proofs.anywriter.Epochs.{any-epoch, no-event}

@@ -1,15 +1,15 @@
 -- The unit at some lines of compact text of which none announces an event's records: an epoch, or a fault that can be
 -- skipped; and the next line that begins with > cuts an epoch off.
 use Rattle.crx_filter.proofs
-use proofs.Words.{ℕ, suc, ◌≡◌, true, false, List, [], ◌∷◌, ◌++◌, length, ap, sym, ◌∙◌, subst, arith}
-use proofs.Words.{refl, append_assoc, and_parts, not-true, list_all, ReadLine, Content, Overlong, Fault}
-use proofs.Words.{Truncated, begins_epoch}
-use proofs.Words.{is_event_line, Place, Done, Fails, NeedsMore, FileUnit, Observation, ReadEpoch, epoch_at}
-use proofs.Words.{Item}
-use proofs.Words.{types_in_force, is_skipped, is_skippable, raws_kept, as_observation, compact_epoch_place}
-use proofs.Words.{compact_place}
-use proofs.Words.{IsBetweenUnits, BadEpoch, Option, None, is_some, by_bool, ⊤}
-use proofs.{damage.CutOff.epoch-cut, following.Expansion.observation-wanted}
+use proofs.Vocabulary.{ℕ, suc, ◌≡◌, true, false, List, [], ◌∷◌, ◌++◌, length, ap, sym, ◌∙◌, subst, arith}
+use proofs.Vocabulary.{refl, append_assoc, and_parts, not-true, list_all, ReadLine, Content, Overlong, Fault}
+use proofs.Vocabulary.{Truncated, begins_epoch}
+use proofs.Vocabulary.{is_event_line, Place, Done, Fails, NeedsMore, FileUnit, Observation, ReadEpoch, epoch_at}
+use proofs.Vocabulary.{Item}
+use proofs.Vocabulary.{types_in_force, is_skipped, is_skippable, raws_kept, as_observation, compact_epoch_place}
+use proofs.Vocabulary.{compact_place}
+use proofs.Vocabulary.{IsBetweenUnits, BadEpoch, Option, None, is_some, by_bool, ⊤}
+use proofs.{damage.CutOffEpochs.epoch-cut, following.Expansion.observation-wanted}
 use proofs.reading.{EpochFaults.{IsSkippableAt, epoch-skippable}}
 use proofs.reading.{ForwardCompact.compact-forward, Resuming.wrong-stays}
 use Rattle.crx_filter.specs.meaning.Stretches.{begins_no_event}

@@ -1,19 +1,19 @@
 -- Damage to compact text stays in its block, whoever wrote the text: the output and messages of an expansion.
 use Rattle.crx_filter.proofs
-use proofs.Words.{ℕ, ◌≡◌, ◌+◌, ◌≤◌, true, List, [], ◌∷◌, ◌++◌, map, length, reverse, Option, refl, ap}
-use proofs.Words.{◌∙◌, arith}
-use proofs.Words.{append_assoc, append-nil, length-append, inl, list_all, and_parts, ReadLine, Content, Epoch}
-use proofs.Words.{FileUnit}
-use proofs.Words.{common_steps, ReadEpoch, Choices, Item, records_left, Reading, reading_from}
-use proofs.Words.{continued_reading}
-use proofs.Words.{warnings_in, compact_place, expanded, Stretch, up_to_next}
+use proofs.Vocabulary.{ℕ, ◌≡◌, ◌+◌, ◌≤◌, true, List, [], ◌∷◌, ◌++◌, map, length, reverse, Option, refl, ap}
+use proofs.Vocabulary.{◌∙◌, arith}
+use proofs.Vocabulary.{append_assoc, append-nil, length-append, inl, list_all, and_parts, ReadLine, Content, Epoch}
+use proofs.Vocabulary.{FileUnit}
+use proofs.Vocabulary.{common_steps, ReadEpoch, Choices, Item, records_left, Reading, reading_from}
+use proofs.Vocabulary.{continued_reading}
+use proofs.Vocabulary.{warnings_in, compact_place, expanded, Stretch, up_to_next}
 use Rattle.crx_filter.specs.meaning.CompactText.{AreUnitsInPlace}
 use Rattle.crx_filter.specs.meaning.{Stretches.{AreLinesOn, begins_no_event}, UnitsAndText.as_items}
 use Rattle.crx_filter.specs.meaning.Damage.{IsDamaged, epochs_among, IsSalvaged}
 use Rattle.crx_compact.specs.meaning.AnyWriter.{WrittenEpoch}
 use Rattle.std.proofs.lemmas.List.{append_cancel_right, length-reverse, Folds.list_all-append}
 use proofs.anywriter.AnyText.{AreReadOn, read-on, in-place, units-silent}
-use proofs.damage.GoingOn.{with_warnings}
+use proofs.damage.ResumedEpochs.{with_warnings}
 use proofs.damage.SavedText.{epochs_of, epochs-append, epochs-known, warnings-append, warnings-with}
 use proofs.reading.{ForwardCompact.compact-forward, Resuming.resumed}
 use proofs.stretches.OpenReading.{few-warned, open-items, pending, stretch-more}

@@ -1,12 +1,12 @@
 -- Damaged compact text, cut into lines: those that the compaction wrote before and after the block, and the lines
 -- that replace the block's.
-use Rattle.crx_filter.proofs.Words
-use Words.{common_steps, arith, ℕ, ◌≡◌, true, cond, List, [], ◌∷◌, ◌++◌, map}
-use Words.{refl, list_all, eqb_tells}
-use Words.{map-append, flat_map-append, and_parts, Piece, InputLine, pieces_of, onto_first, lines_of}
-use Words.{Content, as_read, lines_text, not-true}
-use Rattle.crx_filter.proofs.{reading.Each.contents}
-pub use Rattle.crx_filter.proofs.wayback.Cut.{front-cut}
+use Rattle.crx_filter.proofs.Vocabulary
+use Vocabulary.{common_steps, arith, ℕ, ◌≡◌, true, cond, List, [], ◌∷◌, ◌++◌, map}
+use Vocabulary.{refl, list_all, eqb_tells}
+use Vocabulary.{map-append, flat_map-append, and_parts, Piece, InputLine, pieces_of, onto_first, lines_of}
+use Vocabulary.{Content, as_read, lines_text, not-true}
+use Rattle.crx_filter.proofs.{reading.ListsOfUnits.contents}
+pub use Rattle.crx_filter.proofs.wayback.LinesCutAgain.{front-cut}
 use Rattle.crx_filter.specs.Damage.{may_replace}
 use Rattle.crx_lines.proofs.PieceLemmas.{EachEnded}
 

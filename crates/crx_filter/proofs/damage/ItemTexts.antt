@@ -1,9 +1,9 @@
 -- The compact text of some items, and of the items up to a block.
-use Rattle.crx_filter.proofs.Words.{arith, true, ◌≡◌, List, [], ◌∷◌, ◌++◌, Choices, Epoch, Item}
-use Rattle.crx_filter.proofs.Words.{header_has_ended}
-use Rattle.crx_filter.proofs.Words.{AreInPlace, compact_lines}
+use Rattle.crx_filter.proofs.Vocabulary.{arith, true, ◌≡◌, List, [], ◌∷◌, ◌++◌, Choices, Epoch, Item}
+use Rattle.crx_filter.proofs.Vocabulary.{header_has_ended}
+use Rattle.crx_filter.proofs.Vocabulary.{AreInPlace, compact_lines}
 use Rattle.crx_filter.proofs.damage.TextAfter.{lines_on, written-on}
-use Rattle.crx_filter.proofs.wayback.{Carried.started, WayBack.lines-same}
+use Rattle.crx_filter.proofs.wayback.{UnitsReadAgain.started, WayBack.lines-same}
 
 pub rest-in_place : (later before : List (Item Epoch)) → AreInPlace (later ++ before) → AreInPlace before
 rest-in_place [] before h = h

@@ -1,13 +1,13 @@
 -- The output and messages after damage: the texts of items one after another, and the epochs among them.
-use Rattle.crx_filter.proofs.Words
-use Words.{◌≡◌, List, [], ◌∷◌, ◌++◌, refl, ap}
-use Words.{sym, ◌∙◌, arith, append_assoc, append-nil, At, Epoch}
-use Words.{FileUnit, ReadEpoch, Item}
-use Words.{warnings_in, expanded_lines}
-use Rattle.crx_filter.proofs.damage.GoingOn.{with_warnings}
-use Rattle.crx_filter.proofs.wayback.{Carried.units_in, Units.units-again}
-use Rattle.crx_filter.proofs.anywriter.OwnText.{units-append}
-use Words.{common_steps}
+use Rattle.crx_filter.proofs.Vocabulary
+use Vocabulary.{◌≡◌, List, [], ◌∷◌, ◌++◌, refl, ap}
+use Vocabulary.{sym, ◌∙◌, arith, append_assoc, append-nil, At, Epoch}
+use Vocabulary.{FileUnit, ReadEpoch, Item}
+use Vocabulary.{warnings_in, expanded_lines}
+use Rattle.crx_filter.proofs.damage.ResumedEpochs.{with_warnings}
+use Rattle.crx_filter.proofs.wayback.{UnitsReadAgain.units_in, Units.units-again}
+use Rattle.crx_filter.proofs.anywriter.TextCompactedHere.{units-append}
+use Vocabulary.{common_steps}
 use Rattle.crx_filter.specs.meaning.{Damage.epochs_among, UnitsAndText.as_items, WrittenStandard.rinex_items}
 
 -- ---- the output

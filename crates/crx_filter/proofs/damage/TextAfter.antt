@@ -1,7 +1,7 @@
 -- The compact text of some items after others.
-use Rattle.crx_filter.proofs.Words
-use Words.{common_steps, arith, ℕ, ◌≡◌, List, [], ◌∷◌, ◌++◌, Option, sym, append-nil, append_assoc}
-use Words.{Epoch, Choices, Item, Accepted, Warned, written_lines, BeginsAnew}
+use Rattle.crx_filter.proofs.Vocabulary
+use Vocabulary.{common_steps, arith, ℕ, ◌≡◌, List, [], ◌∷◌, ◌++◌, Option, sym, append-nil, append_assoc}
+use Vocabulary.{Epoch, Choices, Item, Accepted, Warned, written_lines, BeginsAnew}
 use Rattle.crx_filter.proofs.wayback.{Items.body_unit}
 
 abbrev pub lines_on : Option ℕ → List (Item Epoch) → List (Item Epoch) → List (List ℕ)

@@ -1,8 +1,8 @@
 -- A check line by line reads as the whole reading does, and keeps its totals.
-use Rattle.crx_filter.proofs.Words
-use Words.{common_steps, ℕ, List, arith, Epoch, FileUnit, printed_unit, Item, OpenEpoch, Totals}
-use Words.{checking, totals_of, no_choices}
-use Rattle.crx_filter.proofs.following.{Following.{IsCarriedOut, Meaning}}
+use Rattle.crx_filter.proofs.Vocabulary
+use Vocabulary.{common_steps, ℕ, List, arith, Epoch, FileUnit, printed_unit, Item, OpenEpoch, Totals}
+use Vocabulary.{checking, totals_of, no_choices}
+use Rattle.crx_filter.proofs.following.{Agreement.{IsCarriedOut, Meaning}}
 use Rattle.crx_filter.proofs.following.{Rinex.{AreSame, rinex_meaning, either-same, agree-begins}}
 use Rattle.crx_filter.proofs.{following.Rinex.{agree-continues, no-lines}, reading.Forward.rinex-forward}
 

@@ -1,8 +1,8 @@
 -- A check as a filter: a fault of the lines so far is the fault of all lines.
-use Rattle.crx_filter.proofs.Words.{◌≡◌, false, [], map, Some, refl, map-append, as_read, IsLawful}
-use Rattle.crx_filter.proofs.Words.{findings_of, check_filter, common_steps, arith, ℕ, List}
-use Rattle.crx_filter.proofs.Words.{Option, None, At, Device, append-nil, lines_of, checked, whole_of}
-use Rattle.crx_filter.proofs.reading.{FineReadings.{rinex-found, rinex-found-at-end}, StaysEnded.rinex-stays}
+use Rattle.crx_filter.proofs.Vocabulary.{◌≡◌, false, [], map, Some, refl, map-append, as_read, IsLawful}
+use Rattle.crx_filter.proofs.Vocabulary.{findings_of, check_filter, common_steps, arith, ℕ, List}
+use Rattle.crx_filter.proofs.Vocabulary.{Option, None, At, Device, append-nil, lines_of, checked, whole_of}
+use Rattle.crx_filter.proofs.reading.{ReadingFaults.{rinex-found, rinex-found-at-end}, StaysEnded.rinex-stays}
 use Rattle.crx_filter.specs.meaning.{Standard.report_status}
 use Rattle.crx_runs.specs.{Runs.result_by, meaning.{Runs.RunsAs, Spans.Input}}
 

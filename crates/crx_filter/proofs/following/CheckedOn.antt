@@ -1,12 +1,12 @@
 -- A check takes one more line.
-use Rattle.crx_filter.proofs.Words
-use Words.{common_steps, ℕ, ◌≡◌, ◌+◌, false, List, [], ◌∷◌, ◌++◌, map, length, None, refl, arith}
-use Words.{length-append, append-nil, append_assoc, length-map, none-some, InputLine, ReadLine, as_read}
-use Words.{Epoch, last_line, Reading, rinex_reading, rinex_open, RunState, made_in, state_next, phase_of}
-use Words.{failed_by, is_again, fault_of_stop, printed_items, is_standard_line, first_not_standard, Totals}
-use Words.{checking, printed_open, printed_made, earliest, CheckState, check_state, OpenEpoch, check_reading}
-use Words.{At, Option, Some}
-use Rattle.crx_filter.proofs.following.{Check.check-carried_out, Following.fed-once, MoreLines.more-line}
+use Rattle.crx_filter.proofs.Vocabulary
+use Vocabulary.{common_steps, ℕ, ◌≡◌, ◌+◌, false, List, [], ◌∷◌, ◌++◌, map, length, None, refl, arith}
+use Vocabulary.{length-append, append-nil, append_assoc, length-map, none-some, InputLine, ReadLine, as_read}
+use Vocabulary.{Epoch, last_line, Reading, rinex_reading, rinex_open, RunState, made_in, state_next, phase_of}
+use Vocabulary.{failed_by, is_again, fault_of_stop, printed_items, is_standard_line, first_not_standard, Totals}
+use Vocabulary.{checking, printed_open, printed_made, earliest, CheckState, check_state, OpenEpoch, check_reading}
+use Vocabulary.{At, Option, Some}
+use Rattle.crx_filter.proofs.following.{Check.check-carried_out, Agreement.fed-once, MoreLines.more-line}
 use Rattle.crx_filter.proofs.{reading.StaysEnded.rinex-stays, standard.CheckLines.{phase-reached, line-grows}}
 use Rattle.crx_filter.specs.CheckingLaws.{IsCheckedOn}
 

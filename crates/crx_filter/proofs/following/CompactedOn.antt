@@ -1,6 +1,6 @@
 -- A compaction takes one more line.
 use Rattle.crx_filter.proofs
-use proofs.Words.{List, [], ◌∷◌, ◌++◌, length, refl, arith, length-append, ReadLine, Choices}
+use proofs.Vocabulary.{List, [], ◌∷◌, ◌++◌, length, refl, arith, length-append, ReadLine, Choices}
 use Rattle.crx_filter.{proofs.following.MoreLines.more-line, specs.Laws.IsCompactedOn}
 use proofs.following.{Compaction.compaction-carried_out}
 

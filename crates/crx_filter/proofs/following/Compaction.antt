@@ -1,11 +1,11 @@
 -- Compaction line by line reads, keeps and writes as the compaction of all lines does.
-use Rattle.crx_filter.proofs.Words.{common_steps, arith, ◌≡◌, List, Epoch}
-use Rattle.crx_filter.proofs.Words.{Marked, OpenEpoch, Written, Choices, Item}
-use Rattle.crx_filter.proofs.Words.{types_in_force, epochs_accepted, is_at_every, is_in_full, marked_epochs}
-use Rattle.crx_filter.proofs.Words.{compact_unit, compaction, written_of}
+use Rattle.crx_filter.proofs.Vocabulary.{common_steps, arith, ◌≡◌, List, Epoch}
+use Rattle.crx_filter.proofs.Vocabulary.{Marked, OpenEpoch, Written, Choices, Item}
+use Rattle.crx_filter.proofs.Vocabulary.{types_in_force, epochs_accepted, is_at_every, is_in_full, marked_epochs}
+use Rattle.crx_filter.proofs.Vocabulary.{compact_unit, compaction, written_of}
 use Rattle.crx_compact.{proofs.wayback.Tailing.epoch-by_tail, specs.Laws.tail_before}
 use Rattle.{crx_compact.specs.Steps.tail_written_after}
-use Rattle.{crx_filter.proofs.following.Following.{IsCarriedOut, Meaning}}
+use Rattle.{crx_filter.proofs.following.Agreement.{IsCarriedOut, Meaning}}
 use Rattle.crx_filter.proofs.following.Rinex.{AreSame, rinex_meaning, either-same, agree-begins}
 use Rattle.crx_filter.proofs.following.Rinex.{agree-continues, no-lines}
 use Rattle.crx_filter.proofs.reading.{Forward.rinex-forward, Types.counts-in_force}

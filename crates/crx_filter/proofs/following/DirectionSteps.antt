@@ -1,12 +1,12 @@
 -- Both directions follow their filters line by line.
-use Rattle.crx_filter.proofs.Words
-use Words.{arith, [], map, refl, length-map, reverse-append, append-nil}
-use Words.{flat_map-append, as_read, compaction, compaction_state, expansion, expansion_state}
-use Words.{compaction_filter, expansion_filter}
+use Rattle.crx_filter.proofs.Vocabulary
+use Vocabulary.{arith, [], map, refl, length-map, reverse-append, append-nil}
+use Vocabulary.{flat_map-append, as_read, compaction, compaction_state, expansion, expansion_state}
+use Vocabulary.{compaction_filter, expansion_filter}
 use Rattle.crx_filter.proofs.following.{Compaction.compaction-carried_out, CompactedOn.compacted-on}
-use Rattle.crx_filter.proofs.{following.ExpandedOn.expanded-on, reading.Ended.{compaction-ended, expansion-ended}}
+use Rattle.crx_filter.proofs.{following.ExpandedOn.expanded-on, reading.EndOfInput.{compaction-ended, expansion-ended}}
 use Rattle.crx_filter.specs.EngineLaws.{IsLawfulDirection}
-use Rattle.crx_filter.proofs.following.CutOff.{cut-off, expansion-cut-off}
+use Rattle.crx_filter.proofs.following.CutOffWarnings.{cut-off, expansion-cut-off}
 use Rattle.std.proofs.Common.{ap, length, Some}
 use Rattle.std.proofs.lemmas.Grind.{common_steps}
 

@@ -1,18 +1,18 @@
 -- An expansion takes one more line.
-use Rattle.crx_filter.proofs.Words
-use Words.{common_steps, ℕ, ◌≡◌, ◌+◌, Bool, List, [], ◌∷◌, ◌++◌, length, drop, Option, Some, None, Result, Ok}
-use Words.{Err, LineTooLong, refl, sym, subst, arith, length-append, drop-append-le, length-drop, ReadLine}
-use Words.{Content, Overlong}
-use Words.{Fault, Place, Done, Fails, NeedsMore, ReadEpoch, OpenRawEpoch, Tail, Choices, Reading, AtFault}
-use Words.{AtLines, reading_from, Fed, fed, fed_once, Phase}
-use Words.{InFirstLines, Ended, RunState, Rejects, Made, made_in, step_of_made, state_next, state_of}
-use Words.{rules, crinex_version, crinex_program, first_lines, expansion, compact_open, compact_place}
-use Words.{tail_of_items}
+use Rattle.crx_filter.proofs.Vocabulary
+use Vocabulary.{common_steps, ℕ, ◌≡◌, ◌+◌, Bool, List, [], ◌∷◌, ◌++◌, length, drop, Option, Some, None, Result, Ok}
+use Vocabulary.{Err, LineTooLong, refl, sym, subst, arith, length-append, drop-append-le, length-drop, ReadLine}
+use Vocabulary.{Content, Overlong}
+use Vocabulary.{Fault, Place, Done, Fails, NeedsMore, ReadEpoch, OpenRawEpoch, Tail, Choices, Reading, AtFault}
+use Vocabulary.{AtLines, reading_from, Fed, fed, fed_once, Phase}
+use Vocabulary.{InFirstLines, Ended, RunState, Rejects, Made, made_in, step_of_made, state_next, state_of}
+use Vocabulary.{rules, crinex_version, crinex_program, first_lines, expansion, compact_open, compact_place}
+use Vocabulary.{tail_of_items}
 use Rattle.crx_compact.specs.{OpenEpochs.HeldEpoch}
 use Rattle.crx_filter.proofs.following.{Expansion.{expansion-carried_out}}
-use Rattle.crx_filter.proofs.following.{Expansion.expansion_meaning, Following.{Follows, state_in, fed-once}}
-use Rattle.crx_filter.proofs.following.{Lines.{last_made, last-once, quiet-elsewhere}, MoreLines.more-line}
-use Rattle.crx_filter.proofs.{Choosing.by_result, reading.CompactPrefixes.remains}
+use Rattle.crx_filter.proofs.following.{Expansion.expansion_meaning, Agreement.{Follows, state_in, fed-once}}
+use Rattle.crx_filter.proofs.following.{LinesAtStops.{last_made, last-once, quiet-elsewhere}, MoreLines.more-line}
+use Rattle.crx_filter.proofs.{CasesOfTests.by_result, reading.CompactPrefixes.remains}
 use Rattle.crx_filter.specs.{Laws.IsExpandedOn}
 
 -- ---- the reading, by the first two lines

@@ -1,19 +1,19 @@
 -- Expansion line by line reads, keeps and writes as the expansion of all lines does.
 use Rattle.crx_filter.proofs
-use proofs.Words.{common_steps, arith, ℕ, ◌≡◌, Bool, true, false, cond, List, [], ◌∷◌, ◌++◌, length}
-use proofs.Words.{Option, Some, None, Result, Ok, Err, refl, ap, sym, ◌∙◌, true≢false, is_some, none-some}
-use proofs.Words.{ReadLine, Content, Fault, BadEpoch, is_event_line, records_in, Place, Done, Fails}
-use proofs.Words.{NeedsMore, FileUnit, EventLine, RawEpoch, ReadEpoch, epoch_at, Tail, OpenRawEpoch, RawStep}
-use proofs.Words.{first_step, next_step, open_raw_after, Choices, Item, types_in_force, raws_kept, event_line}
-use proofs.Words.{as_observation, expanded_unit, Made, made_of_unit, made_of_raw_step, expansion}
-use proofs.Words.{tail_of_items, begins_event, compact_open, by_bool}
+use proofs.Vocabulary.{common_steps, arith, ℕ, ◌≡◌, Bool, true, false, cond, List, [], ◌∷◌, ◌++◌, length}
+use proofs.Vocabulary.{Option, Some, None, Result, Ok, Err, refl, ap, sym, ◌∙◌, true≢false, is_some, none-some}
+use proofs.Vocabulary.{ReadLine, Content, Fault, BadEpoch, is_event_line, records_in, Place, Done, Fails}
+use proofs.Vocabulary.{NeedsMore, FileUnit, EventLine, RawEpoch, ReadEpoch, epoch_at, Tail, OpenRawEpoch, RawStep}
+use proofs.Vocabulary.{first_step, next_step, open_raw_after, Choices, Item, types_in_force, raws_kept, event_line}
+use proofs.Vocabulary.{as_observation, expanded_unit, Made, made_of_unit, made_of_raw_step, expansion}
+use proofs.Vocabulary.{tail_of_items, begins_event, compact_open, by_bool}
 use Rattle.crx_compact.proofs.reading.LineByLine.{steps-agree, wanted-where_open, steps-from_open}
 use Rattle.crx_compact.proofs.reading.RawTailing.{place-by_tail, left-by_tail}
 use Rattle.crx_compact.{proofs.soundness.Soundness.reads-soundly, specs.OpenEpochs.{epoch_after, HeldEpoch}}
 use Rattle.crx_compact.specs.OpenEpochs.{Going, Whole, Faulty, placed_as, held_after, place_of_step}
 use Rattle.crx_compact.specs.{OpenEpochs.place_of_steps, ReadingLaws.is_wanted, Tails.tail_left}
 use Rattle.crx_filter.specs.{ExpansionByLine.compact_begins}
-use proofs.following.{Following.{Meaning, IsSameEpoch, AgreeOn, IsCarriedOut}, Lines.one_line-decided}
+use proofs.following.{Agreement.{Meaning, IsSameEpoch, AgreeOn, IsCarriedOut}, LinesAtStops.one_line-decided}
 use proofs.reading.ForwardCompact.{compact-forward, compact_beginning}
 
 -- ---- one line

@@ -1,9 +1,9 @@
 -- Both directions are lawful filters.
-use Rattle.crx_filter.proofs.Words.{arith, refl, map, map-append, as_read, Choices, compaction_filter}
-use Rattle.crx_filter.proofs.{Words.{expansion_filter, IsLawful}}
+use Rattle.crx_filter.proofs.Vocabulary.{arith, refl, map, map-append, as_read, Choices, compaction_filter}
+use Rattle.crx_filter.proofs.{Vocabulary.{expansion_filter, IsLawful}}
 use Rattle.crx_filter.proofs.following.DirectionSteps.{compaction-goes, expansion-goes}
-use Rattle.crx_filter.proofs.reading.FineReadings.{rinex-found, rinex-found-at-end}
-use Rattle.crx_filter.proofs.reading.FineReadings.{compact-found, compact-found-at-end}
+use Rattle.crx_filter.proofs.reading.ReadingFaults.{rinex-found, rinex-found-at-end}
+use Rattle.crx_filter.proofs.reading.ReadingFaults.{compact-found, compact-found-at-end}
 use Rattle.crx_filter.proofs.reading.{Prefixes.{output-grows, output-goes_on}}
 use Rattle.crx_filter.proofs.reading.{StaysEnded.{rinex-stays, compact-stays}}
 

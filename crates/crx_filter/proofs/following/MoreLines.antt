@@ -1,9 +1,9 @@
 -- One more line after some, if the reading begins with no items, at a line of any number.
-use Rattle.crx_filter.proofs.following.{Following.{Meaning, IsCarriedOut, place}}
-use Rattle.crx_filter.proofs.following.{Lines.{FollowsAs, seen_after}}
-use Rattle.crx_filter.proofs.{following.Lines.{last_made, next-line}, reading.Resuming.resumed}
-use Rattle.crx_filter.proofs.{reading.Stopping.reading-stopped, Words.{ℕ, ◌≡◌, ◌+◌, List, [], ◌∷◌, ◌++◌}}
-use Rattle.crx_filter.proofs.Words.{length, ReadLine, Reading, reading_from, RunState, fed}
+use Rattle.crx_filter.proofs.following.{Agreement.{Meaning, IsCarriedOut, place}}
+use Rattle.crx_filter.proofs.following.{LinesAtStops.{FollowsAs, seen_after}}
+use Rattle.crx_filter.proofs.{following.LinesAtStops.{last_made, next-line}, reading.Resuming.resumed}
+use Rattle.crx_filter.proofs.{reading.Stopping.reading-stopped, Vocabulary.{ℕ, ◌≡◌, ◌+◌, List, [], ◌∷◌, ◌++◌}}
+use Rattle.crx_filter.proofs.Vocabulary.{length, ReadLine, Reading, reading_from, RunState, fed}
 
 module _ {E U O K : Type 0} {m : Meaning E U O K} (h : IsCarriedOut m) where
   abbrev pub read_from : ℕ → List ReadLine → Reading E

@@ -1,15 +1,15 @@
 -- Lines of a RINEX file one by one: the outcome of the last of some lines is the unit at them, in every direction
 -- that reads RINEX.
-use Rattle.crx_filter.proofs.Words
-use Words.{common_steps, arith, ℕ, zero, suc, ◌≡◌, ◌⊎◌, List, [], ◌∷◌, ◌++◌, length, Some, None, Result, Ok}
-use Words.{Err, refl, ReadLine, Content, Fault, Epoch, Count, Done}
-use Words.{NeedsMore, after_lines, then_place, FileUnit, Observation, OpenEpoch, Beginning, EventBegins}
-use Words.{EpochBegins, beginning_of, opened, rows_wanted, rows_at, epoch_place, EpochStep, Going}
-use Words.{Whole, Faulty, when_wanted, epoch_step, Choices, Item, types_in_force, Made, Direction}
-use Words.{made_of_epoch_step, made_of_beginning, rinex_begins, rinex_open}
+use Rattle.crx_filter.proofs.Vocabulary
+use Vocabulary.{common_steps, arith, ℕ, zero, suc, ◌≡◌, ◌⊎◌, List, [], ◌∷◌, ◌++◌, length, Some, None, Result, Ok}
+use Vocabulary.{Err, refl, ReadLine, Content, Fault, Epoch, Count, Done}
+use Vocabulary.{NeedsMore, after_lines, then_place, FileUnit, Observation, OpenEpoch, Beginning, EventBegins}
+use Vocabulary.{EpochBegins, beginning_of, opened, rows_wanted, rows_at, epoch_place, EpochStep, Going}
+use Vocabulary.{Whole, Faulty, when_wanted, epoch_step, Choices, Item, types_in_force, Made, Direction}
+use Vocabulary.{made_of_epoch_step, made_of_beginning, rinex_begins, rinex_open}
 use Rattle.crx_rinex.proofs.OpenEpochs.{wanted-open, next-by_open, open_none}
 use Rattle.crx_rinex.specs.EpochPlaces.{whole_or_going, still_open, open_with, place_after}
-use Rattle.crx_filter.proofs.{following.Following.{Meaning, IsSameEpoch, AgreeOn}}
+use Rattle.crx_filter.proofs.{following.Agreement.{Meaning, IsSameEpoch, AgreeOn}}
 use Rattle.crx_filter.proofs.{reading.Forward.rinex_beginning}
 
 -- ---- the conditions of a direction

@@ -1,7 +1,7 @@
 -- The answer to a line is that lines are ready if and only if some are.
-use Rattle.crx_filter.proofs.Words.{common_steps, arith, ◌≡◌, ReadLine, RunState, Made, Direction}
-use Rattle.crx_filter.proofs.Words.{step_of_made, compaction, expansion, IsReadyWhereHandedOut}
-use Rattle.crx_filter.proofs.following.Following.{failed-ends, failed-skipped}
+use Rattle.crx_filter.proofs.Vocabulary.{common_steps, arith, ◌≡◌, ReadLine, RunState, Made, Direction}
+use Rattle.crx_filter.proofs.Vocabulary.{step_of_made, compaction, expansion, IsReadyWhereHandedOut}
+use Rattle.crx_filter.proofs.following.Agreement.{failed-ends, failed-skipped}
 use Rattle.crx_filter.specs.Laws.{is_ready, has_lines}
 
 step-ready : {U O K : Type 0} (direction : Direction U O K) (state : RunState O K) (line : ReadLine)

@@ -1,8 +1,8 @@
 -- The reading of the first two lines of compact text.
-use Rattle.crx_filter.proofs.Words.{ℕ, ◌≡◌, ◌+◌, List, [], ◌++◌, length, drop, refl, Bool, ReadLine, Place}
-use Rattle.crx_filter.proofs.Words.{Done}
-use Rattle.crx_filter.proofs.Words.{Remains, reading_from, whole_reading, first_lines, compact_place}
-use Rattle.crx_filter.proofs.Words.{whole_compact, compact_reading}
+use Rattle.crx_filter.proofs.Vocabulary.{ℕ, ◌≡◌, ◌+◌, List, [], ◌++◌, length, drop, refl, Bool, ReadLine, Place}
+use Rattle.crx_filter.proofs.Vocabulary.{Done}
+use Rattle.crx_filter.proofs.Vocabulary.{Remains, reading_from, whole_reading, first_lines, compact_place}
+use Rattle.crx_filter.proofs.Vocabulary.{whole_compact, compact_reading}
 use Rattle.crx_filter.proofs.reading.ForwardCompact.{steady-first_lines}
 
 pub remains : (lines more : List ReadLine) (p : Place (List (List ℕ)))

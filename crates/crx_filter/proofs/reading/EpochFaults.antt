@@ -1,12 +1,12 @@
 -- The faults of an epoch of compact text can all be skipped.
-use Rattle.crx_filter.proofs.Words
-use Words.{common_steps, arith, ℕ, ℤ, suc, ◌≡◌, Bool, true, List, [], ◌∷◌, Option, Result, Ok, Err, ⊤}
-use Words.{list_all, is_blank, ReadLine, Fault, LineTooLong, Count, Place, Fails, then_place, one_line}
-use Words.{first_line, BegunEpoch, cell_read, satellite_line_read, rows_read, epoch_after_line, epoch_at}
-use Words.{Satellite, RawEpoch, block_of, Past, past_of_block, and_then, is_skippable, as_observation}
+use Rattle.crx_filter.proofs.Vocabulary
+use Vocabulary.{common_steps, arith, ℕ, ℤ, suc, ◌≡◌, Bool, true, List, [], ◌∷◌, Option, Result, Ok, Err, ⊤}
+use Vocabulary.{list_all, is_blank, ReadLine, Fault, LineTooLong, Count, Place, Fails, then_place, one_line}
+use Vocabulary.{first_line, BegunEpoch, cell_read, satellite_line_read, rows_read, epoch_after_line, epoch_at}
+use Vocabulary.{Satellite, RawEpoch, block_of, Past, past_of_block, and_then, is_skippable, as_observation}
 use Rattle.crx_compact.{proofs.EpochLines.satellites_counted, specs.meaning.Cells.cells_read}
 use Rattle.crx_compact.specs.meaning.{EpochText.{satellites_named, names_in}, Sequences.before_all}
-use Rattle.{crx_filter.proofs.reading.WhatStands.chosen, crx_text.specs.declared.code.Code.Code}
+use Rattle.{crx_filter.proofs.reading.UnitsAtLines.chosen, crx_text.specs.declared.code.Code.Code}
 
 -- ---- results and places whose faults pass a test
 

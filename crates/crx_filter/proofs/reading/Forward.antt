@@ -1,8 +1,8 @@
 -- The unit at a line is certain as soon as its last line has been read, in both directions.
-use Rattle.crx_filter.proofs.Words
-use Words.{common_steps, arith, ◌≡◌, Bool, cond, List, [], refl, ReadLine, Place, NeedsMore, IsSteady}
-use Words.{FileUnit, Epoch, epoch_place, Item, types_in_force, unit_place, rinex_place, IsReadForward}
-use Rattle.crx_rinex.proofs.{OpenEpochs.steady-epoch_place, Steady.steady-first_line}
+use Rattle.crx_filter.proofs.Vocabulary
+use Vocabulary.{common_steps, arith, ◌≡◌, Bool, cond, List, [], refl, ReadLine, Place, NeedsMore, IsSteady}
+use Vocabulary.{FileUnit, Epoch, epoch_place, Item, types_in_force, unit_place, rinex_place, IsReadForward}
+use Rattle.crx_rinex.proofs.{OpenEpochs.steady-epoch_place, SteadyPlaces.steady-first_line}
 
 -- the beginning of an epoch or an event in RINEX
 abbrev pub rinex_beginning : List (Item Epoch) → List ReadLine → Place (FileUnit Epoch)

@@ -1,12 +1,12 @@
 -- The unit at a line of compact text is certain as soon as its last line has been read.
-use Rattle.crx_filter.proofs.Words.{ℕ, List, [], ◌∷◌, refl, arith, ReadLine}
-use Rattle.crx_filter.proofs.Words.{Content, Overlong, FileUnit, Place, IsSteady}
-use Rattle.crx_filter.proofs.Words.{IsDecidedAfter, is_event_line, Count, RawEpoch, ReadEpoch, epoch_at, Item}
-use Rattle.crx_filter.proofs.Words.{types_in_force, raws_kept, as_observation}
-use Rattle.crx_filter.proofs.Words.{compact_epoch_place, compact_place, first_lines, IsReadForward, by_bool}
+use Rattle.crx_filter.proofs.Vocabulary.{ℕ, List, [], ◌∷◌, refl, arith, ReadLine}
+use Rattle.crx_filter.proofs.Vocabulary.{Content, Overlong, FileUnit, Place, IsSteady}
+use Rattle.crx_filter.proofs.Vocabulary.{IsDecidedAfter, is_event_line, Count, RawEpoch, ReadEpoch, epoch_at, Item}
+use Rattle.crx_filter.proofs.Vocabulary.{types_in_force, raws_kept, as_observation}
+use Rattle.crx_filter.proofs.Vocabulary.{compact_epoch_place, compact_place, first_lines, IsReadForward, by_bool}
 use Rattle.crx_compact.proofs.reading.SteadyEpochs.{steady-after_line}
 use Rattle.crx_filter.proofs.reading.Forward.{unit_place-forward}
-use Rattle.crx_rinex.proofs.Steady.{steady-here, steady-first_line, steady-then}
+use Rattle.crx_rinex.proofs.SteadyPlaces.{steady-here, steady-first_line, steady-then}
 
 -- the beginning of an epoch or an event in compact text
 abbrev pub compact_beginning : List (Item ReadEpoch) → List ReadLine → Place (FileUnit ReadEpoch)

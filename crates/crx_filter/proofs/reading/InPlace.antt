@@ -1,10 +1,10 @@
 -- The accepted units of a RINEX file are in place.
-use Rattle.crx_filter.proofs.Words.{ℕ, ◌≡◌, [], List, ◌∷◌, ReadLine, Epoch, Item, Accepted, Warned}
-use Rattle.crx_filter.proofs.Words.{types_in_force}
-use Rattle.crx_filter.proofs.Words.{refl, subst, rinex_place, ItemsAreRead, AreInPlace, arith}
-use Rattle.crx_filter.proofs.Words.{epoch_place, Done, FileUnit, Observation}
+use Rattle.crx_filter.proofs.Vocabulary.{ℕ, ◌≡◌, [], List, ◌∷◌, ReadLine, Epoch, Item, Accepted, Warned}
+use Rattle.crx_filter.proofs.Vocabulary.{types_in_force}
+use Rattle.crx_filter.proofs.Vocabulary.{refl, subst, rinex_place, ItemsAreRead, AreInPlace, arith}
+use Rattle.crx_filter.proofs.Vocabulary.{epoch_place, Done, FileUnit, Observation}
 use Rattle.crx_filter.proofs.reading.{Forward.rinex_beginning, Types.counts-in_force}
-use Rattle.crx_filter.proofs.reading.WhatStands.{StandsAt, Stands, of-unit, of-rinex}
+use Rattle.crx_filter.proofs.reading.UnitsAtLines.{StandsAt, Stands, of-unit, of-rinex}
 use Rattle.crx_rinex.proofs.SoundEpochs.{sound-epoch_place}
 
 abbrev pub IsEpochAt : List (Item Epoch) → List ReadLine → Epoch → ℕ → Type 0

@@ -1,13 +1,13 @@
 -- The faults that a reading finds are faults of lines, or of the end of the input.
-use Rattle.crx_filter.proofs.Words
-use Words.{common_steps, arith, ℕ, zero, suc, ◌≡◌, Bool, true, List, Option, Some, None, Result, refl, ⊤}
-use Words.{list_all, columns, is_blank, clock_of, ReadLine, Fault, HeadLine, records_in, event_head}
-use Words.{epoch_head, head_of, OpenEpoch, Beginning, with_next_row, next_row, rows_at, begun_by}
-use Words.{beginning_of, unit_begun, epoch_place, has_satellite, Epoch, Count, Place, first_line, FileUnit}
-use Words.{ReadEpoch, epoch_at, RawEpoch, Item, unless_wrong, types_fault, header_line, event_record}
-use Words.{unit_place, rinex_place, compact_epoch_place, compact_place, first_lines, is_of_lines, event_line}
-use Words.{as_observation, one_line, Row, Content, Overlong, [], is_event_line, ◌∷◌, rules}
-use Rattle.crx_filter.proofs.reading.{WhatStands.chosen, EpochFaults.{FaultsPass, FaultsPassAt, place-then}}
+use Rattle.crx_filter.proofs.Vocabulary
+use Vocabulary.{common_steps, arith, ℕ, zero, suc, ◌≡◌, Bool, true, List, Option, Some, None, Result, refl, ⊤}
+use Vocabulary.{list_all, columns, is_blank, clock_of, ReadLine, Fault, HeadLine, records_in, event_head}
+use Vocabulary.{epoch_head, head_of, OpenEpoch, Beginning, with_next_row, next_row, rows_at, begun_by}
+use Vocabulary.{beginning_of, unit_begun, epoch_place, has_satellite, Epoch, Count, Place, first_line, FileUnit}
+use Vocabulary.{ReadEpoch, epoch_at, RawEpoch, Item, unless_wrong, types_fault, header_line, event_record}
+use Vocabulary.{unit_place, rinex_place, compact_epoch_place, compact_place, first_lines, is_of_lines, event_line}
+use Vocabulary.{as_observation, one_line, Row, Content, Overlong, [], is_event_line, ◌∷◌, rules}
+use Rattle.crx_filter.proofs.reading.{UnitsAtLines.chosen, EpochFaults.{FaultsPass, FaultsPassAt, place-then}}
 use Rattle.crx_filter.proofs.reading.EpochFaults.{place-first, IsSkippableAt, epoch-skippable}
 use Rattle.crx_filter.{proofs.reading.EpochFaults.place-observation, specs.meaning.UnitPlaces.first_fault}
 use Rattle.crx_header.specs.meaning.Header.{first_header_fault}

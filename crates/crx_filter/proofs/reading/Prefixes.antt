@@ -1,11 +1,11 @@
 -- The output and messages for some lines are prefixes of the output and messages for more lines.
 use Rattle.crx_filter.proofs
-use proofs.Words.{arith, ◌≡◌, List, [], ◌∷◌, ◌++◌, ap, sym, ◌∙◌, append_assoc, append-nil, ReadLine, Choices}
-use proofs.Words.{flat_map-append, ℕ, InputLine, RunState, Direction, lines_text, Begins, IsWrittenFirst, At}
-use proofs.Words.{compacted, compacted_so_far, expanded, expanded_so_far, compact_lines, expanded_lines}
-use proofs.Words.{whole_rinex, whole_compact}
+use proofs.Vocabulary.{arith, ◌≡◌, List, [], ◌∷◌, ◌++◌, ap, sym, ◌∙◌, append_assoc, append-nil, ReadLine, Choices}
+use proofs.Vocabulary.{flat_map-append, ℕ, InputLine, RunState, Direction, lines_text, Begins, IsWrittenFirst, At}
+use proofs.Vocabulary.{compacted, compacted_so_far, expanded, expanded_so_far, compact_lines, expanded_lines}
+use proofs.Vocabulary.{whole_rinex, whole_compact}
 use proofs.following.{CompactedOn.compacted-on, ExpandedOn.expanded-on}
-use proofs.reading.Ended.{compaction-ended, expansion-ended}
+use proofs.reading.EndOfInput.{compaction-ended, expansion-ended}
 use Rattle.crx_filter.specs.{Compacted.compaction_so_far, EngineLaws.GoesLineByLine}
 use Rattle.crx_filter.specs.{Expanded.expansion_so_far}
 use Rattle.crx_runs.specs.meaning.Filters.{Filter}
@@ -21,9 +21,9 @@ grown made one xs (x ∷ more) =
     (first.0 ++ rest.0, grind (arith, append_assoc, first, rest))
 
 -- the same in the words of a filter that works line by line
-module _ {U O K : Type 0} {direction : Direction U O K} {closing_after : List InputLine → List (List ℕ)}
+module _ {U O K : Type 0} {direction : Direction U O K} {lines_at_end_after : List InputLine → List (List ℕ)}
     {state_after : List ReadLine → RunState O K}
-    {filter : Filter} (goes : GoesLineByLine direction closing_after state_after filter)
+    {filter : Filter} (goes : GoesLineByLine direction lines_at_end_after state_after filter)
     (lines more : List InputLine) where
   pub output-grows : Begins (filter.so_far (lines ++ more)).output (filter.so_far lines).output
   output-grows =

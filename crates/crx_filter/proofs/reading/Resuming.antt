@@ -1,11 +1,11 @@
 -- A reading continues from its stop with more lines.
-use Rattle.crx_filter.{specs.Laws.IsResumed, proofs.Words.{common_steps, ℕ, zero, suc, ◌≡◌, ◌+◌, max, ◌<◌}}
-use Rattle.crx_filter.proofs.Words.{◌≤◌, Bool, true, false, List, [], ◌∷◌, ◌++◌, length, drop, refl, arith}
-use Rattle.crx_filter.proofs.Words.{◌∙◌}
-use Rattle.crx_filter.proofs.Words.{drop-append-le, length-drop, ReadLine, Fault, Place}
-use Rattle.crx_filter.proofs.Words.{Done, Fails, NeedsMore, FileUnit, Item, Accepted, Warned, Reading}
-use Rattle.crx_filter.proofs.Words.{AtLines, is_skipped, can_go_on, looked_for, after_fault}
-use Rattle.crx_filter.proofs.Words.{reading_within, reading_from, continued_reading, IsReadForward, by_bool}
+use Rattle.crx_filter.{specs.Laws.IsResumed, proofs.Vocabulary.{common_steps, ℕ, zero, suc, ◌≡◌, ◌+◌, max, ◌<◌}}
+use Rattle.crx_filter.proofs.Vocabulary.{◌≤◌, Bool, true, false, List, [], ◌∷◌, ◌++◌, length, drop, refl, arith}
+use Rattle.crx_filter.proofs.Vocabulary.{◌∙◌}
+use Rattle.crx_filter.proofs.Vocabulary.{drop-append-le, length-drop, ReadLine, Fault, Place}
+use Rattle.crx_filter.proofs.Vocabulary.{Done, Fails, NeedsMore, FileUnit, Item, Accepted, Warned, Reading}
+use Rattle.crx_filter.proofs.Vocabulary.{AtLines, is_skipped, can_go_on, looked_for, after_fault}
+use Rattle.crx_filter.proofs.Vocabulary.{reading_within, reading_from, continued_reading, IsReadForward, by_bool}
 
 -- ---- the unit at a place
 

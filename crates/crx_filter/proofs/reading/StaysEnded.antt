@@ -1,10 +1,10 @@
 -- After a fault has ended the run, more lines change nothing.
-use Rattle.crx_filter.proofs.Words
-use Words.{common_steps, arith, ℕ, ◌≡◌, ◌+◌, Bool, List, [], ◌++◌, drop, Some, refl}
-use Words.{drop-append-le, none-some, ReadLine, At, Place, Done, Fails, NeedsMore, FileUnit, Item}
-use Words.{Stop, reading_from, ended_reading, whole_reading}
-use Words.{IsReadForward, fault_of_stop, rinex_place, whole_rinex, rinex_reading, compact_place, first_lines}
-use Words.{whole_compact, compact_reading}
+use Rattle.crx_filter.proofs.Vocabulary
+use Vocabulary.{common_steps, arith, ℕ, ◌≡◌, ◌+◌, Bool, List, [], ◌++◌, drop, Some, refl}
+use Vocabulary.{drop-append-le, none-some, ReadLine, At, Place, Done, Fails, NeedsMore, FileUnit, Item}
+use Vocabulary.{Stop, reading_from, ended_reading, whole_reading}
+use Vocabulary.{IsReadForward, fault_of_stop, rinex_place, whole_rinex, rinex_reading, compact_place, first_lines}
+use Vocabulary.{whole_compact, compact_reading}
 use Rattle.crx_filter.proofs.reading.{ForwardCompact.compact-forward, Resuming.resumed, Forward.rinex-forward}
 use Rattle.crx_filter.{proofs.reading.CompactPrefixes.{remains, reading-at, whole-at}, specs.Laws.StaysEnded}
 

@@ -1,10 +1,10 @@
 -- The stops of a reading: more lines are needed, or a line is looked for after the last.
-use Rattle.crx_filter.proofs.Words.{ℕ, zero, suc, ◌≡◌, ◌+◌, ◌<◌, Bool, true, List, [], ◌∷◌, length}
-use Rattle.crx_filter.proofs.Words.{arith, length-drop, ReadLine, Place, FileUnit, Item}
-use Rattle.crx_filter.proofs.Words.{header_has_ended, records_left, Reading, looked_for}
-use Rattle.crx_filter.proofs.Words.{reading_within, reading_from, IsReadForward}
-use Rattle.crx_filter.proofs.Words.{common_steps}
-use Rattle.crx_filter.proofs.{following.Lines.IsStopped, reading.Resuming.{here-within}}
+use Rattle.crx_filter.proofs.Vocabulary.{ℕ, zero, suc, ◌≡◌, ◌+◌, ◌<◌, Bool, true, List, [], ◌∷◌, length}
+use Rattle.crx_filter.proofs.Vocabulary.{arith, length-drop, ReadLine, Place, FileUnit, Item}
+use Rattle.crx_filter.proofs.Vocabulary.{header_has_ended, records_left, Reading, looked_for}
+use Rattle.crx_filter.proofs.Vocabulary.{reading_within, reading_from, IsReadForward}
+use Rattle.crx_filter.proofs.Vocabulary.{common_steps}
+use Rattle.crx_filter.proofs.{following.LinesAtStops.IsStopped, reading.Resuming.{here-within}}
 use Rattle.crx_filter.proofs.reading.Resuming.{wrong-within, within-here, within-wrong, within-wanted}
 
 looked-stopped : {E : Type 0} (place : List (Item E) → List ReadLine → Place (FileUnit E))

@@ -1,10 +1,10 @@
 -- The counts of types in force are allowed, and no letter occurs twice among them.
-use Rattle.crx_filter.proofs.Words.{ℕ, ◌≡◌, List, [], ◌∷◌, ◌++◌, Option, Some, None, refl, All-nil}
-use Rattle.crx_filter.proofs.Words.{HeaderLine, EventRecord, Count, types_of, is_types_line, count_in, Item}
-use Rattle.crx_filter.proofs.Words.{Accepted, Warned, records_count_types, declaring_lines, types_in_force}
+use Rattle.crx_filter.proofs.Vocabulary.{ℕ, ◌≡◌, List, [], ◌∷◌, ◌++◌, Option, Some, None, refl, All-nil}
+use Rattle.crx_filter.proofs.Vocabulary.{HeaderLine, EventRecord, Count, types_of, is_types_line, count_in, Item}
+use Rattle.crx_filter.proofs.Vocabulary.{Accepted, Warned, records_count_types, declaring_lines, types_in_force}
 use Rattle.crx_header.specs.ObservationTypes.{AreCounts, IsCount, after_count}
 use Rattle.crx_header.proofs.Counts.{types_of-push, AreCounts-with_count, count_in_allowed}
-use Rattle.crx_filter.proofs.Choosing.{by_bool}
+use Rattle.crx_filter.proofs.CasesOfTests.{by_bool}
 
 after-count : (counts : List Count) (line : List ℕ) (o : Option Count)
     → AreCounts counts → count_in line ≡ o → AreCounts (after_count counts o)

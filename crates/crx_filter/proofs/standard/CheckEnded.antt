@@ -1,15 +1,15 @@
 -- The end of the input, as a check takes it; and the files that it calls standard.
-use Rattle.crx_filter.proofs.Words
-use Words.{common_steps, arith, ℕ, ◌≡◌, false, List, [], ◌∷◌, ◌++◌, map, length, Option, None, refl, ap}
-use Words.{append-nil, none-some, InputLine, ReadLine, as_read, Fault, Count, Epoch, HeaderLine, OpenEpoch}
-use Words.{Item, Accepted, Warned, is_at_start, Reading, WholeReading, fault_at_end, ended_with, whole_rinex}
-use Words.{rinex_reading, Phase, kept_in, state_end, AreInPlace, failed_by, printed_items, whole_reading_of}
-use Words.{Totals, checking, printed_open, no_choices, rinex_place, ◌+◌}
-use Rattle.crx_filter.proofs.{following.Check.check-carried_out, reading.Ending.next-end}
+use Rattle.crx_filter.proofs.Vocabulary
+use Vocabulary.{common_steps, arith, ℕ, ◌≡◌, false, List, [], ◌∷◌, ◌++◌, map, length, Option, None, refl, ap}
+use Vocabulary.{append-nil, none-some, InputLine, ReadLine, as_read, Fault, Count, Epoch, HeaderLine, OpenEpoch}
+use Vocabulary.{Item, Accepted, Warned, is_at_start, Reading, WholeReading, fault_at_end, ended_with, whole_rinex}
+use Vocabulary.{rinex_reading, Phase, kept_in, state_end, AreInPlace, failed_by, printed_items, whole_reading_of}
+use Vocabulary.{Totals, checking, printed_open, no_choices, rinex_place, ◌+◌}
+use Rattle.crx_filter.proofs.{following.Check.check-carried_out, reading.EndAtStops.next-end}
 use Rattle.crx_filter.proofs.reading.{Forward.rinex-forward, Stopping.reading-stopped}
-use Rattle.crx_filter.proofs.following.{CheckedOn.{same-state, as-many}, Following.state_in}
-use Rattle.crx_filter.proofs.reading.{InPlace.items-in_place, WhatWasRead.items-read}
-use Rattle.crx_filter.{proofs.wayback.Carried.started, specs.CheckByLine.version_accepted}
+use Rattle.crx_filter.proofs.following.{CheckedOn.{same-state, as-many}, Agreement.state_in}
+use Rattle.crx_filter.proofs.reading.{InPlace.items-in_place, AcceptedUnits.items-read}
+use Rattle.crx_filter.{proofs.wayback.UnitsReadAgain.started, specs.CheckByLine.version_accepted}
 use Rattle.crx_filter.specs.{CheckingLaws.IsCheckEnded, meaning.Standard.{first_header_line, version_in}}
 
 -- ---- the end accepts and drops nothing

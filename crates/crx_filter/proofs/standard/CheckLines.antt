@@ -1,14 +1,14 @@
 -- The printed lines for some lines of a file, and for one more line.
-use Rattle.crx_filter.proofs.Words
-use Words.{common_steps, arith, ℕ, zero, suc, ◌≡◌, ◌+◌, ◌-◌, Bool, false, List, [], ◌∷◌, ◌++◌, length, drop}
-use Words.{Option, Some, None, Result, sym, append-nil, ⊤, map-append, none-some, ReadLine, Content, Fault}
-use Words.{Row, Epoch, Count, HeaderLine, EventRecord, last_line, printed_row, printed_epoch, OpenEpoch}
-use Words.{Beginning, epoch_of, with_next_row, Item, Accepted, unless_wrong, Stop, Looking}
-use Words.{reading_within, rinex_place, rinex_reading, made_of_beginning, rinex_open}
-use Words.{Phase, InFirstLines, InHeader, BetweenUnits, InEvent, LookingOn, Closed, Made, Step}
-use Words.{made_of_unit, made_in, with_records_left, step_of_made, phase_in_body, phase_of, failed_by, Totals}
-use Words.{checking, printed_open, printed_made, no_choices}
-use Rattle.crx_filter.proofs.{Checkers.last-of, following.Following.state_in, reading.Resuming.by_place}
+use Rattle.crx_filter.proofs.Vocabulary
+use Vocabulary.{common_steps, arith, ℕ, zero, suc, ◌≡◌, ◌+◌, ◌-◌, Bool, false, List, [], ◌∷◌, ◌++◌, length, drop}
+use Vocabulary.{Option, Some, None, Result, sym, append-nil, ⊤, map-append, none-some, ReadLine, Content, Fault}
+use Vocabulary.{Row, Epoch, Count, HeaderLine, EventRecord, last_line, printed_row, printed_epoch, OpenEpoch}
+use Vocabulary.{Beginning, epoch_of, with_next_row, Item, Accepted, unless_wrong, Stop, Looking}
+use Vocabulary.{reading_within, rinex_place, rinex_reading, made_of_beginning, rinex_open}
+use Vocabulary.{Phase, InFirstLines, InHeader, BetweenUnits, InEvent, LookingOn, Closed, Made, Step}
+use Vocabulary.{made_of_unit, made_in, with_records_left, step_of_made, phase_in_body, phase_of, failed_by, Totals}
+use Vocabulary.{checking, printed_open, printed_made, no_choices}
+use Rattle.crx_filter.proofs.{CheckCounts.last-of, following.Agreement.state_in, reading.Resuming.by_place}
 use Rattle.crx_filter.proofs.reading.Resuming.{within-here, within-wrong, within-wanted}
 use Rattle.crx_rinex.specs.meaning.Printing.{printed_head}
 

@@ -1,10 +1,10 @@
 -- A file is called standard if and only if it is, and if and only if it is restored.
-use Rattle.crx_filter.proofs.Words.{ℕ, ◌≡◌, ◌+◌, Bool, true, List, [], ◌∷◌, length, Option, None, refl}
-use Rattle.crx_filter.proofs.Words.{arith, list_all, and_parts, InputLine, Choices}
-use Rattle.crx_filter.proofs.Words.{first_not_standard, common_steps}
-use Rattle.crx_filter.proofs.{reading.Each.contents, standard.CheckEnded.whole-many}
+use Rattle.crx_filter.proofs.Vocabulary.{ℕ, ◌≡◌, ◌+◌, Bool, true, List, [], ◌∷◌, length, Option, None, refl}
+use Rattle.crx_filter.proofs.Vocabulary.{arith, list_all, and_parts, InputLine, Choices}
+use Rattle.crx_filter.proofs.Vocabulary.{first_not_standard, common_steps}
+use Rattle.crx_filter.proofs.{reading.ListsOfUnits.contents, standard.CheckEnded.whole-many}
 use Rattle.crx_filter.proofs.wayback.ReturnsLost.{standard-where_same}
-use Rattle.crx_filter.{proofs.anywriter.ComesBack.standard-comes_back, specs.CheckingLaws.IsNamedWhereNot}
+use Rattle.crx_filter.{proofs.anywriter.RestoredFiles.standard-comes_back, specs.CheckingLaws.IsNamedWhereNot}
 use Rattle.crx_filter.specs.{CheckingLaws.IsStandardExactlyWhereSame, meaning.Standard.report_status}
 use Rattle.crx_compact.proofs.Characters.{bytes_eq-same, bytes_eq-is}
 

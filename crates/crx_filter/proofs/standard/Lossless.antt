@@ -1,8 +1,8 @@
 -- A file that passes a check is restored.
-use Rattle.crx_filter.proofs.Words
-use Words.{ℕ, List, Option, sym, ◌∙◌, At, arith, common_steps, checked, IsResult, Device}
+use Rattle.crx_filter.proofs.Vocabulary
+use Vocabulary.{ℕ, List, Option, sym, ◌∙◌, At, arith, common_steps, checked, IsResult, Device}
 use Rattle.crx_filter.proofs.standard.CheckStandard.{named-where_not, none-where_0}
-use Rattle.crx_filter.proofs.anywriter.ComesBack.{standard-comes_back}
+use Rattle.crx_filter.proofs.anywriter.RestoredFiles.{standard-comes_back}
 use Rattle.crx_filter.specs.meaning.Lossless.{WhatPassesComesBack, SaysThatItComesBack}
 
 pub what-passes : WhatPassesComesBack

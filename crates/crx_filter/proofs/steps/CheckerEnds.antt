@@ -1,10 +1,10 @@
 -- A checker takes the end of the input.
-use Rattle.crx_filter.proofs.Words.{common_steps, arith, ℕ, ◌≡◌, true, [], List, Option, None}
-use Rattle.crx_filter.proofs.Words.{false, map, length, as_read, Choices, no_choices, check_reading}
-use Rattle.crx_filter.proofs.Words.{first_not_standard, printed_so_far, InputLine, failed_by}
-use Rattle.crx_filter.proofs.Words.{reader_phase, whole_reading_of, findings_of, checking, check_state}
-use Rattle.crx_filter.proofs.Words.{checker_state_with, Held, RinexReader}
-use Rattle.crx_filter.proofs.{following.Following.state_in, standard.CheckEnded.check-ended}
+use Rattle.crx_filter.proofs.Vocabulary.{common_steps, arith, ℕ, ◌≡◌, true, [], List, Option, None}
+use Rattle.crx_filter.proofs.Vocabulary.{false, map, length, as_read, Choices, no_choices, check_reading}
+use Rattle.crx_filter.proofs.Vocabulary.{first_not_standard, printed_so_far, InputLine, failed_by}
+use Rattle.crx_filter.proofs.Vocabulary.{reader_phase, whole_reading_of, findings_of, checking, check_state}
+use Rattle.crx_filter.proofs.Vocabulary.{checker_state_with, Held, RinexReader}
+use Rattle.crx_filter.proofs.{following.Agreement.state_in, standard.CheckEnded.check-ended}
 use Rattle.crx_filter.proofs.steps.{CheckerSteps.{has-reached, reads-on, state-there}}
 use Rattle.crx_filter.specs.{CheckingParts.is_reading}
 use Rattle.crx_filter.specs.{LineByLine.{end_step, fault_at_end_in}, Stages.{is_ended, bare_phase}}

@@ -1,21 +1,21 @@
 -- A checker takes a line, by its reader's outcome.
 use Rattle.crx_filter.proofs
-use proofs.Words.{common_steps, arith, ℕ, ◌≡◌, ◌+◌, true, false, List, [], Option, None, refl, ap, sym, subst}
-use proofs.Words.{◌∙◌, InputLine, is_long, ReadLine, Content, as_read, Fault, OpenEpoch, ObservationEpoch}
-use proofs.Words.{Count, last_line, compaction, with_next, Phase, Made, made_in, step_of_made}
-use proofs.Words.{epoch_by_rows, reader_phase, made_at, TakesRinexLine, TakesRow, is_standard_line, Totals}
-use proofs.Words.{checking}
-use proofs.Words.{printed_made, earliest, CheckState, no_choices, check_state, checker_state_with, Held}
-use proofs.Words.{RinexReader, RinexStep, false-true, first_not_standard, printed_so_far, Stage}
-use proofs.{RinexSteps.in-epoch, Words.is_some}
-use proofs.Words.{phase_of_stage, ◌≤◌, is_open_stage, drop, Row as ObservationRow, Ok}
-use proofs.Words.{Err, IsSameReader, Choices, length-drop, check_by_line, check_reading, map, length}
-use proofs.Words.{false≢true, Written, state_next, Begun, Bool, Rejects, bytes_eq, has_satellite}
-use proofs.{Words.{inl, inr, not, ◌||◌, ◌++◌, ◌∷◌}, following.CheckGoes.{made-quiet}}
-use proofs.following.{CheckedOn.{checked-on, same-state}, Following.state_in}
+use proofs.Vocabulary.{common_steps, arith, ℕ, ◌≡◌, ◌+◌, true, false, List, [], Option, None, refl, ap, sym, subst}
+use proofs.Vocabulary.{◌∙◌, InputLine, is_long, ReadLine, Content, as_read, Fault, OpenEpoch, ObservationEpoch}
+use proofs.Vocabulary.{Count, last_line, compaction, with_next, Phase, Made, made_in, step_of_made}
+use proofs.Vocabulary.{epoch_by_rows, reader_phase, made_at, TakesRinexLine, TakesRow, is_standard_line, Totals}
+use proofs.Vocabulary.{checking}
+use proofs.Vocabulary.{printed_made, earliest, CheckState, no_choices, check_state, checker_state_with, Held}
+use proofs.Vocabulary.{RinexReader, RinexStep, false-true, first_not_standard, printed_so_far, Stage}
+use proofs.{RinexSteps.in-epoch, Vocabulary.is_some}
+use proofs.Vocabulary.{phase_of_stage, ◌≤◌, is_open_stage, drop, Row as ObservationRow, Ok}
+use proofs.Vocabulary.{Err, IsSameReader, Choices, length-drop, check_by_line, check_reading, map, length}
+use proofs.Vocabulary.{false≢true, Written, state_next, Begun, Bool, Rejects, bytes_eq, has_satellite}
+use proofs.{Vocabulary.{inl, inr, not, ◌||◌, ◌++◌, ◌∷◌}, following.CheckByFilter.{made-quiet}}
+use proofs.following.{CheckedOn.{checked-on, same-state}, Agreement.state_in}
 use proofs.standard.{CheckEnded.kept-always, CheckLines.{IsReached, Grows, line-grows, phase-reached}}
 use proofs.steps.{CompactionSteps.parts_with}
-use Rattle.crx_filter.{proofs.steps.Given.given-either, specs.CheckByLine.totals_made}
+use Rattle.crx_filter.{proofs.steps.LinesFedAgain.given-either, specs.CheckByLine.totals_made}
 use Rattle.crx_filter.specs.{CheckingParts.{AreCounted, AreNamed, HasNoRow, NotesLine, is_reading}}
 use Rattle.crx_filter.specs.{CompactionByLine.is_before_header, declared.checking.Noted.Noted}
 use Rattle.crx_filter.specs.{DirectionParts.{DirectionParts, DirectionTakes, Reads}}

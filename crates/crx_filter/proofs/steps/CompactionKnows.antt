@@ -1,14 +1,14 @@
 -- The step of a compaction at a line that it takes, in the words of a direction.
 use Rattle.crx_filter.proofs
-use proofs.Words.{ℕ, ◌≡◌, true, false, List, [], ◌∷◌, Ok, Err, Result, common_steps, arith, ◌+◌, ◌≤◌, false≢true}
-use proofs.Words.{InputLine, Epoch, Observation, OpenEpoch, Choices, Made, compaction, compaction_state}
-use proofs.Words.{Written, RinexReader, made_at, MovesReader, CompletedEpoch, Completed, FileUnit, epoch_by_rows}
-use proofs.Words.{Fault, Bool, ◌++◌, compact_written, written_kept, is_at_every}
-use proofs.{Pending.again-lines}
+use proofs.Vocabulary.{ℕ, ◌≡◌, true, false, List, [], ◌∷◌, Ok, Err, Result, common_steps, arith, ◌+◌, ◌≤◌, false≢true}
+use proofs.Vocabulary.{InputLine, Epoch, Observation, OpenEpoch, Choices, Made, compaction, compaction_state}
+use proofs.Vocabulary.{Written, RinexReader, made_at, MovesReader, CompletedEpoch, Completed, FileUnit, epoch_by_rows}
+use proofs.Vocabulary.{Fault, Bool, ◌++◌, compact_written, written_kept, is_at_every}
+use proofs.{ReadyLines.again-lines}
 use proofs.steps.CompactionSteps.{is_copied, is_first_line}
-use proofs.Words.{Header, HeaderLine, EventLine, EventRecord, RinexStep, TakesRinexLine}
+use proofs.Vocabulary.{Header, HeaderLine, EventLine, EventRecord, RinexStep, TakesRinexLine}
 use Rattle.crx_filter.specs.declared.rinex_reader.RinexStep.TheVariants.{Event, Record}
-use proofs.steps.Together.{served-closed}
+use proofs.steps.CompactionParts.{served-closed}
 use Rattle.crx_compact.specs.Encoding.{EncoderState, EndsEpoch, forgotten}
 use Rattle.crx_filter.specs.CompactionParts.{CompactionState, compaction_parts, is_full_where_due}
 use Rattle.crx_filter.specs.RinexReaders.{RefusesRinexLine}

@@ -1,9 +1,9 @@
 -- The step of a compaction at a line: a fault, another stage, a copied line, or an epoch.
-use Rattle.crx_filter.proofs.Words.{common_steps, arith, ◌≡◌, ℕ, false, false≢true, true, List, Bool}
-use Rattle.crx_filter.proofs.Words.{ObservationEpoch, OpenEpoch, Made, epoch_open}
-use Rattle.crx_filter.proofs.Words.{is_open_stage, TakesRinexLine, RinexStep, Header}
+use Rattle.crx_filter.proofs.Vocabulary.{common_steps, arith, ◌≡◌, ℕ, false, false≢true, true, List, Bool}
+use Rattle.crx_filter.proofs.Vocabulary.{ObservationEpoch, OpenEpoch, Made, epoch_open}
+use Rattle.crx_filter.proofs.Vocabulary.{is_open_stage, TakesRinexLine, RinexStep, Header}
 use Rattle.crx_filter.specs.declared.rinex_reader.RinexStep.TheVariants.{Event, Record}
-use Rattle.crx_filter.proofs.Words.{RinexReader}
+use Rattle.crx_filter.proofs.Vocabulary.{RinexReader}
 use Rattle.crx_filter.specs.DirectionParts.{DirectionParts}
 
 -- ---- a line's step, by the reader

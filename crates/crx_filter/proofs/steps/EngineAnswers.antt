@@ -1,14 +1,14 @@
 -- From the steps of an engine of either direction to the answers of every engine, and to the lines taken.
 use Rattle.crx_filter.proofs
-use proofs.Words.{common_steps, arith, ℕ, ◌≡◌, inl, inr, ◌+◌, true}
-use proofs.Words.{false, List, [], ◌∷◌, map, length, Some, None}
-use proofs.Words.{Result, Ok, Err, refl, ap, sym, subst, ◌∙◌, append-nil, ◌≤◌, rules, and_parts, reverse}
-use proofs.Words.{InputLine, is_long, ReadLine, Content, Overlong, as_read, At, LINE_LIMIT}
-use proofs.Words.{Choices, step_made, Steps, is_again, fed_once, fed_twice, fed, LookingOn}
-use proofs.Words.{RunState, Direction, Made, Rejects, Notice, LineStep, made_in, is_in_epoch}
-use proofs.Words.{is_skipped_in, step_of_made, state_next, can_go_on, ◌++◌}
-use proofs.Words.{by_bool, Completes, answer_of_step, noticed_by, false-true}
-use proofs.Words.{failed_by, Phase}
+use proofs.Vocabulary.{common_steps, arith, ℕ, ◌≡◌, inl, inr, ◌+◌, true}
+use proofs.Vocabulary.{false, List, [], ◌∷◌, map, length, Some, None}
+use proofs.Vocabulary.{Result, Ok, Err, refl, ap, sym, subst, ◌∙◌, append-nil, ◌≤◌, rules, and_parts, reverse}
+use proofs.Vocabulary.{InputLine, is_long, ReadLine, Content, Overlong, as_read, At, LINE_LIMIT}
+use proofs.Vocabulary.{Choices, step_made, Steps, is_again, fed_once, fed_twice, fed, LookingOn}
+use proofs.Vocabulary.{RunState, Direction, Made, Rejects, Notice, LineStep, made_in, is_in_epoch}
+use proofs.Vocabulary.{is_skipped_in, step_of_made, state_next, can_go_on, ◌++◌}
+use proofs.Vocabulary.{by_bool, Completes, answer_of_step, noticed_by, false-true}
+use proofs.Vocabulary.{failed_by, Phase}
 use Rattle.std.specs.Prelude.{IfOk, Bool, ◌&&◌}
 use Rattle.crx_filter.specs.DirectionParts.{EngineParts, IsAfterLines, ComesAfter}
 use Rattle.crx_filter.specs.EngineLaws.{GoesLineByLine, IsLawfulDirection}
@@ -21,9 +21,9 @@ use Rattle.crx_filter.specs.declared.direction.Direction.{Ghosts}
 use Rattle.crx_runs.specs.Engines.{Awaited, IsAwaited, awaited_notices, EngineAnswers}
 use Rattle.crx_runs.specs.{declared.engine.Step.{Step, TheVariants.Warned}, meaning.Filters.Filter}
 use Rattle.crx_filter.specs.{LineByLine.noticed_again, Memory.may_reserve}
-use proofs.Pending.{again-lines, quiet-next, taken-either}
+use proofs.ReadyLines.{again-lines, quiet-next, taken-either}
 use proofs.steps.StepCounts.{steps-choices}
-use proofs.following.Following.{fed-once as feeds-once, fed-twice as feeds-twice, failed-ends, failed-skipped}
+use proofs.following.Agreement.{fed-once as feeds-once, fed-twice as feeds-twice, failed-ends, failed-skipped}
 
 -- ---- a line that is fed again
 
@@ -77,9 +77,9 @@ noticed-last answer next = refl
 failed-is : (result : Result Step At) (at : At) → answer_of_step result ≡ Failed at → result ≡ Err at
 failed-is result at is = grind (arith, common_steps)
 
-module _ {U O K : Type 0} {direction : Direction U O K} {closing_after : List InputLine → List (List ℕ)}
+module _ {U O K : Type 0} {direction : Direction U O K} {lines_at_end_after : List InputLine → List (List ℕ)}
     {state_after_lines : List ReadLine → RunState O K} {filter : Filter}
-    (goes : GoesLineByLine direction closing_after state_after_lines filter)
+    (goes : GoesLineByLine direction lines_at_end_after state_after_lines filter)
     (has_ended : List InputLine → Type 0) where
   -- ---- a line that is fed once, or again
 
@@ -211,7 +211,7 @@ module _ {U O K : Type 0} {direction : Direction U O K} {closing_after : List In
   concludes : (shows : List InputLine → List Awaited → Type 0) (before now : RunState O K)
       (lines : List InputLine) (ready : List (List ℕ)) (result : Result Step At)
       → HasTaken direction state_after_lines before lines []
-      → step_made result ready now ≡ state_end_with direction (closing_after lines) before
+      → step_made result ready now ≡ state_end_with direction (lines_at_end_after lines) before
       → IfOk result (λ step. has_ended lines) → EngineAnswers filter shows has_ended ready lines [] None
       result
   concludes shows before now lines ready result taken e ended =
@@ -234,9 +234,9 @@ as-read-within line bytes h e = grind (arith, common_steps, as-read-short, short
 
 -- ---- an engine with its options
 
-module _ {U O K : Type 0} {direction : Direction U O K} {closing_after : List InputLine → List (List ℕ)}
+module _ {U O K : Type 0} {direction : Direction U O K} {lines_at_end_after : List InputLine → List (List ℕ)}
     {state_after_lines : List ReadLine → RunState O K} {filter : Filter}
-    (goes : GoesLineByLine direction closing_after state_after_lines filter) where
+    (goes : GoesLineByLine direction lines_at_end_after state_after_lines filter) where
   -- an engine that has taken some lines has counted these lines
   pub taken-lines : (now : RunState O K) (lines : List InputLine) (notices : List Awaited)
       → HasTaken direction state_after_lines now lines notices → now.number ≡ length lines
@@ -256,21 +256,21 @@ answers-known knows lines line filter shows has_ended ready notices result known
     grind (arith, common_steps)
 
 -- an engine follows its filter if its direction does
-pub goes-on : {D : Type 0} (d : Ghosts D) (e : EngineParts D) → d.chosen e.options ≡ e.options
-    → IsLawfulDirection d.by_line d.chosen d.closing_after d.state_after_lines d.filter
+pub goes-on : {D : Type 0} (d : Ghosts D) (e : EngineParts D) → d.options_used e.options ≡ e.options
+    → IsLawfulDirection d.by_line d.options_used d.lines_at_end_after d.state_after_lines d.filter
     → EngineGoes d e
 goes-on d e chosen lawful = record { chosen = chosen; lawful = lawful e.options chosen }
 
 module _ {D : Type 0} (d : Ghosts D) (before : EngineParts D) (goes : EngineGoes d before) where
   -- an engine that has taken some lines is in the state after them
   after-lines : (lines : List InputLine) → engine_took d before lines []
-      → IsAfterLines d.chosen d.state_after_lines before.options lines (d.parts before.direction)
+      → IsAfterLines d.options_used d.state_after_lines before.options lines (d.parts before.direction)
   after-lines lines took = grind (arith, common_steps, taken-lines goes.lawful, goes.chosen)
 
   -- and takes the next one
   given-line : (lines : List InputLine) (notices : List Awaited) (line : InputLine)
       → engine_took d before lines notices → IsAwaited notices line
-      → ComesAfter d.by_line d.chosen d.state_after_lines before.options lines line (d.parts before.direction)
+      → ComesAfter d.by_line d.options_used d.state_after_lines before.options lines line (d.parts before.direction)
   given-line lines notices line took awaited = grind (arith, common_steps, taken-lines)
 
 -- the answer to a line that an engine took is as its filter says, or memory ran out
@@ -282,9 +282,9 @@ pub line-answered : {D : Type 0} (d : Ghosts D) (before after : EngineParts D) (
     → EngineAnswers (d.filter before.options) (engine_took d after) has_ended ready lines notices (Some line)
     result
 line-answered d before after has_ended {ready = ready} line read result is takes lines notices took awaited =
-    answers-known (d.notes after.direction after.options) lines line (d.filter before.options)
+    answers-known (d.notes_are_right after.direction after.options) lines line (d.filter before.options)
     (engine_seen d after) has_ended ready notices result
-    (subst (λ (c : Choices). KnowsAfter (d.notes after.direction c) lines line result) (sym same)
+    (subst (λ (c : Choices). KnowsAfter (d.notes_are_right after.direction c) lines line result) (sym same)
     (takes.notes lines (taken-lines takes.goes.lawful (engine_state d before) lines notices took.0)
     (given-line d before takes.goes lines notices line took awaited) took.1)) (answered takes.steps)
   where
@@ -309,8 +309,8 @@ line-answered d before after has_ended {ready = ready} line read result is takes
 pub end-answered : {D : Type 0} (d : Ghosts D) (before after : EngineParts D)
     (shows : List InputLine → List Awaited → Type 0) {ready : List (List ℕ)} (result : Result Step At)
     → TakesEnd d before result ready after → (lines : List InputLine) → engine_took d before lines []
-    → EngineAnswers (d.filter before.options) shows (d.report_is after.direction) ready lines [] None result
+    → EngineAnswers (d.filter before.options) shows (d.report_is_right after.direction) ready lines [] None result
 end-answered d before after shows {ready = ready} result takes lines took =
     let closes = takes.closes lines (after-lines d before takes.goes lines took) took.1 in
-    concludes takes.goes.lawful (d.report_is after.direction) shows (engine_state d before)
+    concludes takes.goes.lawful (d.report_is_right after.direction) shows (engine_state d before)
     (engine_state d after) lines ready result took.0 closes.0 closes.1

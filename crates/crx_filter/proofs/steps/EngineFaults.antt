@@ -1,23 +1,23 @@
 -- The answer of an engine to a line with a fault, to a line that is too long, and to the input's end.
-use Rattle.crx_filter.proofs.Words
+use Rattle.crx_filter.proofs.Vocabulary
 use Rattle.crx_filter.specs
-use Words.{common_steps, arith, ◌≡◌, ℕ, ◌+◌, Bool, true, false, ◌&&◌, List, [], Option, Some, None, Result}
-use Words.{Ok, Err, Content, Overlong, At, Fault, LineTooLong}
-use Words.{OutOfMemory, Count, Choices, RunState, Direction}
-use Words.{Rejects, made_in, is_skipped_in, may_skip, is_skippable, failed_step, state_next}
-use Words.{begins_epoch, step_made, is_held, phase_of_stage, Stage, false≢true, InputLine}
-use Words.{ReadLine, Steps, as_read, length, LINE_LIMIT, ◌≤◌, refl, sym, ap, ◌∙◌, inl, inr, step_of_made}
+use Vocabulary.{common_steps, arith, ◌≡◌, ℕ, ◌+◌, Bool, true, false, ◌&&◌, List, [], Option, Some, None, Result}
+use Vocabulary.{Ok, Err, Content, Overlong, At, Fault, LineTooLong}
+use Vocabulary.{OutOfMemory, Count, Choices, RunState, Direction}
+use Vocabulary.{Rejects, made_in, is_skipped_in, may_skip, is_skippable, failed_step, state_next}
+use Vocabulary.{begins_epoch, step_made, is_held, phase_of_stage, Stage, false≢true, InputLine}
+use Vocabulary.{ReadLine, Steps, as_read, length, LINE_LIMIT, ◌≤◌, refl, sym, ap, ◌∙◌, inl, inr, step_of_made}
 use specs.DirectionParts.{DirectionParts, state_by, Reads, AnswersToFault, handed_out_by}
 use specs.{DirectionParts.{EngineParts, KnowsStill}, EngineState.{EngineGoes, TakesLine}}
 use specs.{EngineState.{engine_ready, engine_state}, declared.direction.Direction.Ghosts}
 use specs.{DirectionParts.hands_out, EngineSteps.answer_of_step, LineByLine.{end_step, answer_of_lines}}
 use specs.{LineByLine.{Ended as EndedPhase, fault_at_end_in, state_end_with}, Stages.{bare_phase, is_settled}}
 use specs.declared.stage.Stage.TheVariants.{Closed, Ended}
-use Rattle.crx_filter.proofs.{following.Following.failed-ends, steps.EngineAnswers.as-read-within}
+use Rattle.crx_filter.proofs.{following.Agreement.failed-ends, steps.EngineAnswers.as-read-within}
 use Rattle.crx_runs.specs.declared.engine.Step.{Step, TheVariants.{Warned}}
 use Rattle.std.proofs.Common.{IfErr, OnErr}
 use Rattle.crx_runs.specs.Engines.{answer_given, lines_handed_out}
-use Rattle.crx_runs.specs.declared.engine.HandedOut.{HandedOut}
+use Rattle.crx_runs.specs.declared.engine.LineOutput.{LineOutput}
 
 -- a statement holds after an error if it holds anyway
 pub after-error : {A B P : Type 0} (result : Result A B) → P → OnErr result P
@@ -26,7 +26,7 @@ after-error result is = grind (arith, common_steps)
 module _ {U O K : Type 0} (direction : Direction U O K) where
   -- a line was taken, with output or without
   pub handed-line : (serves : Choices → Type 0) (choices : Choices) (last : ℕ)
-      (before parts : DirectionParts O K) (line : List ℕ) (out : HandedOut)
+      (before parts : DirectionParts O K) (line : List ℕ) (out : LineOutput)
       (stored : Result Step At) (ready : List (List ℕ)) → serves choices
       → Reads direction serves before line (hands_out (Ok out)) (handed_out_by (Ok out) line ready) parts
       → Steps direction (state_by choices last before) (Content line) (answer_given (Some out) stored)
@@ -120,10 +120,10 @@ module _ {U O K : Type 0} (direction : Direction U O K) where
 -- ---- a refused line
 
 module _ {D : Type 0} (d : Ghosts D) (before after : EngineParts D) (line : InputLine) (goes : EngineGoes d
-    before) (past : KnowsStill d.by_line d.chosen d.state_after_lines (d.parts before.direction)
-    (d.notes before.direction))
-    (stays : (choices : Choices) (lines : List InputLine) → d.notes before.direction choices lines
-    → d.notes after.direction choices lines) where
+    before) (past : KnowsStill d.by_line d.options_used d.state_after_lines (d.parts before.direction)
+    (d.notes_are_right before.direction))
+    (stays : (choices : Choices) (lines : List InputLine) → d.notes_are_right before.direction choices lines
+    → d.notes_are_right after.direction choices lines) where
   -- the line was taken, and these are the notes after it
   pub refused-takes : (fault : Fault) (read : ReadLine) (result : Result Step At) (ready : List (List ℕ))
       → step_made result ready (engine_state d after) ≡ failed_step d.by_line (engine_state d before) read

@@ -1,6 +1,6 @@
 -- The step of an expansion at a line that it takes, in the words of a direction.
-use Rattle.crx_filter.proofs.Words.{common_steps, arith, ℕ, true, Bool, List, Choices, InputLine, Fault, Result, refl}
-use Rattle.crx_filter.proofs.Words.{expansion, expansion_state}
+use Rattle.crx_filter.proofs.Vocabulary.{common_steps, arith, ℕ, true, Bool, List, Choices, InputLine, Fault, Result, refl}
+use Rattle.crx_filter.proofs.Vocabulary.{expansion, expansion_state}
 use Rattle.crx_compact.specs.Blocks.{PendingLines}
 use Rattle.crx_filter.specs.CompactReaders.{ReadsCompactLine, compact_reader_parts}
 use Rattle.crx_filter.specs.DirectionParts.{DirectionTakes}

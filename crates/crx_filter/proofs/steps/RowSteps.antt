@@ -1,6 +1,6 @@
 -- A row that was read and then taken: statements about the reader in between hold of the reader before.
-use Rattle.crx_filter.proofs.Words.{common_steps, arith, ◌≡◌, Bool, List, ℕ, Written, compaction, made_in}
-use Rattle.crx_filter.proofs.Words.{made_at, reader_phase, IsSameReader, TakesRow, RinexReader}
+use Rattle.crx_filter.proofs.Vocabulary.{common_steps, arith, ◌≡◌, Bool, List, ℕ, Written, compaction, made_in}
+use Rattle.crx_filter.proofs.Vocabulary.{made_at, reader_phase, IsSameReader, TakesRow, RinexReader}
 
 pub same-made : (before mid : RinexReader) (line : List ℕ) (kept : Written) → IsSameReader before mid
     → made_at mid line kept ≡ made_at before line kept

@@ -1,10 +1,10 @@
 -- The number of lines taken after a step, and its ready lines.
-use Rattle.crx_filter.proofs.Words.{common_steps, arith, ◌≡◌, inl, inr, ℕ}
-use Rattle.crx_filter.proofs.Words.{false, List, [], Result, Some, length}
-use Rattle.crx_filter.proofs.Words.{length-append, InputLine, ReadLine, At}
-use Rattle.crx_filter.proofs.Words.{Choices, Direction, RunState, Made, ap}
-use Rattle.crx_filter.proofs.Words.{made_in}
-use Rattle.crx_filter.proofs.{Words.{Steps, answer_of_step, step_made, step_of_made}, Pending.{quiet-next}}
+use Rattle.crx_filter.proofs.Vocabulary.{common_steps, arith, ◌≡◌, inl, inr, ℕ}
+use Rattle.crx_filter.proofs.Vocabulary.{false, List, [], Result, Some, length}
+use Rattle.crx_filter.proofs.Vocabulary.{length-append, InputLine, ReadLine, At}
+use Rattle.crx_filter.proofs.Vocabulary.{Choices, Direction, RunState, Made, ap}
+use Rattle.crx_filter.proofs.Vocabulary.{made_in}
+use Rattle.crx_filter.proofs.{Vocabulary.{Steps, answer_of_step, step_made, step_of_made}, ReadyLines.{quiet-next}}
 use Rattle.crx_filter.specs.{Laws.is_ready, LineByLine.state_end_with}
 use Rattle.crx_runs.specs.Engines.{Awaited, EngineAnswers, HasStepped, taken_after, IsDrainedAfter}
 use Rattle.crx_runs.specs.{declared.engine.Step.Step, meaning.Filters.Filter}

@@ -1,16 +1,16 @@
 -- Units kept after a damaged stretch, whoever wrote them: they are read as themselves, whatever was read of the
 -- stretch.
 use Rattle.crx_filter.proofs
-use proofs.Words.{ℕ, ◌≡◌, ◌+◌, ◌≤◌, At, true, List, [], ◌∷◌, ◌++◌, map, length, Option, None, refl, ◌∙◌}
-use proofs.Words.{arith, append-nil, inl, and_parts, ReadLine, Content, Epoch, FileUnit, common_steps}
-use proofs.Words.{begins_epoch, ReadEpoch, Item, header_has_ended}
-use proofs.Words.{records_left, types_in_force, Reading, AtLines, reading_from, compact_place, raws_kept}
-use proofs.Words.{IsBetweenUnits, AreInPlace}
+use proofs.Vocabulary.{ℕ, ◌≡◌, ◌+◌, ◌≤◌, At, true, List, [], ◌∷◌, ◌++◌, map, length, Option, None, refl, ◌∙◌}
+use proofs.Vocabulary.{arith, append-nil, inl, and_parts, ReadLine, Content, Epoch, FileUnit, common_steps}
+use proofs.Vocabulary.{begins_epoch, ReadEpoch, Item, header_has_ended}
+use proofs.Vocabulary.{records_left, types_in_force, Reading, AtLines, reading_from, compact_place, raws_kept}
+use proofs.Vocabulary.{IsBetweenUnits, AreInPlace}
 use proofs.anywriter.AnyText.{none-left, AreReadOn, read-on}
-use proofs.{reading.{ForwardCompact.compact-forward, Resuming.resumed}, wayback.Carried.{IsLike, started}}
+use proofs.{reading.{ForwardCompact.compact-forward, Resuming.resumed}, wayback.UnitsReadAgain.{IsLike, started}}
 use proofs.stretches.OpenReading.{IsOpen, open-continued, pending}
-use proofs.damage.GoingOn.{with_warnings, warned-between, warned-types}
-use Rattle.crx_compact.proofs.Words.{tail_left}
+use proofs.damage.ResumedEpochs.{with_warnings, warned-between, warned-types}
+use Rattle.crx_compact.proofs.Vocabulary.{tail_left}
 use Rattle.crx_compact.specs.meaning.AnyWriter.{WrittenEpoch}
 use Rattle.crx_filter.specs.meaning.{Stretches.AreLinesOn, UnitsAndText.as_items}
 use Rattle.crx_filter.specs.meaning.WrittenStandard.{rinex_items}

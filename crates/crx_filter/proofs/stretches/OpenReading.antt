@@ -1,24 +1,24 @@
 -- The reading of a damaged stretch: if none of its lines is an event's first one, only epochs and warnings are read
 -- from it; and reading resumes at the next line that begins with >.
-use Rattle.crx_filter.proofs.Words
-use Words.{common_steps, ℕ, zero, suc, ◌≡◌, ◌+◌, ◌<◌, ◌≤◌, max, ◌⊎◌, inl, inr, true, false, List, [], ◌∷◌}
-use Words.{◌++◌}
-use Words.{length, drop, refl, arith, ⊤, list_all, and_parts}
-use Words.{ReadLine, Content, Overlong, At, begins_epoch, is_event_line}
-use Words.{NeedsMore, Observation, ReadEpoch, ended_reading, warnings_in}
-use Words.{Item, Accepted, Warned, types_in_force, Reading, Stop, AtLines, Looking, looked_for}
-use Words.{after_fault}
-use Words.{reading_within, reading_from, compact_place, IsBetweenUnits, continued_reading, by_bool}
-use Words.{is_skipped, ap, AtFault}
+use Rattle.crx_filter.proofs.Vocabulary
+use Vocabulary.{common_steps, ℕ, zero, suc, ◌≡◌, ◌+◌, ◌<◌, ◌≤◌, max, ◌⊎◌, inl, inr, true, false, List, [], ◌∷◌}
+use Vocabulary.{◌++◌}
+use Vocabulary.{length, drop, refl, arith, ⊤, list_all, and_parts}
+use Vocabulary.{ReadLine, Content, Overlong, At, begins_epoch, is_event_line}
+use Vocabulary.{NeedsMore, Observation, ReadEpoch, ended_reading, warnings_in}
+use Vocabulary.{Item, Accepted, Warned, types_in_force, Reading, Stop, AtLines, Looking, looked_for}
+use Vocabulary.{after_fault}
+use Vocabulary.{reading_within, reading_from, compact_place, IsBetweenUnits, continued_reading, by_bool}
+use Vocabulary.{is_skipped, ap, AtFault}
 use Rattle.crx_filter.specs.meaning.{Damage.is_inside, Stretches.begins_no_event}
 use Rattle.crx_filter.proofs.damage.BlockReading.{bad-event, block-here, skipped-here}
-use Rattle.crx_filter.proofs.damage.GoingOn.{GoesOnAt, open-goes_on, EndsAfter, ends-inside}
-use Rattle.crx_filter.proofs.{following.Lines.IsStopped}
+use Rattle.crx_filter.proofs.damage.ResumedEpochs.{GoesOnAt, open-goes_on, EndsAfter, ends-inside}
+use Rattle.crx_filter.proofs.{following.LinesAtStops.IsStopped}
 use Rattle.crx_filter.proofs.{reading.{ForwardCompact.compact-forward, Stopping.reading-stopped}}
-use Rattle.crx_filter.proofs.reading.KeptThroughout.{IsKept, KeptAt, looked-kept, within-kept}
+use Rattle.crx_filter.proofs.reading.StepInvariants.{IsKept, KeptAt, looked-kept, within-kept}
 use Rattle.crx_filter.proofs.reading.Resuming.{by_place, within-here, within-wrong}
 use Rattle.crx_filter.proofs.reading.Resuming.{within-wanted, looked-here, resumed}
-use Rattle.crx_filter.proofs.wayback.First.{all-drop}
+use Rattle.crx_filter.proofs.wayback.FirstTwoLines.{all-drop}
 use Rattle.std.proofs.lemmas.List.{Folds.list_all-append, drop-drop}
 
 -- ---- the lines of a stretch, and their reading

@@ -1,14 +1,14 @@
 -- The compact text of a file that is compacted here, damaged in stretches, cut into lines: those of its units, and
 -- those in the stretches.
-use Rattle.crx_filter.proofs.Words
-use Words.{common_steps, arith, ℕ, ◌≡◌, ◌⊎◌, inl, inr, true, List, [], ◌∷◌, ◌++◌, map, refl, Option}
-use Words.{append-nil, AllByRecursion, list_all, drop-append_seam, Piece}
-use Words.{pieces_of, lines_of, lines_text, Content, as_read, Epoch, Choices, Item}
-use Words.{header_has_ended, lines_after, OfCopiedLines, HaveNoReturns, AreInPlace, Stretch}
+use Rattle.crx_filter.proofs.Vocabulary
+use Vocabulary.{common_steps, arith, ℕ, ◌≡◌, ◌⊎◌, inl, inr, true, List, [], ◌∷◌, ◌++◌, map, refl, Option}
+use Vocabulary.{append-nil, AllByRecursion, list_all, drop-append_seam, Piece}
+use Vocabulary.{pieces_of, lines_of, lines_text, Content, as_read, Epoch, Choices, Item}
+use Vocabulary.{header_has_ended, lines_after, OfCopiedLines, HaveNoReturns, AreInPlace, Stretch}
 use Rattle.crx_filter.proofs.damage.{ItemTexts.{rest-in_place, text-parts}, DamagedText.each-ended}
 use Rattle.crx_filter.proofs.damage.{DamagedText.{lines-append, front-cut}, TextAfter.{lines_on, written-on}}
-use Rattle.crx_filter.proofs.reading.Each.{header-append, all-parts}
-use Rattle.crx_filter.proofs.wayback.{Cut.{IsClean, CanStand}, Reading.lines_back}
+use Rattle.crx_filter.proofs.reading.ListsOfUnits.{header-append, all-parts}
+use Rattle.crx_filter.proofs.wayback.{LinesCutAgain.{IsClean, CanStand}, Reading.lines_back}
 use Rattle.crx_filter.proofs.wayback.{Units.units_in, WayBack.lines-clean}
 use Rattle.crx_filter.specs.meaning.Stretches.{stretches_lines}
 use Rattle.crx_filter.specs.OwnStretches.{OwnStretch, up_to_own_end, up_to_own_next}

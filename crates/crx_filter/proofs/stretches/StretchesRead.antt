@@ -1,16 +1,16 @@
 -- The reading of a text that is damaged in stretches: after each stretch exactly the kept units.
 use Rattle.crx_filter.proofs
-use proofs.Words.{arith, ◌≡◌, true, List, [], ◌∷◌, ◌++◌, map, refl, append_assoc, append-nil}
-use proofs.Words.{AllByRecursion, flat_map, flat_map-append, ReadLine, Content, Epoch, FileUnit, IsWholeEpoch}
-use proofs.Words.{printed_epoch, Observation, IsGood, ReadEpoch, Item, Accepted, Warned, header_has_ended}
-use proofs.Words.{records_left, types_in_force, reading_from, compact_place, printed_items, IsBetweenUnits}
-use proofs.Words.{expanded_lines, AreInPlace, Stretch, up_to_end, up_to_next, with_stretches, IsStretch}
-use proofs.Words.{AreStretches, common_steps}
+use proofs.Vocabulary.{arith, ◌≡◌, true, List, [], ◌∷◌, ◌++◌, map, refl, append_assoc, append-nil}
+use proofs.Vocabulary.{AllByRecursion, flat_map, flat_map-append, ReadLine, Content, Epoch, FileUnit, IsWholeEpoch}
+use proofs.Vocabulary.{printed_epoch, Observation, IsGood, ReadEpoch, Item, Accepted, Warned, header_has_ended}
+use proofs.Vocabulary.{records_left, types_in_force, reading_from, compact_place, printed_items, IsBetweenUnits}
+use proofs.Vocabulary.{expanded_lines, AreInPlace, Stretch, up_to_end, up_to_next, with_stretches, IsStretch}
+use proofs.Vocabulary.{AreStretches, common_steps}
 use Rattle.crx_filter.specs.meaning.{Stretches.{Saves, stretches_lines}, UnitsAndText.as_items}
-use proofs.Words.{map-append}
-use proofs.damage.{ItemTexts.rest-in_place, GoingOn.with_warnings}
+use proofs.Vocabulary.{map-append}
+use proofs.damage.{ItemTexts.rest-in_place, ResumedEpochs.with_warnings}
 use proofs.damage.SavedText.{lines-append, lines-warned, epochs_of}
-use proofs.{reading.Each.{all-append, header-append}, stretches.KeptUnits.{AreKeptRead, units-kept}}
+use proofs.{reading.ListsOfUnits.{all-append, header-append}, stretches.KeptUnits.{AreKeptRead, units-kept}}
 use proofs.stretches.OpenReading.{AreEpochs, IsOpen, IsStretchRead, stretch-more}
 use proofs.stretches.OpenReading.{epochs-types}
 use proofs.wayback.{ExpandedStandard.printed-read, ExpandedWhole.AreGoodEpochs}

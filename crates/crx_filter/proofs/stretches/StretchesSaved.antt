@@ -1,17 +1,17 @@
 -- The output and messages of an expansion that skips faults, of a text that is damaged in stretches.
 use Rattle.crx_filter.proofs
-use proofs.Words.{ℕ, ◌≡◌, true, List, [], ◌++◌, map, reverse, None, refl, arith}
-use proofs.Words.{append-nil, lines_of, lines_text, ReadLine, Content, as_read, Epoch, FileUnit, ReadEpoch}
-use proofs.Words.{Choices, Item, Reading, reading_from, ended_reading, compact_place, expanded, common_steps}
-use proofs.Words.{whole_compact, printed_items, warnings_in}
-use proofs.Words.{notices_text, expanded_lines, FilterResult, Stretch}
-use proofs.Words.{with_stretches}
+use proofs.Vocabulary.{ℕ, ◌≡◌, true, List, [], ◌++◌, map, reverse, None, refl, arith}
+use proofs.Vocabulary.{append-nil, lines_of, lines_text, ReadLine, Content, as_read, Epoch, FileUnit, ReadEpoch}
+use proofs.Vocabulary.{Choices, Item, Reading, reading_from, ended_reading, compact_place, expanded, common_steps}
+use proofs.Vocabulary.{whole_compact, printed_items, warnings_in}
+use proofs.Vocabulary.{notices_text, expanded_lines, FilterResult, Stretch}
+use proofs.Vocabulary.{with_stretches}
 use Rattle.crx_filter.specs.meaning.Stretches.{HasStretches, KeepsTheRest, stretches_lines}
 use Rattle.crx_filter.specs.meaning.UnitsAndText.{as_items}
 use Rattle.crx_runs.specs.meaning.Results.{status_after}
 use proofs.anywriter.AnyText.{AreRead, all-read, in-place, whole-read}
-use proofs.damage.{GoingOn.{EndsAfter, with_warnings}, SavedText.{lines-append, lines-warned}}
-use proofs.reading.{ForwardCompact.compact-forward, WhatWasRead.items-read}
+use proofs.damage.{ResumedEpochs.{EndsAfter, with_warnings}, SavedText.{lines-append, lines-warned}}
+use proofs.reading.{ForwardCompact.compact-forward, AcceptedUnits.items-read}
 use proofs.stretches.OpenReading.{open-ends, open-items, pending}
 use proofs.stretches.StretchesRead.{WereReadAs, AreSound, next-closed, stretches-read, placed-up_to}
 use proofs.wayback.{ExpandedStandard.printed-read, ExpandedWhole.{AreGoodEpochs, epochs-good}}

@@ -1,7 +1,7 @@
 -- Compact text is canonical: a file's normal form is compacted as the file, and is restored from that text.
-use Rattle.crx_filter.proofs.Words.{ℕ, ◌≡◌, List, None, map, lines_of, as_read}
-use Rattle.crx_filter.proofs.Words.{Choices, compact_unit, compacted, normal_form, whole_of}
-use Rattle.crx_filter.proofs.Words.{HasNormalForm, result_of}
+use Rattle.crx_filter.proofs.Vocabulary.{ℕ, ◌≡◌, List, None, map, lines_of, as_read}
+use Rattle.crx_filter.proofs.Vocabulary.{Choices, compact_unit, compacted, normal_form, whole_of}
+use Rattle.crx_filter.proofs.Vocabulary.{HasNormalForm, result_of}
 use Rattle.crx_filter.proofs.wayback.{NormalForm.read-as_normal, Standard.same-reading}
 use Rattle.crx_filter.specs.meaning.Canonical.{CompactsAsNormal}
 

@@ -1,22 +1,22 @@
 -- The output of an expansion is standard: the units read from compact text are in place, as units of RINEX, and a
 -- copied line is a line.
 use Rattle.crx_filter.proofs
-use proofs.Words.{common_steps, [], ℕ, ◌≡◌, Bool, true, List, ◌∷◌, ◌++◌, None}
-use proofs.Words.{refl, ap, ◌∙◌, arith, AllByRecursion, and_parts, not-true}
-use proofs.Words.{lines_text, ReadLine, Epoch}
-use proofs.Words.{printed_unit, ReadEpoch, Choices}
-use proofs.Words.{compact_place, whole_compact, expanded_unit, Item}
-use proofs.Words.{Accepted, Warned, is_at_start, header_has_ended, records_left, records_count_types}
-use proofs.Words.{declaring_lines, WholeReading, printed_items}
-use proofs.Words.{HaveNoReturns, written_lines, ItemsAreRead}
-use proofs.{Words.{AreInPlace}, reading.Each.{all-parts}}
+use proofs.Vocabulary.{common_steps, [], ℕ, ◌≡◌, Bool, true, List, ◌∷◌, ◌++◌, None}
+use proofs.Vocabulary.{refl, ap, ◌∙◌, arith, AllByRecursion, and_parts, not-true}
+use proofs.Vocabulary.{lines_text, ReadLine, Epoch}
+use proofs.Vocabulary.{printed_unit, ReadEpoch, Choices}
+use proofs.Vocabulary.{compact_place, whole_compact, expanded_unit, Item}
+use proofs.Vocabulary.{Accepted, Warned, is_at_start, header_has_ended, records_left, records_count_types}
+use proofs.Vocabulary.{declaring_lines, WholeReading, printed_items}
+use proofs.Vocabulary.{HaveNoReturns, written_lines, ItemsAreRead}
+use proofs.{Vocabulary.{AreInPlace}, reading.ListsOfUnits.{all-parts}}
 use proofs.reading.{ForwardCompact.compact-forward}
-use proofs.accounts.{Copies.compact-copies, Told.text-told}
-use proofs.{reading.WhatWasRead.compact-whole_read}
-use proofs.wayback.{Converse.{lines-plain, all-plain}, Cut.{CanStand, OfContent, input-stands}}
-use proofs.wayback.{Cut.first-cut, ExpandedWhole.{AreGoodEpochs, compact-stands, epochs-good}}
+use proofs.accounts.{CopiedUnits.compact-copies, OwnedLines.text-told}
+use proofs.{reading.AcceptedUnits.compact-whole_read}
+use proofs.wayback.{RestoredIsStandard.{lines-plain, all-plain}, LinesCutAgain.{CanStand, OfContent, input-stands}}
+use proofs.wayback.{LinesCutAgain.first-cut, ExpandedWhole.{AreGoodEpochs, compact-stands, epochs-good}}
 use proofs.wayback.NormalForm.{printed-clean, printed-stand, settled-standard}
-use proofs.{wayback.First.{two-back, two-whole}}
+use proofs.{wayback.FirstTwoLines.{two-back, two-whole}}
 use proofs.wayback.Reading.{copied, of-copied, of-own}
 use proofs.wayback.{Standard.NoReturn, WayBack.{IsSettled, whole-closes}}
 use Rattle.crx_filter.specs.meaning.{Expanded.rinex_unit, WrittenStandard.{has_plain_lines, rinex_items}}

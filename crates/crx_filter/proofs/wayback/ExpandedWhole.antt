@@ -1,11 +1,11 @@
 -- The accepted units of compact text: each epoch is whole, by the types in force at its lines.
-use Rattle.crx_filter.proofs.Words
-use Words.{refl, subst, [], ℕ, ◌≡◌, List, ◌∷◌, ⊤, AllByRecursion, ReadLine, Done, FileUnit}
-use Words.{Observation, ReadEpoch, epoch_at, IsGood, Item, Accepted, Warned, arith}
-use Words.{types_in_force, raws_kept, compact_place, ItemsAreRead, common_steps}
+use Rattle.crx_filter.proofs.Vocabulary
+use Vocabulary.{refl, subst, [], ℕ, ◌≡◌, List, ◌∷◌, ⊤, AllByRecursion, ReadLine, Done, FileUnit}
+use Vocabulary.{Observation, ReadEpoch, epoch_at, IsGood, Item, Accepted, Warned, arith}
+use Vocabulary.{types_in_force, raws_kept, compact_place, ItemsAreRead, common_steps}
 use Rattle.crx_filter.proofs.reading.{ForwardCompact.compact_beginning, Types.counts-in_force}
-use Rattle.crx_filter.proofs.reading.WhatStands.{StandsAt, Stands, chosen, of-unit, of-compact}
-use Rattle.crx_compact.{proofs.soundness.Goodness.reads-whole, specs.ReadingLaws.HasPrintableMarks}
+use Rattle.crx_filter.proofs.reading.UnitsAtLines.{StandsAt, Stands, chosen, of-unit, of-compact}
+use Rattle.crx_compact.{proofs.soundness.WholeEpochs.reads-whole, specs.ReadingLaws.HasPrintableMarks}
 
 abbrev pub IsReadAt : List (Item ReadEpoch) → List ReadLine → ReadEpoch → ℕ → Type 0
 IsReadAt items lines read count = epoch_at (types_in_force items) (raws_kept items) lines ≡ Done read count

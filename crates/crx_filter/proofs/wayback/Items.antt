@@ -1,12 +1,12 @@
 -- The accepted units of a compaction, and the reading of its compact text: the same header, events and types in
 -- force.
-use Rattle.crx_filter.proofs.Words
-use Words.{common_steps, ℕ, ◌≡◌, false, List, [], ◌∷◌, Option, refl, arith}
-use Words.{Epoch, FileUnit, HeaderLine, EventLine}
-use Words.{EventRecord, Observation, Marked, compact_epoch}
-use Words.{LinesCanStand, Item, Accepted, types_in_force, is_interrupted, is_in_full}
-use Words.{marked_epochs, AreInPlace}
-use Rattle.crx_compact.proofs.wayback.Standing.{lines-stand}
+use Rattle.crx_filter.proofs.Vocabulary
+use Vocabulary.{common_steps, ℕ, ◌≡◌, false, List, [], ◌∷◌, Option, refl, arith}
+use Vocabulary.{Epoch, FileUnit, HeaderLine, EventLine}
+use Vocabulary.{EventRecord, Observation, Marked, compact_epoch}
+use Vocabulary.{LinesCanStand, Item, Accepted, types_in_force, is_interrupted, is_in_full}
+use Vocabulary.{marked_epochs, AreInPlace}
+use Rattle.crx_compact.proofs.wayback.LinesInFiles.{lines-stand}
 use Rattle.crx_compact.specs.Laws.{AreWhole}
 use Rattle.crx_compact.specs.meaning.Compaction.{since_full}
 

@@ -1,25 +1,25 @@
 -- The accepted units, printed and read again; the normal form of a file, and a file in order.
 use Rattle.crx_filter.proofs
-use proofs.Words.{ℕ, ◌≡◌, ◌+◌, ◌*◌, ◌≤◌, true, false, List, [], ◌∷◌, ◌++◌, map, length, Option, None, refl}
-use proofs.Words.{ap, ◌∙◌, arith, append-nil, AllByRecursion, is_some, length-map}
-use proofs.Words.{and_parts, ReadLine, Content, clock_text, without_end_blanks, TYPES_LIMIT}
-use proofs.Words.{Epoch, Count, is_event_line, records_in, IsWholeEpoch, epoch_place, Done}
-use proofs.Words.{printed_row, printed_epoch, printed_cells, lines_text, FileUnit, HeaderLine, EventLine}
-use proofs.Words.{EventRecord, Observation, printed_unit, Item, Accepted, Warned, types_in_force}
-use proofs.Words.{WholeReading, warnings_in, rinex_place, whole_rinex, rinex_reading, printed_items, whole_of}
-use proofs.Words.{normal_form, IsStandard, AreInPlace, OfCopiedLines, HaveNoReturns, HasNormalForm, sym}
+use proofs.Vocabulary.{ℕ, ◌≡◌, ◌+◌, ◌*◌, ◌≤◌, true, false, List, [], ◌∷◌, ◌++◌, map, length, Option, None, refl}
+use proofs.Vocabulary.{ap, ◌∙◌, arith, append-nil, AllByRecursion, is_some, length-map}
+use proofs.Vocabulary.{and_parts, ReadLine, Content, clock_text, without_end_blanks, TYPES_LIMIT}
+use proofs.Vocabulary.{Epoch, Count, is_event_line, records_in, IsWholeEpoch, epoch_place, Done}
+use proofs.Vocabulary.{printed_row, printed_epoch, printed_cells, lines_text, FileUnit, HeaderLine, EventLine}
+use proofs.Vocabulary.{EventRecord, Observation, printed_unit, Item, Accepted, Warned, types_in_force}
+use proofs.Vocabulary.{WholeReading, warnings_in, rinex_place, whole_rinex, rinex_reading, printed_items, whole_of}
+use proofs.Vocabulary.{normal_form, IsStandard, AreInPlace, OfCopiedLines, HaveNoReturns, HasNormalForm, sym}
 use Rattle.{crx_header.specs.meaning.EpochColumns.satellites_of, crx_rinex.proofs.ReadingBack.epoch-back}
 use Rattle.{crx_rinex.proofs.ReadingBack.{length-row, length-head}, crx_text.proofs.EndBlanks.few_kept}
-use proofs.{following.Following.body-place, reading.{Forward.rinex-forward}}
-use proofs.reading.{Forward.rinex_beginning, KeptThroughout.within-kept, WhatWasRead.of-ended}
-use proofs.wayback.Carried.{units_in, units-like, units-placed, header-here, record-here, AllRead, unit-more}
-use proofs.reading.{Each.all-from, Ending.closes-well}
-use proofs.Words.{Bool, IsInPlace, ended_reading, common_steps}
+use proofs.{following.Agreement.body-place, reading.{Forward.rinex-forward}}
+use proofs.reading.{Forward.rinex_beginning, StepInvariants.within-kept, AcceptedUnits.of-ended}
+use proofs.wayback.UnitsReadAgain.{units_in, units-like, units-placed, header-here, record-here, AllRead, unit-more}
+use proofs.reading.{ListsOfUnits.all-from, EndAtStops.closes-well}
+use proofs.Vocabulary.{Bool, IsInPlace, ended_reading, common_steps}
 use Rattle.crx_filter.specs.meaning.UnitsAndText.{as_items}
-use proofs.wayback.Converse.{rows-all, lines-plain, epoch-printable, all-plain, contents-plain}
-use proofs.wayback.{Cut.{IsClean, CanStand, front-cut}, WayBack.{IsSettled, whole-settled, written-all}}
+use proofs.wayback.RestoredIsStandard.{rows-all, lines-plain, epoch-printable, all-plain, contents-plain}
+use proofs.wayback.{LinesCutAgain.{IsClean, CanStand, front-cut}, WayBack.{IsSettled, whole-settled, written-all}}
 use proofs.wayback.WayBack.{copied-clean, epoch-clean}
-use proofs.Words.{OfCopiedLine}
+use proofs.Vocabulary.{OfCopiedLine}
 
 -- ---- the printed lines of some units, read again
 

@@ -1,14 +1,14 @@
 -- The lines that a compaction wrote, read one unit after another; and properties of the copied lines among an input's
 -- lines.
-use Rattle.crx_filter.proofs.Words
-use Words.{[], ◌∷◌, ℕ, ◌≡◌, ◌≤◌, Bool, List, Option, AllByRecursion, ReadLine}
-use Words.{Epoch, Item, HeaderLine}
-use Words.{EventLine, EventRecord, Observation, Accepted, Warned}
-use Words.{arith, common_steps}
-use Words.{None, whole_rinex, written_lines, Place, FileUnit, WholeReading, rinex_place}
-use Rattle.crx_filter.proofs.{Words.OfCopiedLines, reading.{Each.all-parts}}
-use Rattle.crx_filter.proofs.accounts.{Copies.{CopiesLines, rinex-copies}, Told.file-told}
-use Rattle.crx_filter.proofs.wayback.{Cut.OfContent, Items.body_unit}
+use Rattle.crx_filter.proofs.Vocabulary
+use Vocabulary.{[], ◌∷◌, ℕ, ◌≡◌, ◌≤◌, Bool, List, Option, AllByRecursion, ReadLine}
+use Vocabulary.{Epoch, Item, HeaderLine}
+use Vocabulary.{EventLine, EventRecord, Observation, Accepted, Warned}
+use Vocabulary.{arith, common_steps}
+use Vocabulary.{None, whole_rinex, written_lines, Place, FileUnit, WholeReading, rinex_place}
+use Rattle.crx_filter.proofs.{Vocabulary.OfCopiedLines, reading.{ListsOfUnits.all-parts}}
+use Rattle.crx_filter.proofs.accounts.{CopiedUnits.{CopiesLines, rinex-copies}, OwnedLines.file-told}
+use Rattle.crx_filter.proofs.wayback.{LinesCutAgain.OfContent, Items.body_unit}
 use Rattle.crx_filter.proofs.wayback.{Returns.{returns_in, returns_read, read-append}}
 use Rattle.crx_filter.specs.meaning.Fate.{OwnInOrder}
 

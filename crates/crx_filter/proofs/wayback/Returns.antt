@@ -1,12 +1,12 @@
 -- The bytes 13 of a file on the way to compact text and back: their number never rises, and it falls if a copied line
 -- ends in CR. So a restored file has no such line.
-use Rattle.crx_filter.proofs.Words
-use Words.{ℕ, ◌≡◌, ◌+◌, ◌<◌, ◌≤◌, true, cond, List, [], ◌∷◌, ◌++◌, map, take, drop, refl, arith}
-use Words.{◌==◌, AllByRecursion, list_all, and_parts, Piece, pieces_of, ends_with_return}
-use Words.{without_return, line_of, lines_of, is_long, HasNoFeed, ReadLine, Content, Overlong, as_read}
-use Words.{is_printable, lines_text, by_bool}
-use Rattle.crx_filter.proofs.wayback.{Cut.first-cut, First.printable-other}
-use Words.{common_steps}
+use Rattle.crx_filter.proofs.Vocabulary
+use Vocabulary.{ℕ, ◌≡◌, ◌+◌, ◌<◌, ◌≤◌, true, cond, List, [], ◌∷◌, ◌++◌, map, take, drop, refl, arith}
+use Vocabulary.{◌==◌, AllByRecursion, list_all, and_parts, Piece, pieces_of, ends_with_return}
+use Vocabulary.{without_return, line_of, lines_of, is_long, HasNoFeed, ReadLine, Content, Overlong, as_read}
+use Vocabulary.{is_printable, lines_text, by_bool}
+use Rattle.crx_filter.proofs.wayback.{LinesCutAgain.first-cut, FirstTwoLines.printable-other}
+use Vocabulary.{common_steps}
 use Rattle.std.proofs.lemmas.List.{take-append-drop}
 
 -- the sum of `f` over a list

@@ -1,24 +1,24 @@
 -- A file is restored byte for byte only if no copied line ends in CR; otherwise it has fewer bytes 13 then. So it is
 -- standard.
 use Rattle.crx_filter.proofs
-use proofs.Words.{ℕ, ◌≡◌, ◌+◌, ◌<◌, ◌≤◌, Bool, true, List, [], ◌∷◌, map, drop, refl}
-use proofs.Words.{arith, ◌⊎◌, inl}
-use proofs.Words.{lines_of, ReadLine, as_read, Epoch, printed_epoch, lines_text}
-use proofs.Words.{Observation, ReadEpoch, LinesCanStand, IsGood}
-use proofs.Words.{Choices, is_date, Item, Accepted, Warned, types_in_force, WholeReading}
-use proofs.Words.{compact_lines, version_line, program_line, compact_place}
-use proofs.Words.{first_lines, whole_compact, expanded_lines, AreInPlace}
-use proofs.Words.{HaveNoReturns, compact_unit, false, reading_from, whole_of, ap, rinex_place}
-use proofs.reading.{Each.{all-from}, ForwardCompact.compact-forward, Resuming.by_place}
-use proofs.reading.WhatWasRead.{compact-whole_read, of-ended}
-use proofs.{anywriter.ComesBack.standard-where_kept, wayback.{Converse.epoch-printable, Items.epoch-stands}}
+use proofs.Vocabulary.{ℕ, ◌≡◌, ◌+◌, ◌<◌, ◌≤◌, Bool, true, List, [], ◌∷◌, map, drop, refl}
+use proofs.Vocabulary.{arith, ◌⊎◌, inl}
+use proofs.Vocabulary.{lines_of, ReadLine, as_read, Epoch, printed_epoch, lines_text}
+use proofs.Vocabulary.{Observation, ReadEpoch, LinesCanStand, IsGood}
+use proofs.Vocabulary.{Choices, is_date, Item, Accepted, Warned, types_in_force, WholeReading}
+use proofs.Vocabulary.{compact_lines, version_line, program_line, compact_place}
+use proofs.Vocabulary.{first_lines, whole_compact, expanded_lines, AreInPlace}
+use proofs.Vocabulary.{HaveNoReturns, compact_unit, false, reading_from, whole_of, ap, rinex_place}
+use proofs.reading.{ListsOfUnits.{all-from}, ForwardCompact.compact-forward, Resuming.by_place}
+use proofs.reading.AcceptedUnits.{compact-whole_read, of-ended}
+use proofs.{anywriter.RestoredFiles.standard-where_kept, wayback.{RestoredIsStandard.epoch-printable, Items.epoch-stands}}
 use proofs.wayback.{Standard.same-reading, ExpandedWhole.{AreGoodEpochs, epochs-good}}
-use proofs.wayback.{WayBack.{IsSettled, whole-settled, lines-same, lines-hold}, Cut.{CanStand}}
+use proofs.wayback.{WayBack.{IsSettled, whole-settled, lines-same, lines-hold}, LinesCutAgain.{CanStand}}
 use proofs.wayback.Returns.{returns, returns-kept, returns-fewer, returns_in, read-append, total-append}
 use proofs.wayback.Returns.{in-printable, returns_read, returns_left, left-kept, read-written, in-text}
-use proofs.wayback.{Carried.started, Returns.{read-input, read-cut}, Reading.{copied, own-counted}}
-use proofs.accounts.{Fates.told, Told.file-told, Copies.{rinex-copies, compact-copies}}
-use proofs.wayback.First.{program-printable, program-clean, version-clean}
+use proofs.wayback.{UnitsReadAgain.started, Returns.{read-input, read-cut}, Reading.{copied, own-counted}}
+use proofs.accounts.{LineFates.told, OwnedLines.file-told, CopiedUnits.{rinex-copies, compact-copies}}
+use proofs.wayback.FirstTwoLines.{program-printable, program-clean, version-clean}
 use Rattle.{crx_filter.specs.WayBack.IsStandardWhereSame}
 use Rattle.{crx_header.specs.meaning.CompactHeader.lines_before_header}
 

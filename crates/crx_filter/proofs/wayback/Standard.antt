@@ -1,13 +1,13 @@
 -- A standard file is restored byte for byte: nothing of it is skipped, no line of it ends in CR, and its lines are as
 -- RINEX prints them.
-use Rattle.crx_filter.proofs.Words
-use Words.{common_steps, arith, ℕ, zero, suc, ◌≡◌, ◌+◌, Bool, true, false, List, []}
-use Words.{◌∷◌, map, length, Option, Some, None, refl, ap, ◌∙◌, AllByRecursion, list_all}
-use Words.{eqb_tells, and_parts, Piece, InputLine, pieces_of, ends_with_return, line_of, lines_of}
-use Words.{ReadLine, as_read, Fault, At, Place, FileUnit, Item, WholeReading}
-use Words.{after_fault, reading_within, ended_with, ended_reading, lines_text, rinex_place}
-use Words.{whole_rinex, not-true, by_bool}
-use Rattle.crx_filter.proofs.{wayback.Cut.{OfContent, return-kept}}
+use Rattle.crx_filter.proofs.Vocabulary
+use Vocabulary.{common_steps, arith, ℕ, zero, suc, ◌≡◌, ◌+◌, Bool, true, false, List, []}
+use Vocabulary.{◌∷◌, map, length, Option, Some, None, refl, ap, ◌∙◌, AllByRecursion, list_all}
+use Vocabulary.{eqb_tells, and_parts, Piece, InputLine, pieces_of, ends_with_return, line_of, lines_of}
+use Vocabulary.{ReadLine, as_read, Fault, At, Place, FileUnit, Item, WholeReading}
+use Vocabulary.{after_fault, reading_within, ended_with, ended_reading, lines_text, rinex_place}
+use Vocabulary.{whole_rinex, not-true, by_bool}
+use Rattle.crx_filter.proofs.{wayback.LinesCutAgain.{OfContent, return-kept}}
 use Rattle.crx_lines.proofs.PieceLemmas.{EachEnded}
 
 -- ---- without a fault nothing is skipped

@@ -1,15 +1,15 @@
 -- The two texts of units that make a file; and each standard file is such a text.
-use Rattle.crx_filter.proofs.Words
-use Words.{common_steps, arith, ℕ, ◌≡◌, List, [], ◌∷◌, None, refl, ap, lines_of}
-use Words.{as_read, Epoch, FileUnit, Choices, compacted}
-use Words.{WholeReading, whole_of, IsStandard, OfCopiedLines, HaveNoReturns}
-use Words.{written_well, warnings_in, AreInPlace}
+use Rattle.crx_filter.proofs.Vocabulary
+use Vocabulary.{common_steps, arith, ℕ, ◌≡◌, List, [], ◌∷◌, None, refl, ap, lines_of}
+use Vocabulary.{as_read, Epoch, FileUnit, Choices, compacted}
+use Vocabulary.{WholeReading, whole_of, IsStandard, OfCopiedLines, HaveNoReturns}
+use Vocabulary.{written_well, warnings_in, AreInPlace}
 use Rattle.crx_filter.proofs.wayback.NormalForm.{printed-again, accepted-all, whole-none, settled-standard}
-pub use Rattle.crx_filter.proofs.wayback.Carried.{units_in}
+pub use Rattle.crx_filter.proofs.wayback.UnitsReadAgain.{units_in}
 use Rattle.crx_filter.proofs.wayback.Reading.{whole-copied}
 use Rattle.crx_filter.proofs.wayback.Standard.{plain-no_return, plain-text, NoReturn}
 use Rattle.crx_filter.proofs.wayback.{Canonical.compacted-by, WayBack.{IsSettled, whole-settled}}
-use Rattle.crx_filter.{proofs.wayback.Cut.CanStand, specs.meaning.UnitsAndText.{CanBeCopied, as_items}}
+use Rattle.crx_filter.{proofs.wayback.LinesCutAgain.CanStand, specs.meaning.UnitsAndText.{CanBeCopied, as_items}}
 use Rattle.crx_filter.specs.meaning.UnitsAndText.{AreInOrder, MakeAFile, rinex_text, compact_text}
 use Rattle.crx_filter.specs.meaning.UnitsAndText.{IsStandardByUnits}
 

@@ -1,22 +1,22 @@
 -- A compacted file is restored.
 use Rattle.crx_filter.proofs
-use proofs.Words.{common_steps, ℕ, ◌≡◌, ◌+◌, ◌*◌, ◌≤◌, Bool, true, false, List, [], ◌∷◌, map, length}
-use proofs.Words.{Option, Some, None, refl, arith, AllByRecursion, list_all, lines_of}
-use proofs.Words.{ReadLine, as_read, is_printable, Fault, TYPES_LIMIT, Epoch}
-use proofs.Words.{FileUnit, HeaderLine, Observation, compact_epoch, Choices}
-use proofs.Words.{Item, Accepted, Warned, is_at_start, header_has_ended, records_left, types_in_force}
-use proofs.Words.{WholeReading, Stop, AtFault, AtLines, Looking, is_skipped, fault_at_end}
-use proofs.Words.{ended_with, ended_reading, written_lines, rinex_place}
-use proofs.Words.{marked_epochs, whole_rinex, version_line, program_line, compact_lines}
-use proofs.Words.{whole_reading, reading_from, IsReadForward}
-use proofs.Words.{AreInPlace}
-use proofs.Words.{OfCopiedLine, OfCopiedLines, HaveNoReturns, Place, by_bool}
-use Rattle.crx_compact.proofs.wayback.Standing.{lines-short}
-use proofs.{following.Lines.IsStopped, reading.{Each.{all-append, all-from}, Forward.rinex-forward}}
+use proofs.Vocabulary.{common_steps, ℕ, ◌≡◌, ◌+◌, ◌*◌, ◌≤◌, Bool, true, false, List, [], ◌∷◌, map, length}
+use proofs.Vocabulary.{Option, Some, None, refl, arith, AllByRecursion, list_all, lines_of}
+use proofs.Vocabulary.{ReadLine, as_read, is_printable, Fault, TYPES_LIMIT, Epoch}
+use proofs.Vocabulary.{FileUnit, HeaderLine, Observation, compact_epoch, Choices}
+use proofs.Vocabulary.{Item, Accepted, Warned, is_at_start, header_has_ended, records_left, types_in_force}
+use proofs.Vocabulary.{WholeReading, Stop, AtFault, AtLines, Looking, is_skipped, fault_at_end}
+use proofs.Vocabulary.{ended_with, ended_reading, written_lines, rinex_place}
+use proofs.Vocabulary.{marked_epochs, whole_rinex, version_line, program_line, compact_lines}
+use proofs.Vocabulary.{whole_reading, reading_from, IsReadForward}
+use proofs.Vocabulary.{AreInPlace}
+use proofs.Vocabulary.{OfCopiedLine, OfCopiedLines, HaveNoReturns, Place, by_bool}
+use Rattle.crx_compact.proofs.wayback.LinesInFiles.{lines-short}
+use proofs.{following.LinesAtStops.IsStopped, reading.{ListsOfUnits.{all-append, all-from}, Forward.rinex-forward}}
 use proofs.reading.{InPlace.items-in_place, Stopping.reading-stopped}
-use proofs.{reading.WhatWasRead.{allowed, whole-read}, wayback.Carried.started}
-use proofs.wayback.Cut.{IsClean, CanStand, input-stands}
-use proofs.wayback.First.{printable-no_feed, printable-no_return}
+use proofs.{reading.AcceptedUnits.{allowed, whole-read}, wayback.UnitsReadAgain.started}
+use proofs.wayback.LinesCutAgain.{IsClean, CanStand, input-stands}
+use proofs.wayback.FirstTwoLines.{printable-no_feed, printable-no_return}
 use proofs.wayback.Items.{marked_now, body_unit, whole-next, epoch-stands}
 use proofs.wayback.Reading.{lines_back, whole-copied}
 

@@ -1,29 +1,29 @@
 -- The lines of some units, read after other units that leave the same types.
-use Rattle.crx_filter.proofs.Words.{append-nil, ℕ, ◌≡◌, ◌+◌, true, List, [], ◌∷◌, ◌++◌, map, length, None}
-use Rattle.crx_filter.proofs.Words.{refl, ap}
-use Rattle.crx_filter.proofs.Words.{sym, ◌∙◌, subst, map-append, lines_of, lines_text, ReadLine}
-use Rattle.crx_filter.proofs.Words.{Content, as_read, Epoch, FileUnit, ReadEpoch}
-use Rattle.crx_filter.proofs.Words.{Choices, is_date, Item, Accepted, Warned}
-use Rattle.crx_filter.proofs.Words.{AtLines, reading_from, ended_reading, compact_lines, compact_place}
-use Rattle.crx_filter.proofs.Words.{expanded_unit, whole_compact, expanded}
-use Rattle.crx_filter.proofs.Words.{printed_items, written_well, result_of}
-use Rattle.crx_filter.proofs.Words.{continued_reading, raws_kept, records_left}
+use Rattle.crx_filter.proofs.Vocabulary.{append-nil, ℕ, ◌≡◌, ◌+◌, true, List, [], ◌∷◌, ◌++◌, map, length, None}
+use Rattle.crx_filter.proofs.Vocabulary.{refl, ap}
+use Rattle.crx_filter.proofs.Vocabulary.{sym, ◌∙◌, subst, map-append, lines_of, lines_text, ReadLine}
+use Rattle.crx_filter.proofs.Vocabulary.{Content, as_read, Epoch, FileUnit, ReadEpoch}
+use Rattle.crx_filter.proofs.Vocabulary.{Choices, is_date, Item, Accepted, Warned}
+use Rattle.crx_filter.proofs.Vocabulary.{AtLines, reading_from, ended_reading, compact_lines, compact_place}
+use Rattle.crx_filter.proofs.Vocabulary.{expanded_unit, whole_compact, expanded}
+use Rattle.crx_filter.proofs.Vocabulary.{printed_items, written_well, result_of}
+use Rattle.crx_filter.proofs.Vocabulary.{continued_reading, raws_kept, records_left}
 use Rattle.crx_filter.specs.meaning.{UnitsAndText.{as_items, rinex_text}, WrittenStandard.rinex_items}
 use Rattle.crx_filter.specs.OwnStretches.{read_of_file}
 use Rattle.crx_filter.proofs.anywriter.AnyText.{AreRead, AreReadOn, all-read, read-on}
 use Rattle.crx_filter.proofs.anywriter.AnyText.{in-place, none-left, units-well, whole-read}
-use Rattle.crx_filter.proofs.anywriter.OwnText.{own-on, printed-append, state_on, units-append, units-printed}
+use Rattle.crx_filter.proofs.anywriter.TextCompactedHere.{own-on, printed-append, state_on, units-append, units-printed}
 use Rattle.crx_filter.proofs.damage.{ItemTexts.rest-in_place, TextAfter.lines_on}
 use Rattle.crx_filter.proofs.reading.{ForwardCompact.compact-forward, Resuming.resumed}
 use Rattle.crx_filter.proofs.stretches.KeptUnits.{CanGoOnAs, like-block}
 use Rattle.crx_filter.proofs.stretches.StretchesCut.{AreGood, good-before, kept-lines, kept-clean}
-use Rattle.crx_filter.proofs.stretches.OwnStretches.{begins-own, file-good, file-settled, file-whole}
-use Rattle.crx_filter.proofs.stretches.OwnStretches.{units-before}
+use Rattle.crx_filter.proofs.stretches.StretchesCompactedHere.{begins-own, file-good, file-settled, file-whole}
+use Rattle.crx_filter.proofs.stretches.StretchesCompactedHere.{units-before}
 use Rattle.crx_filter.proofs.stretches.{StretchesRead.header-on}
 use Rattle.crx_filter.specs.meaning.CompactText.{AreUnitsInPlace}
-use Rattle.crx_filter.proofs.wayback.{Carried.{started, units-like}, Cut.front-cut, Units.units_in}
+use Rattle.crx_filter.proofs.wayback.{UnitsReadAgain.{started, units-like}, LinesCutAgain.front-cut, Units.units_in}
 use Rattle.crx_filter.proofs.wayback.{WayBack.IsSettled}
-use Rattle.crx_compact.proofs.Words.{tail_left}
+use Rattle.crx_compact.proofs.Vocabulary.{tail_left}
 use Rattle.crx_laws.specs.Blocks.{IsPieceAfter, IsOwnPieceAfter}
 
 rinex-append : (later before : List (Item ReadEpoch))

@@ -1,17 +1,17 @@
 -- The state between two lines is bounded.
 use Rattle.std.proofs.lemmas.Grind.{common_steps}
-use Rattle.crx_filter.proofs.Words.{ℕ, zero, suc, ◌≡◌, Bool, List, [], ◌∷◌, Option, Some, None, ap, sym, ◌∙◌}
-use Rattle.crx_filter.proofs.Words.{subst, arith, All, AllByRecursion, All-head, All-tail, ReadLine, Row}
-use Rattle.crx_filter.proofs.Words.{Epoch, Count, Done, IsSoundRow, HeaderLine, EventLine, EventRecord}
-use Rattle.crx_filter.proofs.Words.{Observation, OpenEpoch, ReadEpoch, epoch_at, RawEpoch, Tail, OpenRawEpoch}
-use Rattle.crx_filter.proofs.Words.{first_step, open_raw_with, Choices, Item, Accepted, Warned}
-use Rattle.crx_filter.proofs.Words.{records_count_types, types_in_force}
-use Rattle.crx_filter.proofs.Words.{Reading, Stop, AtLines, Phase, InEpoch, Ended, kept_in, phase_in_body}
-use Rattle.crx_filter.proofs.Words.{phase_after_items, phase_of, marked_epochs, rinex_place, rinex_reading}
-use Rattle.crx_filter.proofs.Words.{Written, compaction, written_of, rinex_open, compaction_state}
-use Rattle.crx_filter.proofs.Words.{compact_place, empties_state, raws_kept, first_lines, compact_reading}
-use Rattle.crx_filter.proofs.Words.{expansion, tail_of_items, compact_open, expansion_state}
-use Rattle.crx_filter.proofs.Words.{ItemsAreRead, AreInPlace}
+use Rattle.crx_filter.proofs.Vocabulary.{ℕ, zero, suc, ◌≡◌, Bool, List, [], ◌∷◌, Option, Some, None, ap, sym, ◌∙◌}
+use Rattle.crx_filter.proofs.Vocabulary.{subst, arith, All, AllByRecursion, All-head, All-tail, ReadLine, Row}
+use Rattle.crx_filter.proofs.Vocabulary.{Epoch, Count, Done, IsSoundRow, HeaderLine, EventLine, EventRecord}
+use Rattle.crx_filter.proofs.Vocabulary.{Observation, OpenEpoch, ReadEpoch, epoch_at, RawEpoch, Tail, OpenRawEpoch}
+use Rattle.crx_filter.proofs.Vocabulary.{first_step, open_raw_with, Choices, Item, Accepted, Warned}
+use Rattle.crx_filter.proofs.Vocabulary.{records_count_types, types_in_force}
+use Rattle.crx_filter.proofs.Vocabulary.{Reading, Stop, AtLines, Phase, InEpoch, Ended, kept_in, phase_in_body}
+use Rattle.crx_filter.proofs.Vocabulary.{phase_after_items, phase_of, marked_epochs, rinex_place, rinex_reading}
+use Rattle.crx_filter.proofs.Vocabulary.{Written, compaction, written_of, rinex_open, compaction_state}
+use Rattle.crx_filter.proofs.Vocabulary.{compact_place, empties_state, raws_kept, first_lines, compact_reading}
+use Rattle.crx_filter.proofs.Vocabulary.{expansion, tail_of_items, compact_open, expansion_state}
+use Rattle.crx_filter.proofs.Vocabulary.{ItemsAreRead, AreInPlace}
 use Rattle.std.proofs.Common.{IfSome}
 use Rattle.crx_base.specs.declared.limits.TheConstants.{ORDER_LIMIT, WRITTEN_ORDER}
 use Rattle.crx_header.specs.ObservationTypes.{AreCounts}
@@ -28,11 +28,11 @@ use Rattle.crx_compact.proofs.Characters.{length-is}
 use Rattle.crx_filter.specs.ExpansionByLine.{phase_from_first_lines}
 use Rattle.crx_laws.specs.Bounds.{IsBoundedRow, IsBoundedEpoch, OfOpen, IsBoundedCompaction}
 use Rattle.crx_laws.specs.Bounds.{IsBoundedExpansion}
-use Rattle.crx_filter.proofs.Choosing.{by_bool}
+use Rattle.crx_filter.proofs.CasesOfTests.{by_bool}
 use Rattle.crx_filter.proofs.wayback.ExpandedWhole.{compact-stands}
 use Rattle.crx_filter.proofs.reading.Types.{counts-in_force}
 use Rattle.crx_filter.proofs.wayback.Items.{marked_now, whole-next}
-use Rattle.crx_filter.proofs.reading.WhatWasRead.{items-read, compact-items-read}
+use Rattle.crx_filter.proofs.reading.AcceptedUnits.{items-read, compact-items-read}
 use Rattle.crx_filter.proofs.reading.InPlace.{items-in_place}
 use Rattle.crx_filter.proofs.reading.Resuming.{by_place}
 

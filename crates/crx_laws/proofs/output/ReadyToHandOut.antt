@@ -1,23 +1,23 @@
 -- The lines of each unit in compact text can be borrowed.
-use Rattle.crx_filter.proofs.Words.{ℕ, ◌≡◌, ◌≤◌, Bool, true, false, List, [], ◌∷◌, ◌++◌, map, length, arith}
-use Rattle.crx_filter.proofs.Words.{AllByRecursion, length-map, ReadLine, Content, Overlong, LINE_LIMIT, Row}
-use Rattle.crx_filter.proofs.Words.{Epoch, FileUnit, HeaderLine, EventLine, EventRecord, Observation, Marked}
-use Rattle.crx_filter.proofs.Words.{Choices, is_date, Item, Accepted, Warned, is_at_start, types_in_force}
-use Rattle.crx_filter.proofs.Words.{marked_epochs, compact_unit, rinex_place, rinex_reading, AreInPlace}
-use Rattle.crx_filter.proofs.Words.{OfCopiedLine, OfCopiedLines}
+use Rattle.crx_filter.proofs.Vocabulary.{ℕ, ◌≡◌, ◌≤◌, Bool, true, false, List, [], ◌∷◌, ◌++◌, map, length, arith}
+use Rattle.crx_filter.proofs.Vocabulary.{AllByRecursion, length-map, ReadLine, Content, Overlong, LINE_LIMIT, Row}
+use Rattle.crx_filter.proofs.Vocabulary.{Epoch, FileUnit, HeaderLine, EventLine, EventRecord, Observation, Marked}
+use Rattle.crx_filter.proofs.Vocabulary.{Choices, is_date, Item, Accepted, Warned, is_at_start, types_in_force}
+use Rattle.crx_filter.proofs.Vocabulary.{marked_epochs, compact_unit, rinex_place, rinex_reading, AreInPlace}
+use Rattle.crx_filter.proofs.Vocabulary.{OfCopiedLine, OfCopiedLines}
 use Rattle.crx_compact.specs.meaning.Compaction.{run_of, satellite_line}
-use Rattle.crx_compact.proofs.wayback.Standing.{lines-short}
+use Rattle.crx_compact.proofs.wayback.LinesInFiles.{lines-short}
 use Rattle.crx_header.specs.meaning.CompactHeader.{lines_before_header}
 use Rattle.crx_laws.specs.Bounds.{AreReadyToHandOut, OfUnits, longest_of, IsNotTooLong}
 use Rattle.crx_laws.specs.Bounds.{CompactIsReadyToHandOut}
 use Rattle.crx_filter.proofs.reading.InPlace.{items-in_place}
-use Rattle.crx_filter.proofs.reading.WhatWasRead.{items-read}
-use Rattle.crx_filter.proofs.wayback.Cut.{IsClean, OfContent}
-use Rattle.crx_filter.proofs.wayback.First.{program-clean, version-clean}
+use Rattle.crx_filter.proofs.reading.AcceptedUnits.{items-read}
+use Rattle.crx_filter.proofs.wayback.LinesCutAgain.{IsClean, OfContent}
+use Rattle.crx_filter.proofs.wayback.FirstTwoLines.{program-clean, version-clean}
 use Rattle.crx_filter.proofs.wayback.Items.{marked_now, whole-next}
 use Rattle.crx_filter.proofs.wayback.Reading.{of-copied, of-own}
-use Rattle.crx_filter.proofs.accounts.{Copies.rinex-copies, Fates.told}
-use Rattle.crx_filter.proofs.reading.{Each.all-parts, Forward.rinex-forward}
+use Rattle.crx_filter.proofs.accounts.{CopiedUnits.rinex-copies, LineFates.told}
+use Rattle.crx_filter.proofs.reading.{ListsOfUnits.all-parts, Forward.rinex-forward}
 
 abbrev pub IsShort : List ℕ → Type 0
 IsShort line = length line ≤ LINE_LIMIT

@@ -1,9 +1,9 @@
 -- Compact lines that are borrowed one after another, and their result.
-use Rattle.crx_filter.proofs.Words.{◌≡◌, refl, ℕ, suc, ◌+◌, ◌*◌, ◌≤◌, Bool, true, false, List, [], ◌∷◌, drop}
-use Rattle.crx_filter.proofs.Words.{map, length, Option, Some, None, Result, Ok, Err, is_some, sym, ◌∙◌, ap}
-use Rattle.crx_filter.proofs.Words.{arith, inl, inr, ◌⊎◌, true≢false, Content, Fault, OutOfMemory, Epoch}
-use Rattle.crx_filter.proofs.Words.{Count, Place, Done, NeedsMore, Marked, compact_epoch, Tail, OpenRawEpoch}
-use Rattle.crx_filter.proofs.Words.{RawStep, first_step, TYPES_LIMIT, is_event_line, AllByRecursion}
+use Rattle.crx_filter.proofs.Vocabulary.{◌≡◌, refl, ℕ, suc, ◌+◌, ◌*◌, ◌≤◌, Bool, true, false, List, [], ◌∷◌, drop}
+use Rattle.crx_filter.proofs.Vocabulary.{map, length, Option, Some, None, Result, Ok, Err, is_some, sym, ◌∙◌, ap}
+use Rattle.crx_filter.proofs.Vocabulary.{arith, inl, inr, ◌⊎◌, true≢false, Content, Fault, OutOfMemory, Epoch}
+use Rattle.crx_filter.proofs.Vocabulary.{Count, Place, Done, NeedsMore, Marked, compact_epoch, Tail, OpenRawEpoch}
+use Rattle.crx_filter.proofs.Vocabulary.{RawStep, first_step, TYPES_LIMIT, is_event_line, AllByRecursion}
 use Rattle.std.specs.Prelude.{slice_get, IfOk, IfErr}
 use Rattle.crx_compact.specs.meaning.Compaction.{since_full}
 use Rattle.crx_compact.specs.Laws.{AreWhole}
@@ -11,8 +11,8 @@ use Rattle.crx_laws.specs.BorrowedLines.{AreReadable, HasGiven, IsFaultAt}
 use Rattle.crx_compact.specs.Tails.{tail_of, tail_or_nothing}
 use Rattle.crx_compact.specs.OpenEpochs.{ColumnsState, Faulty, Going, HasMade, HeldEpoch, Idle, Reading}
 use Rattle.crx_compact.specs.OpenEpochs.{Whole, is_idle, place_by_steps, place_of_steps, step_in}
-use Rattle.crx_compact.proofs.anywriter.OwnReading.{steps-read_back}
-use Rattle.crx_compact.proofs.wayback.Standing.{lines-short, lines-stand}
+use Rattle.crx_compact.proofs.anywriter.OurReading.{steps-read_back}
+use Rattle.crx_compact.proofs.wayback.LinesInFiles.{lines-short, lines-stand}
 
 -- an epoch is open, and reading all lines is reading the remaining lines from it; the remaining lines may be read if
 -- all lines may

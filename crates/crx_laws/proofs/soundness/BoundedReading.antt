@@ -1,12 +1,12 @@
 -- The state after epochs that are read is within the limits.
-use Rattle.crx_filter.proofs.Words.{◌≡◌, refl, ℕ, zero, suc, ◌+◌, ◌*◌, ◌≤◌, ◌<◌, ℤ, List, [], ◌∷◌}
-use Rattle.crx_filter.proofs.Words.{length, map, take, Option, Some, None, Result, Ok, Err, ⊤}
-use Rattle.crx_filter.proofs.Words.{AllByRecursion, sym, ◌∙◌, ap, subst, arith, length-map}
-use Rattle.crx_filter.proofs.Words.{character_at, without_end_blanks, columns, code_of, ReadLine, Content}
-use Rattle.crx_filter.proofs.Words.{Overlong, Fault, BadClock, Truncated, NAME_WIDTH, TYPES_LIMIT, Place}
-use Rattle.crx_filter.proofs.Words.{Done, types_of_satellite, Count, and_then, begins_epoch, Satellite}
-use Rattle.crx_filter.proofs.Words.{cell_read, clock_line_read, satellite_line_read, satellites_of_line, Tail}
-use Rattle.crx_filter.proofs.Words.{OpenRawEpoch, RawStep, first_step, next_step, open_raw_after}
+use Rattle.crx_filter.proofs.Vocabulary.{◌≡◌, refl, ℕ, zero, suc, ◌+◌, ◌*◌, ◌≤◌, ◌<◌, ℤ, List, [], ◌∷◌}
+use Rattle.crx_filter.proofs.Vocabulary.{length, map, take, Option, Some, None, Result, Ok, Err, ⊤}
+use Rattle.crx_filter.proofs.Vocabulary.{AllByRecursion, sym, ◌∙◌, ap, subst, arith, length-map}
+use Rattle.crx_filter.proofs.Vocabulary.{character_at, without_end_blanks, columns, code_of, ReadLine, Content}
+use Rattle.crx_filter.proofs.Vocabulary.{Overlong, Fault, BadClock, Truncated, NAME_WIDTH, TYPES_LIMIT, Place}
+use Rattle.crx_filter.proofs.Vocabulary.{Done, types_of_satellite, Count, and_then, begins_epoch, Satellite}
+use Rattle.crx_filter.proofs.Vocabulary.{cell_read, clock_line_read, satellite_line_read, satellites_of_line, Tail}
+use Rattle.crx_filter.proofs.Vocabulary.{OpenRawEpoch, RawStep, first_step, next_step, open_raw_after}
 use Rattle.std.specs.Prelude.{slice_get, IfSome, slice_index_or, slice_set}
 use Rattle.std.specs.Option.{option_map}
 use Rattle.std.proofs.lemmas.List.{length-set, length-take}
@@ -37,10 +37,10 @@ use Rattle.crx_compact.specs.OpenEpochs.{whole_or_awaiting, IsBoundedOpen, IsBou
 use Rattle.crx_compact.specs.ReadingLaws.{ReadAreBounded}
 use Rattle.crx_text.proofs.EachPlace.{each_place-all, length-each_place}
 use Rattle.crx_compact.proofs.SoundTexts.{length-held}
-use Rattle.crx_compact.proofs.Words.{after_cells, cells_of}
-use Rattle.crx_compact.proofs.soundness.Goodness.{typed-parts}
+use Rattle.crx_compact.proofs.Vocabulary.{after_cells, cells_of}
+use Rattle.crx_compact.proofs.soundness.WholeEpochs.{typed-parts}
 use Rattle.crx_compact.proofs.soundness.Soundness.{AreReadCells, IsReadCell, RowFacts, line-facts, read-cell}
-use Rattle.crx_compact.proofs.Results.{if-err}
+use Rattle.crx_compact.proofs.GoodResults.{if-err}
 use Rattle.crx_compact.proofs.{EpochLines.{line-facts_of, named-few, names_of, text-few}}
 
 -- ---- orders of codes that are read

@@ -1,6 +1,6 @@
 -- The state after epochs is within the limits.
-use Rattle.crx_filter.proofs.Words.{ℕ, suc, ◌-◌, ℤ, List, [], ◌∷◌, length, map, Option, AllByRecursion, arith}
-use Rattle.crx_filter.proofs.Words.{length-map, Row, Count, Marked}
+use Rattle.crx_filter.proofs.Vocabulary.{ℕ, suc, ◌-◌, ℤ, List, [], ◌∷◌, length, map, Option, AllByRecursion, arith}
+use Rattle.crx_filter.proofs.Vocabulary.{length-map, Row, Count, Marked}
 use Rattle.std.specs.Prelude.{min, IfSome}
 use Rattle.crx_base.specs.declared.limits.TheConstants.{WRITTEN_ORDER}
 use Rattle.crx_compact.specs.meaning.Differences.{difference}
@@ -9,8 +9,8 @@ use Rattle.crx_compact.specs.ArcTails.{ArcTail, arc_tail, IsBoundedArc}
 use Rattle.crx_compact.specs.Tails.{row_tail, IsBoundedRowTail}
 use Rattle.crx_compact.specs.Laws.{WrittenAreBounded}
 use Rattle.crx_text.proofs.EachPlace.{each_place-all, length-each_place}
-use Rattle.crx_compact.proofs.wayback.Standing.{few-satellites, text-short}
-use Rattle.crx_compact.proofs.wayback.Facts.{IsTypedRow, typed-rows}
+use Rattle.crx_compact.proofs.wayback.LinesInFiles.{few-satellites, text-short}
+use Rattle.crx_compact.proofs.wayback.WritableEpochs.{IsTypedRow, typed-rows}
 use Rattle.crx_text.proofs.EndBlanks.{few_kept}
 use Rattle.crx_rinex.proofs.ReadingBack.{name-length}
 

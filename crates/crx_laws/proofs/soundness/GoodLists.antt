@@ -1,9 +1,9 @@
 -- Epochs that were read one after another are whole.
-use Rattle.crx_filter.proofs.Words.{◌≡◌, ℕ, List, [], ◌∷◌, map, drop, AllByRecursion, arith, subst, ReadLine}
-use Rattle.crx_filter.proofs.Words.{Count, Place, Done, RawEpoch, then_place, ReadEpoch, epoch_at}
+use Rattle.crx_filter.proofs.Vocabulary.{◌≡◌, ℕ, List, [], ◌∷◌, map, drop, AllByRecursion, arith, subst, ReadLine}
+use Rattle.crx_filter.proofs.Vocabulary.{Count, Place, Done, RawEpoch, then_place, ReadEpoch, epoch_at}
 use Rattle.crx_compact.specs.ReadingLaws.{epochs_at, HasPrintableMarks, AreGood, ReadsWholeLists}
 use Rattle.crx_compact.proofs.soundness.Soundness.{ends}
-use Rattle.crx_compact.proofs.soundness.Goodness.{reads-whole}
+use Rattle.crx_compact.proofs.soundness.WholeEpochs.{reads-whole}
 
 -- the marks of good epochs can be before others
 good-marks : (counts : List (List Count)) (epochs : List ReadEpoch)

@@ -22,7 +22,7 @@ fn is_so(case: &Case, texts: &Texts, left: &Left, taken: usize) -> bool {
                 line,
                 fault: Fault::WriteFailed,
             };
-            left.outcome == ended(at)
+            left.outcome == outcome_at(at)
                 && left.writer.flushes() == 0
                 && texts.is_output_after(case, line as usize, output)
         }

@@ -13,7 +13,7 @@ fn has_stopped(alloc: Global, case: &Case, left: &Left, lines: u64) -> Result<bo
         fault: Fault::ReadFailed,
     };
     let wanted = messages_until(alloc, case, lines, at)?;
-    Ok(left.outcome == ended(at) && left.messages.contents() == wanted.as_slice())
+    Ok(left.outcome == outcome_at(at) && left.messages.contents() == wanted.as_slice())
 }
 
 /// Returns whether a source that returns one byte per call and fails after `given` bytes leaves the output for

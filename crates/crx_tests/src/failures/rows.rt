@@ -56,7 +56,7 @@ fn passes(alloc: Global, row: &Row) -> Result<bool, Fail> {
     let devices = devices(&row.failing);
     let left = run(alloc, Tool::Compact, row.skip, input.as_slice(), devices)?;
     Ok(
-        left.outcome == ended(row.at)
+        left.outcome == outcome_at(row.at)
             && left.writer.contents() == output.as_slice()
             && left.messages.contents() == reported.as_slice(),
     )

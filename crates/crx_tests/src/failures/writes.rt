@@ -25,7 +25,7 @@ fn has_failed_at(alloc: Global, case: &Case, left: &Left, line: u64) -> Result<b
         fault: Fault::WriteFailed,
     };
     let wanted = messages_until(alloc, case, line, at)?;
-    Ok(left.outcome == ended(at) && left.messages.contents() == wanted.as_slice())
+    Ok(left.outcome == outcome_at(at) && left.messages.contents() == wanted.as_slice())
 }
 
 /// Returns whether just `taken` bytes were written if the writer fails after them.

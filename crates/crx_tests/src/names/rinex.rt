@@ -134,7 +134,7 @@ fn row_at(epoch: &Epoch, index: usize) -> Option<&SatRow> {
     epoch.row(index)
 }
 
-fn printed(epoch: Epoch) -> Printed {
+fn print_epoch(epoch: Epoch) -> Printed {
     Printed::new(epoch)
 }
 

@@ -132,7 +132,7 @@ fn difference(old: &Text, new: &[u8], out: &mut Text) -> Result<(), BadCharacter
     diff_text(old, new, out)
 }
 
-fn patched(old: &Text, marks: &[u8], out: &mut Text) -> Result<(), BadCharacter>
+fn patch(old: &Text, marks: &[u8], out: &mut Text) -> Result<(), BadCharacter>
     requires { length marks.now ≤ LINE_LIMIT }
 {
     patch_text(old, marks, out)

@@ -50,7 +50,7 @@ fn feed_one(
             expect_at(rt, answer == step, name, place);
             expect_at(rt, take_ready(engine) == ready, name, place);
             expect_at(rt, engine.is_drained(), name, place);
-            counted(answer, taken)
+            number_after(answer, taken)
         }
         Err(_) => {
             assert!(rt; false, "{name} {place}");

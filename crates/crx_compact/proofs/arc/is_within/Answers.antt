@@ -1,6 +1,6 @@
 use Rattle.std.proofs.{Common.{◌≤◌, ◌^◌, arith}, Math.Nat.pow-le-pow_right, lemmas.Int.ints}
 use Rattle.crx_compact.proofs.arc.is_within.Goals as goal
-use Rattle.crx_compact.proofs.Words.{rules}
+use Rattle.crx_compact.proofs.Vocabulary.{rules}
 
 pub pow-lowest-requires : goal.pow-lowest-requires
 pow-lowest-requires c =

@@ -1,4 +1,4 @@
-use Rattle.crx_compact.proofs.Words.{rules, ◌≡◌, None, slice_index_or}
+use Rattle.crx_compact.proofs.Vocabulary.{rules, ◌≡◌, None, slice_index_or}
 use Rattle.std.proofs.lemmas.List.{get_or_default}
 use Rattle.std.proofs.Common.{◌∙◌, sym}
 use Rattle.crx_compact.proofs.cells.read_cell.Goals.{After-index-arcs-index}

@@ -7,8 +7,8 @@ use mir.Val.{SFits, bool_byte}
 use Rattle.crx_text.proofs.FirstCells.{next_cell, next_within}
 use Rattle.crx_text.specs.meaning.Codes.{after_cell, first_cell}
 use Rattle.crx_text.specs.declared.code.Code.TheVariants.{Step}
-use Rattle.crx_compact.proofs.Words.{ArcTail, IfSome, None, OBSERVATION_WIDTH, Ok, Option, Some, arc_of_code}
-use Rattle.crx_compact.proofs.Words.{code_of, is_some, slice_index_or, slice_set, value_of_code, ℤ}
+use Rattle.crx_compact.proofs.Vocabulary.{ArcTail, IfSome, None, OBSERVATION_WIDTH, Ok, Option, Some, arc_of_code}
+use Rattle.crx_compact.proofs.Vocabulary.{code_of, is_some, slice_index_or, slice_set, value_of_code, ℤ}
 use Rattle.crx_compact.specs.Cells.{IsCellRead}
 use Rattle.crx_compact.proofs.cells.read_cell_fast.Goals as goal
 use Rattle.std.proofs.lemmas.Grind.{common_steps}

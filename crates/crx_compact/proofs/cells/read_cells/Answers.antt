@@ -1,7 +1,7 @@
-use Rattle.crx_compact.proofs.Words.{◌≡◌, ◌≤◌, ◌<◌, arith, common_steps, drop, length, sym, ◌∙◌, subst}
+use Rattle.crx_compact.proofs.Vocabulary.{◌≡◌, ◌≤◌, ◌<◌, arith, common_steps, drop, length, sym, ◌∙◌, subst}
 use Rattle.crx_compact.proofs.CellsRead.{ReadUpTo, read-none, read-next, next-refused, read-all}
 use Rattle.crx_compact.proofs.cells.read_cells.Goals.{After-as_mut_slice-arcs, in-Some}
-use Rattle.crx_compact.proofs.Words.{err_from_is_err_and, length-each_place, take_at}
+use Rattle.crx_compact.proofs.Vocabulary.{err_from_is_err_and, length-each_place, take_at}
 use Rattle.crx_compact.proofs.cells.read_cells.Goals.{in-None+in_ok-length-in-None}
 use Rattle.crx_compact.proofs.CellsFor.{first-cells, same-cells}
 use Rattle.crx_compact.specs.Placing.{cells_for}

@@ -1,8 +1,8 @@
-use Rattle.crx_compact.proofs.Words.{◌≡◌, ◌<◌, ◌∙◌, sym, ap, drop, take_all}
-use Rattle.crx_compact.proofs.Words.{refl, None, Step, get_or, arith, length, take}
-use Rattle.crx_compact.proofs.Words.{common_steps, take_at, take_more_set, w64}
+use Rattle.crx_compact.proofs.Vocabulary.{◌≡◌, ◌<◌, ◌∙◌, sym, ap, drop, take_all}
+use Rattle.crx_compact.proofs.Vocabulary.{refl, None, Step, get_or, arith, length, take}
+use Rattle.crx_compact.proofs.Vocabulary.{common_steps, take_at, take_more_set, w64}
 use Rattle.crx_compact.proofs.CellsFor.{blanks-put, missing-arcs, missing-codes, same-cells}
-use Rattle.crx_compact.proofs.Words.{length-take-le, ◌+◌, ◌-◌, length-each_place}
+use Rattle.crx_compact.proofs.Vocabulary.{length-take-le, ◌+◌, ◌-◌, length-each_place}
 use Rattle.crx_compact.proofs.cells.write_cells.Goals.{After-as_mut_slice-arcs, After-index-arcs-index}
 use Rattle.crx_compact.proofs.cells.write_cells.Goals.{in-Some-push_third, in-None}
 use Rattle.crx_compact.proofs.CellsWritten.{write-next}

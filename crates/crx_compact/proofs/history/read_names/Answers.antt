@@ -1,17 +1,17 @@
-use Rattle.crx_compact.proofs.Words.{rules, ◌≡◌, ap, ◌+◌, ◌-◌, ◌*◌, ◌++◌, ◌∷◌, [], Bool, not, true, false}
-use Rattle.crx_compact.proofs.Words.{sym, arith, ℕ, List, Err, map}
-use Rattle.crx_compact.proofs.Words.{columns, is_among}
-use Rattle.crx_compact.proofs.Words.{IsAwaitedSatellite, BadSatellite}
-use Rattle.crx_compact.proofs.Words.{Satellite, names_in, satellites_named}
-use Rattle.crx_compact.proofs.{Words.{padded_among, RowTail}}
+use Rattle.crx_compact.proofs.Vocabulary.{rules, ◌≡◌, ap, ◌+◌, ◌-◌, ◌*◌, ◌++◌, ◌∷◌, [], Bool, not, true, false}
+use Rattle.crx_compact.proofs.Vocabulary.{sym, arith, ℕ, List, Err, map}
+use Rattle.crx_compact.proofs.Vocabulary.{columns, is_among}
+use Rattle.crx_compact.proofs.Vocabulary.{IsAwaitedSatellite, BadSatellite}
+use Rattle.crx_compact.proofs.Vocabulary.{Satellite, names_in, satellites_named}
+use Rattle.crx_compact.proofs.{Vocabulary.{padded_among, RowTail}}
 use Rattle.crx_compact.proofs.placing.SteppedRows.{IsLastStored, come-stored, last-within}
 use Rattle.std.proofs.lemmas.List.{Elements.All-push}
 use Rattle.crx_compact.proofs.Naming.{named-bad, named-twice, named-more, named-all, next-name}
-use Rattle.crx_compact.proofs.NamesCome.{HasNameCome, among-rows, awaited-one}
-use Rattle.crx_compact.proofs.NamesCome.{name-comes}
+use Rattle.crx_compact.proofs.AddedNames.{HasNameCome, among-rows, awaited-one}
+use Rattle.crx_compact.proofs.AddedNames.{name-comes}
 use Rattle.crx_text.proofs.EachPlace.{drop_all-each_place}
 use Rattle.crx_compact.specs.Placing.{HasCome, IsPlaced}
-use Rattle.crx_compact.proofs.{Results.from_some, placing.Placed.placed-asked}
+use Rattle.crx_compact.proofs.{GoodResults.from_some, placing.AddingAnswers.placed-asked}
 use Rattle.crx_compact.proofs.history.read_names.Goals.{After-unwrap, Joined-place}
 use Rattle.crx_compact.proofs.history.read_names.Goals as goal
 use Rattle.std.proofs.lemmas.Grind.{common_steps}
@@ -50,10 +50,10 @@ returns-then-not-is_new c =
 -- the history of the satellite that was added
 stored : (c : After-unwrap) → HasCome c.identifier-name.result c.loop-index.satellites
     c.match-place.satellites
-    → IsLastStored c.identifier-name.result (c.placed-last.result - 1) c.loop-index.satellites
+    → IsLastStored c.identifier-name.result (c.placed_count-last.result - 1) c.loop-index.satellites
     c.match-place.satellites
     c.unwrap.result.now
-stored c come = come-stored _ _ _ _ _ come (ap (λ n. n - 1) c.placed-last.ensures.value)
+stored c come = come-stored _ _ _ _ _ come (ap (λ n. n - 1) c.placed_count-last.ensures.value)
     (rw (c.unwrap.ensures) at c.entry_mut.ensures.there)
 
 pub entry_mut-requires : goal.entry_mut-requires

@@ -1,6 +1,6 @@
-use Rattle.crx_compact.proofs.Words.{◌≡◌, All, List, map, IsAwaitedSatellite, Satellite}
-use Rattle.crx_compact.proofs.Words.{names_in, padded_among}
-use Rattle.crx_compact.proofs.{ComeRows.AreAwaited, Naming.NamedSoFar}
+use Rattle.crx_compact.proofs.Vocabulary.{◌≡◌, All, List, map, IsAwaitedSatellite, Satellite}
+use Rattle.crx_compact.proofs.Vocabulary.{names_in, padded_among}
+use Rattle.crx_compact.proofs.{RowsByHistory.AreAwaited, Naming.NamedSoFar}
 use Rattle.crx_compact.proofs.history.read_names.Given as goal
 
 abbrev pub invariant-loop-index : goal.invariant-loop-index

@@ -1,5 +1,5 @@
-use Rattle.crx_compact.proofs.Words.{◌≡◌, ◌∙◌, ◌-◌, ◌*◌, ◌++◌, List, ℕ, ap, arith, drop, length, min}
-use Rattle.crx_compact.proofs.Words.{replicate, take, length-take-le, take_at, columns}
+use Rattle.crx_compact.proofs.Vocabulary.{◌≡◌, ◌∙◌, ◌-◌, ◌*◌, ◌++◌, List, ℕ, ap, arith, drop, length, min}
+use Rattle.crx_compact.proofs.Vocabulary.{replicate, take, length-take-le, take_at, columns}
 use Rattle.crx_compact.proofs.{Marks.patched-kept, SoundTexts.columns-held}
 use Rattle.std.proofs.lemmas.List.{take_min}
 use Rattle.crx_text.proofs.Blanks.{columns_are}

@@ -1,7 +1,7 @@
-use Rattle.crx_compact.proofs.Words.{◌≡◌, ◌<◌, ◌≤◌, ◌+◌, ◌-◌, ◌*◌, ◌++◌, ◌∷◌}
-use Rattle.crx_compact.proofs.Words.{List, None, ℕ, sym, ◌∙◌, arith, []}
-use Rattle.crx_compact.proofs.Words.{length, length-each_place, length-map}
-use Rattle.crx_compact.proofs.Words.{map, take, get_or, shown_value, Option}
+use Rattle.crx_compact.proofs.Vocabulary.{◌≡◌, ◌<◌, ◌≤◌, ◌+◌, ◌-◌, ◌*◌, ◌++◌, ◌∷◌}
+use Rattle.crx_compact.proofs.Vocabulary.{List, None, ℕ, sym, ◌∙◌, arith, []}
+use Rattle.crx_compact.proofs.Vocabulary.{length, length-each_place, length-map}
+use Rattle.crx_compact.proofs.Vocabulary.{map, take, get_or, shown_value, Option}
 use Rattle.crx_compact.proofs.{CellsFor.{value-there}, PlaceByPlace.print-on}
 use Rattle.std.specs.Prelude.{slice_index, ℤ}
 use Rattle.std.proofs.{lemmas.Grind.get_or_default_zero}

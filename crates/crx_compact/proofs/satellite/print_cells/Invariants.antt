@@ -1,4 +1,4 @@
-use Rattle.crx_compact.proofs.Words.{◌≡◌, ◌≤◌, ◌*◌, ℕ, length, map, shown_value}
+use Rattle.crx_compact.proofs.Vocabulary.{◌≡◌, ◌≤◌, ◌*◌, ℕ, length, map, shown_value}
 use Rattle.crx_compact.specs.{Placing.cells_for, ShownRows.AreFirstPrinted}
 use Rattle.crx_compact.proofs.satellite.print_cells.Given as goal
 

@@ -1,4 +1,4 @@
-use Rattle.crx_compact.proofs.{Words.{◌≡◌, ◌+◌, ◌*◌, None, arith, ℕ, replicate, take}, PlaceByPlace.print-on}
+use Rattle.crx_compact.proofs.{Vocabulary.{◌≡◌, ◌+◌, ◌*◌, None, arith, ℕ, replicate, take}, PlaceByPlace.print-on}
 use Rattle.std.proofs.{lemmas.List.{get_or-replicate, length-replicate}, lemmas.Grind.get_or_default_zero}
 use Rattle.crx_compact.proofs.satellite.print_missing.Goals as goal
 

@@ -1,5 +1,5 @@
 use Rattle.std.proofs.Common.{rules}
-use Rattle.crx_compact.proofs.placing.Found.{found-if_some}
+use Rattle.crx_compact.proofs.placing.LookUps.{found-if_some}
 use Rattle.crx_compact.proofs.satellites.find.Goals as goal
 
 pub returns-clause-found : goal.returns-clause-found

@@ -1,9 +1,9 @@
-use Rattle.crx_compact.proofs.{Words.{err_from_is_err_and, is_ok}, Results.by_ok}
+use Rattle.crx_compact.proofs.{Vocabulary.{err_from_is_err_and, is_ok}, GoodResults.by_ok}
 use Rattle.std.proofs.Common.{rules, ap, sym, subst, arith}
 use Rattle.std.proofs.lemmas.List.{length-append}
 use Rattle.indexmap.proofs.CallerLemmas.{insert_entry-new}
 use Rattle.crx_compact.specs.{Entries.{IsFound}, Placing.SatelliteTail}
-use Rattle.crx_compact.proofs.placing.{Found.{found-added, none-there, not-found}, Orders.more-ordered}
+use Rattle.crx_compact.proofs.placing.{LookUps.{found-added, none-there, not-found}, Orders.more-ordered}
 use Rattle.crx_compact.proofs.satellites.find_or_add.Goals as goal
 use Rattle.std.proofs.lemmas.Grind.{common_steps}
 

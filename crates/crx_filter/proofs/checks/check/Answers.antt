@@ -1,7 +1,7 @@
-use Rattle.crx_filter.proofs.Words.{◌≡◌, common_steps, arith, check_filter}
-use Rattle.crx_filter.proofs.Words.{checked, Device, At, None, Some, ap}
-use Rattle.crx_filter.proofs.Words.{◌∙◌, true≢false}
-use Rattle.crx_filter.proofs.{Kept.{kept, judges-standard}, following.CheckLawful.{check-lawful, run-judged}}
+use Rattle.crx_filter.proofs.Vocabulary.{◌≡◌, common_steps, arith, check_filter}
+use Rattle.crx_filter.proofs.Vocabulary.{checked, Device, At, None, Some, ap}
+use Rattle.crx_filter.proofs.Vocabulary.{◌∙◌, true≢false}
+use Rattle.crx_filter.proofs.{PromisesOfRuns.{kept, judges-standard}, following.CheckLawful.{check-lawful, run-judged}}
 use Rattle.crx_filter.{proofs.standard.Lossless.says-so, specs.meaning.Standard.report_status}
 use Rattle.crx_runs.specs.meaning.{Runs.{Runs}, Spans.{Input, reader_span, span}}
 use Rattle.crx_filter.proofs.checks.check.Goals.{in-None-None, in-None-Some, in-Some-default}

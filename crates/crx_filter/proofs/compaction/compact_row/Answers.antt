@@ -1,6 +1,6 @@
-use Rattle.crx_filter.proofs.{Words.{common_steps, arith, inl, refl}}
-use Rattle.crx_filter.proofs.{steps.Together.{row-lost, rows-few}}
-use Rattle.crx_filter.proofs.steps.Together.{row-known, row-refused, row-written, rows-there}
+use Rattle.crx_filter.proofs.{Vocabulary.{common_steps, arith, inl, refl}}
+use Rattle.crx_filter.proofs.{steps.CompactionParts.{row-lost, rows-few}}
+use Rattle.crx_filter.proofs.steps.CompactionParts.{row-known, row-refused, row-written, rows-there}
 use Rattle.crx_filter.proofs.compaction.compact_row.Goals as goal
 
 pub encode_row-requires : goal.encode_row-requires

@@ -1,5 +1,5 @@
-use Rattle.crx_filter.proofs.Words.{◌≡◌, [], ap, OpenEpoch, RunState, Written, compaction_state, compacted}
-use Rattle.crx_filter.proofs.{Words.{compaction_filter, Device, ℕ, List, IsResult}, Kept.kept}
+use Rattle.crx_filter.proofs.Vocabulary.{◌≡◌, [], ap, OpenEpoch, RunState, Written, compaction_state, compacted}
+use Rattle.crx_filter.proofs.{Vocabulary.{compaction_filter, Device, ℕ, List, IsResult}, PromisesOfRuns.kept}
 use Rattle.crx_filter.proofs.{following.Lawful.compaction-lawful, accounts.ByResults.compaction-keeps}
 use Rattle.crx_filter.specs.{CompactionParts.CompactionState, CompactorState.compacting_state}
 use Rattle.crx_filter.specs.DirectionParts.{EngineParts}

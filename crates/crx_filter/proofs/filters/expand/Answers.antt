@@ -1,8 +1,8 @@
-use Rattle.crx_filter.proofs.Words.{◌≡◌, ℕ, List, [], Option, ap, sym, ◌∙◌, OpenRawEpoch, Tail, RunState}
-use Rattle.crx_filter.proofs.Words.{expansion_state, expanded, expansion_filter, Device, IsResult}
-use Rattle.crx_filter.proofs.{Kept.{kept, brings-back}, following.Lawful.expansion-lawful}
+use Rattle.crx_filter.proofs.Vocabulary.{◌≡◌, ℕ, List, [], Option, ap, sym, ◌∙◌, OpenRawEpoch, Tail, RunState}
+use Rattle.crx_filter.proofs.Vocabulary.{expansion_state, expanded, expansion_filter, Device, IsResult}
+use Rattle.crx_filter.proofs.{PromisesOfRuns.{kept, brings-back}, following.Lawful.expansion-lawful}
 use Rattle.crx_filter.proofs.{accounts.ByResults.{expansion-keeps, gives-back}, damage.DamageStays.all-saved}
-use Rattle.crx_filter.proofs.anywriter.{AnyText.first-units, OnlyTexts.only-text}
+use Rattle.crx_filter.proofs.anywriter.{AnyText.first-units, AcceptedTexts.only-text}
 use Rattle.crx_filter.proofs.{stretches.StretchesSaved.rest-kept, wayback.ExpandedStandard.expanded-standard}
 use Rattle.crx_filter.specs.{DirectionParts.EngineParts, ExpanderState.expanding_state}
 use Rattle.crx_filter.specs.{ExpansionParts.ExpansionState as Expansion}

@@ -1,4 +1,4 @@
-use Rattle.crx_filter.proofs.Words.{common_steps, arith}
+use Rattle.crx_filter.proofs.Vocabulary.{common_steps, arith}
 use Rattle.crx_filter.proofs.report.print_report_line.Goals as goal
 
 pub returns-in-0 : goal.returns-in-0

@@ -1,5 +1,5 @@
 use Rattle.crx_filter.proofs.{Reports.{counts-more, one-there}}
-use Rattle.crx_filter.proofs.{Words.arith}
+use Rattle.crx_filter.proofs.{Vocabulary.arith}
 use Rattle.crx_filter.proofs.report.put_systems.Goals as goal
 use Rattle.std.proofs.lemmas.Grind.{common_steps}
 

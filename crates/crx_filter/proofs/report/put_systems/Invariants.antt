@@ -1,4 +1,4 @@
-use Rattle.crx_filter.proofs.Words.{◌≡◌, ◌+◌, ◌≤◌, ◌*◌, ◌++◌, length, take, flat_map}
+use Rattle.crx_filter.proofs.Vocabulary.{◌≡◌, ◌+◌, ◌≤◌, ◌*◌, ◌++◌, length, take, flat_map}
 use Rattle.crx_filter.specs.meaning.Standard.{count_text}
 use Rattle.std.specs.Prelude.{codes}
 use Rattle.crx_filter.proofs.report.put_systems.Given as goal

@@ -1,13 +1,13 @@
-use Rattle.crx_compact.proofs.Words.{refl, [], ◌∷◌, ◌++◌, Some, inr, pos}
+use Rattle.crx_compact.proofs.Vocabulary.{refl, [], ◌∷◌, ◌++◌, Some, inr, pos}
 use Rattle.std.specs.Prelude.{codes}
 use Rattle.std.specs.Fmt.{digits}
 use Rattle.crx_text.specs.meaning.Codes.{coded_number}
 use Rattle.crx_compact.specs.meaning.AnyWriter.{Arc, IsRowLine, AreEpochLines}
 use Rattle.crx_filter.specs.meaning.CompactText.{IsCompactTextOf}
-use Rattle.crx_filter.proofs.anywriter.OwnText.{whole-file}
+use Rattle.crx_filter.proofs.anywriter.TextCompactedHere.{whole-file}
 use Rattle.crx_laws.specs.WildText.{wild_units, wild_text, body, first_line, second_line}
 use Rattle.crx_laws.specs.WildText.{lines_before, second_lines, third_lines, event, comment}
-use Rattle.crx_laws.proofs.Wild.{make-file, arc_one, row-is, row_with, epoch_with, lines-before}
+use Rattle.crx_laws.proofs.WildText.{make-file, arc_one, row-is, row_with, epoch_with, lines-before}
 use Rattle.crx_laws.proofs.any_writer.premises.Goals as goal
 
 abbrev arc_two : Arc

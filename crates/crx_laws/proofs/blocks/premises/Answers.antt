@@ -1,11 +1,11 @@
 -- by computation
-use Rattle.crx_filter.proofs.Words.{refl, rules, [], ◌∷◌, map, Some, None, Content}
-use Rattle.crx_filter.proofs.Words.{Accepted, Observation, EventLine, EventRecord}
+use Rattle.crx_filter.proofs.Vocabulary.{refl, rules, [], ◌∷◌, map, Some, None, Content}
+use Rattle.crx_filter.proofs.Vocabulary.{Accepted, Observation, EventLine, EventRecord}
 use Rattle.std.specs.Fmt.{digits}
 use Rattle.crx_text.specs.meaning.Codes.{coded_number}
-use Rattle.crx_filter.proofs.{anywriter.OwnText.whole-file, stretches.OwnStretches.units-before}
+use Rattle.crx_filter.proofs.{anywriter.TextCompactedHere.whole-file, stretches.StretchesCompactedHere.units-before}
 use Rattle.crx_filter.specs.meaning.CompactText.{AreUnitsInPlace}
-use Rattle.crx_laws.proofs.Wild.{make-file, full_arc, epoch_with, header_lines, lines-of_header, kept-lines}
+use Rattle.crx_laws.proofs.WildText.{make-file, full_arc, epoch_with, header_lines, lines-of_header, kept-lines}
 use Rattle.crx_laws.specs.SmallFiles.{epoch_at_second as epoch_of}
 use Rattle.crx_laws.specs.WildText.{comment, epoch_at_second, event, first_line}
 use Rattle.crx_laws.specs.WildText.{second_line, wild_header, wild_stretch, wild_units}

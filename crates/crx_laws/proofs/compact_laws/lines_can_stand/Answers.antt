@@ -1,4 +1,4 @@
-use Rattle.crx_compact.proofs.wayback.Standing.{lines-stand}
+use Rattle.crx_compact.proofs.wayback.LinesInFiles.{lines-stand}
 use Rattle.crx_laws.proofs.compact_laws.lines_can_stand.Goals as goal
 
 pub returns : goal.returns

@@ -1,4 +1,4 @@
-use Rattle.crx_compact.proofs.wayback.Standing.{lines-short}
+use Rattle.crx_compact.proofs.wayback.LinesInFiles.{lines-short}
 use Rattle.crx_laws.proofs.compact_laws.short_lines.Goals as goal
 
 pub returns : goal.returns

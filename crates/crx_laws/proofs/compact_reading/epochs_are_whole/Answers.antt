@@ -1,4 +1,4 @@
-use Rattle.crx_compact.proofs.soundness.Goodness.{reads-whole}
+use Rattle.crx_compact.proofs.soundness.WholeEpochs.{reads-whole}
 use Rattle.crx_laws.proofs.soundness.GoodLists.{reads-whole_lists}
 use Rattle.crx_laws.proofs.compact_reading.epochs_are_whole.Goals as goal
 

@@ -1,4 +1,4 @@
-use Rattle.crx_filter.proofs.reading.Ended.{compaction-ended}
+use Rattle.crx_filter.proofs.reading.EndOfInput.{compaction-ended}
 use Rattle.crx_laws.proofs.filter_laws.compaction_ends.Goals as goal
 
 pub returns : goal.returns

@@ -1,6 +1,6 @@
 use Rattle.std.proofs.lemmas.Grind.{common_steps}
 use Rattle.std.proofs.Common.{arith}
-use Rattle.crx_filter.proofs.Words.{ap, subst, Option, Content, Epoch}
+use Rattle.crx_filter.proofs.Vocabulary.{ap, subst, Option, Content, Epoch}
 use Rattle.std.proofs.lemmas.Result.{err_from_is_err_and}
 use Rattle.crx_compact.specs.Coded.{CodedEpoch}
 use Rattle.crx_compact.specs.OpenEpochs.{HasMade, step_in, tail_held}

@@ -1,4 +1,4 @@
-use Rattle.crx_filter.proofs.Words.{map, length, Content}
+use Rattle.crx_filter.proofs.Vocabulary.{map, length, Content}
 use Rattle.crx_laws.proofs.reading.BorrowedLines.{IsMidway}
 use Rattle.crx_compact.specs.OpenEpochs.{place_by_steps, tail_held}
 use Rattle.crx_laws.proofs.read_back.read_coded.Given as goal

@@ -1,5 +1,5 @@
 use Rattle.crx_rinex.specs.meaning.EpochPlaces.{next_row}
-use Rattle.crx_rinex.proofs.Steady.{steady-first_line}
+use Rattle.crx_rinex.proofs.SteadyPlaces.{steady-first_line}
 use Rattle.crx_rinex.proofs.OpenEpochs.{steady-rest}
 use Rattle.crx_laws.proofs.rinex_laws.steady_rows.Goals as goal
 

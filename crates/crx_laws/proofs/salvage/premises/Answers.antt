@@ -1,13 +1,13 @@
 -- by computation
-use Rattle.crx_filter.proofs.Words.{ℕ, refl, rules, List, [], ◌∷◌, ◌++◌, inr, ◌≡◌, true, list_all, Piece}
-use Rattle.crx_filter.proofs.Words.{lines_of, pieces_of, EventLine, EventRecord, Observation, Accepted}
-use Rattle.crx_filter.proofs.Words.{lines_text}
+use Rattle.crx_filter.proofs.Vocabulary.{ℕ, refl, rules, List, [], ◌∷◌, ◌++◌, inr, ◌≡◌, true, list_all, Piece}
+use Rattle.crx_filter.proofs.Vocabulary.{lines_of, pieces_of, EventLine, EventRecord, Observation, Accepted}
+use Rattle.crx_filter.proofs.Vocabulary.{lines_text}
 use Rattle.std.proofs.Common.{codes}
 use Rattle.std.specs.Fmt.{digits}
 use Rattle.crx_text.specs.meaning.Codes.{coded_number}
 use Rattle.crx_text.specs.meaning.Numbers.{size_of, number_of, number_text}
 use Rattle.crx_filter.specs.Damage.{IsOwnDamaged, may_replace}
-use Rattle.crx_laws.{proofs.Wild.stretch-met, specs.WildText.{wild_block, wild_shortened}}
+use Rattle.crx_laws.{proofs.WildText.stretch-met, specs.WildText.{wild_block, wild_shortened}}
 use Rattle.crx_laws.specs.SmallFiles.{blanks, line_at, file_of_five, with_event, plain_choices}
 use Rattle.crx_laws.specs.SmallFiles.{in_full_every_second, epoch_at_second, header_items, first_block}
 use Rattle.crx_laws.specs.SmallFiles.{damaged_by, other_block, last_damaged_by, damaged_before_event}

@@ -1,4 +1,4 @@
-use Rattle.crx_filter.proofs.damage.OwnBlock.{of-compaction}
+use Rattle.crx_filter.proofs.damage.BlockCompactedHere.{of-compaction}
 use Rattle.crx_laws.proofs.salvage.undamaged_text_is_the_compaction.Goals as goal
 
 pub returns : goal.returns

@@ -1,4 +1,4 @@
-use Rattle.crx_filter.proofs.accounts.Shortness.{short-blocks}
+use Rattle.crx_filter.proofs.accounts.ShortBlocks.{short-blocks}
 use Rattle.crx_laws.proofs.silence.blocks_are_short.Goals as goal
 
 pub returns : goal.returns

@@ -1,4 +1,4 @@
-use Rattle.crx_filter.proofs.stretches.OwnStretches.{own-rest}
+use Rattle.crx_filter.proofs.stretches.StretchesCompactedHere.{own-rest}
 use Rattle.crx_laws.proofs.stretches.damage_of_own_text.Goals as goal
 
 pub returns : goal.returns

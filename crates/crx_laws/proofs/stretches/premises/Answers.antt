@@ -1,10 +1,10 @@
 -- by computation
-use Rattle.crx_filter.proofs.Words.{refl, rules, [], ◌∷◌, ◌++◌, lines_text, Accepted, Observation}
+use Rattle.crx_filter.proofs.Vocabulary.{refl, rules, [], ◌∷◌, ◌++◌, lines_text, Accepted, Observation}
 use Rattle.std.proofs.Common.{codes}
 use Rattle.std.specs.Fmt.{digits}
 use Rattle.crx_text.specs.meaning.Codes.{coded_number}
 use Rattle.crx_filter.specs.OwnStretches.{HasOwnStretches, BeginsWithOwn}
-use Rattle.crx_laws.{proofs.Wild.stretch-met, specs.WildText.{wild_damaged, wild_stretch}}
+use Rattle.crx_laws.{proofs.WildText.stretch-met, specs.WildText.{wild_damaged, wild_stretch}}
 use Rattle.crx_laws.specs.SmallFiles.{file_of_five, with_event, plain_choices, in_full_every_second}
 use Rattle.crx_laws.specs.SmallFiles.{header_items, epoch_at_second}
 use Rattle.crx_laws.specs.SmallStretches.{first_epoch, second_block, two_stretches, event_lost, damaged_twice}

@@ -1,4 +1,4 @@
-use Rattle.crx_filter.proofs.stretches.OwnStretches.{whole-first}
+use Rattle.crx_filter.proofs.stretches.StretchesCompactedHere.{whole-first}
 use Rattle.crx_laws.proofs.stretches.whole_units_are_written.Goals as goal
 
 pub returns : goal.returns

@@ -1,5 +1,5 @@
 -- by computation
-use Rattle.crx_filter.proofs.Words.{rules, lines_text}
+use Rattle.crx_filter.proofs.Vocabulary.{rules, lines_text}
 use Rattle.{std.specs.Fmt.digits, crx_text.specs.meaning.Numbers.{size_of, number_of, number_text}}
 use Rattle.crx_filter.proofs.wayback.Units.{read-units}
 use Rattle.crx_laws.specs.SmallFiles.{with_event}

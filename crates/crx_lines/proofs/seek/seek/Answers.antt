@@ -14,11 +14,11 @@ seeking-init g c = search (rules, Seeking-start)
 -- all that is held has been searched
 module _ (g : Over) (c : After-fill g) where
   searched : Seeking (λ given. g.R.Source.gave c.args.reader.now given c.seeking.reader)
-      (kept c.args.window.now) (kept c.let_go_of_long.new.self) c.args.before c.seeking.room
-      (c.seeking.passed + c.let_go_of_long.result) (length (kept c.let_go_of_long.new.self))
+      (kept c.args.window.now) (kept c.drop_long_line.new.self) c.args.before c.seeking.room
+      (c.seeking.passed + c.drop_long_line.result) (length (kept c.drop_long_line.new.self))
   searched =
       Seeking-step _ _ _ _ _ _ _ _ _ _ c.seeking.invariant.0 c.as_slice-in-seeking.ensures.value
-      c.in_default.ensures.none c.let_go_of_long.ensures.count
+      c.in_default.ensures.none c.drop_long_line.ensures.count
 
   not_old : Contains (kept c.args.window.now) 10 → ⊥
   not_old = Seeking-not_old _ _ _ _ _ _ searched

@@ -12,13 +12,13 @@ use Rattle.crx_program.proofs.streams.run_over.Goals as goal
 pub returns : goal.returns
 returns g c =
     let input = fresh _ _ c.new-input.result c.new-input.ensures.inner c.new-input.ensures.log
-    (ap (λ (d : Std (Uninterrupted g.row.I.Denot)). d.inner) c.waiting.ensures.whole ∙ c.new.ensures.inner)
-    (ap (λ (d : Std (Uninterrupted g.row.I.Denot)). d.failures) c.waiting.ensures.whole
+    (ap (λ (d : Std (Uninterrupted g.row.I.Denot)). d.inner) c.with_waits.ensures.whole ∙ c.new.ensures.inner)
+    (ap (λ (d : Std (Uninterrupted g.row.I.Denot)). d.failures) c.with_waits.ensures.whole
     ∙ c.new.ensures.failures)
-    (ap (λ (d : Std (Uninterrupted g.row.I.Denot)). d.ends) c.waiting.ensures.whole ∙ c.new.ensures.ends)
-    (ap (λ (d : Std (Uninterrupted g.row.I.Denot)). d.flushes) c.waiting.ensures.whole
+    (ap (λ (d : Std (Uninterrupted g.row.I.Denot)). d.ends) c.with_waits.ensures.whole ∙ c.new.ensures.ends)
+    (ap (λ (d : Std (Uninterrupted g.row.I.Denot)). d.flushes) c.with_waits.ensures.whole
     ∙ c.new.ensures.flushes)
-    (ap (λ (d : Std (Uninterrupted g.row.I.Denot)). d.is_broken) c.waiting.ensures.whole
+    (ap (λ (d : Std (Uninterrupted g.row.I.Denot)). d.is_broken) c.with_waits.ensures.whole
     ∙ c.new.ensures.broken) in
     let output = fresh _ _ c.new-output.result c.new-output.ensures.inner c.new-output.ensures.log
     c.new-2.ensures.inner c.new-2.ensures.failures c.new-2.ensures.ends c.new-2.ensures.flushes
@@ -30,7 +30,7 @@ returns g c =
     let may_wait = λ (d : Logged (Std (Uninterrupted g.row.I.Denot))). d.inner.may_wait in
     let first : may_wait c.new-input.result ≡ c.args.may_wait =
     ap (λ (d : Std (Uninterrupted g.row.I.Denot)). d.may_wait)
-    (c.new-input.ensures.inner ∙ c.waiting.ensures.whole) in
+    (c.new-input.ensures.inner ∙ c.with_waits.ensures.whole) in
     let run = λ (job : Job) (e : plan_of (map string_bytes c.args.words.items) ≡ Run job). run_over
     (λ (r : Uninterrupted g.row.H-File.Denot). g.H.File.Read.remaining r.inner)
     (writer_contents (late_contents (λ (w : UntilFailure (Uninterrupted g.row.H-File.Denot)).

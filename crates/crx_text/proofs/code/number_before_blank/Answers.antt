@@ -12,8 +12,8 @@ returns-in_err-size-clause-value c =
 
 pub returns-clause-value : goal.returns-clause-value
 returns-clause-value c =
-    let fits : SFits w64 c.signed.result = search rules in
-    let number = c.signed.ensures ∙ ap (λ b. signed_number b c.in_ok-size.size)
+    let fits : SFits w64 c.with_sign.result = search rules in
+    let number = c.with_sign.ensures ∙ ap (λ b. signed_number b c.in_ok-size.size)
     c.split_minus-is_below.ensures.sign in
     rw (to_z-of_z w64 _ fits, number) (sym (coded_number-cell c.args.text.now
     c.split_minus-is_below.result.1.now c.split_minus-is_below.ensures.rest

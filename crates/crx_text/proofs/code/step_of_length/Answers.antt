@@ -28,8 +28,8 @@ step_is : (text digits : List ℕ) (is_below : Bool) (size count : ℕ) → is_b
 step_is text digits is_below size count sign rest first some few whole =
     grind (arith, common_steps, coded_number-cell text digits rest)
 
-pub signed-requires : goal.signed-requires
-signed-requires c = search (rules, arith, small_number)
+pub with_sign-requires : goal.with_sign-requires
+with_sign-requires c = search (rules, arith, small_number)
 
 -- all characters of a cell except its minus are digits
 counted : (characters below count : ℕ) → characters < 2 ^ 64 → below ≤ 1 → count ≤ 6

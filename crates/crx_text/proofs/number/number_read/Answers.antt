@@ -16,8 +16,8 @@ digits_read-requires-2 c =
       length-drop (point + 1) text,
     ))
 
-pub signed-requires : goal.signed-requires
-signed-requires c =
+pub with_sign-requires : goal.with_sign-requires
+with_sign-requires c =
     let text = c.split_minus-is_below.result.1.now in
     let fits : c.in-Some-digits_read.size < 10 ^ (length text - 1) =
     grind (arith, common_steps, more_digits_fit, length-take, length-drop) in

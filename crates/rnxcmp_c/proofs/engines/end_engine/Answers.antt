@@ -1,5 +1,5 @@
 use Rattle.std.proofs.Common.{rules}
-use Rattle.rnxcmp_c.proofs.{ReaderLemmas.filter-is, Words.{run_for, sym}}
+use Rattle.rnxcmp_c.proofs.{ReaderLemmas.filter-is, Vocabulary.{run_for, sym}}
 use Rattle.rnxcmp_c.proofs.engines.end_engine.Goals as goal
 
 pub returns-in-Compacting-clause-ends : goal.returns-in-Compacting-clause-ends

@@ -1,4 +1,4 @@
-use Rattle.rnxcmp_c.proofs.{ReaderLemmas.filter-is, Words.{run_for, sym}}
+use Rattle.rnxcmp_c.proofs.{ReaderLemmas.filter-is, Vocabulary.{run_for, sym}}
 use Rattle.rnxcmp_c.proofs.engines.feed_engine.Goals as goal
 
 pub take_bytes-requires : goal.take_bytes-requires

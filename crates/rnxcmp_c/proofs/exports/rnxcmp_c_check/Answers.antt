@@ -1,6 +1,6 @@
 use Rattle.std.proofs.lemmas.Grind.{common_steps}
-use Rattle.rnxcmp_c.proofs.{RunLemmas.{answers-alone, answers-within, take-enough}, Words.{refl, sym}}
-use Rattle.rnxcmp_c.proofs.Words.{◌∙◌, arith, rooms, Check, what-passes}
+use Rattle.rnxcmp_c.proofs.{RunLemmas.{answers-alone, answers-within, take-enough}, Vocabulary.{refl, sym}}
+use Rattle.rnxcmp_c.proofs.Vocabulary.{◌∙◌, arith, rooms, Check, what-passes}
 use Rattle.rnxcmp_c.proofs.exports.rnxcmp_c_check.Goals as goal
 
 pub answer_of-requires : goal.answer_of-requires

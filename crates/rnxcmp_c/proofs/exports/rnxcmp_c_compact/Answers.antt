@@ -1,6 +1,6 @@
 use Rattle.rnxcmp_c.proofs.RunLemmas.{answers-alone, answers-within, take-enough}
-use Rattle.rnxcmp_c.proofs.Words.{refl, sym, ◌∙◌, subst}
-use Rattle.rnxcmp_c.proofs.Words.{compacted, AnswersWithin, rooms, Compact}
+use Rattle.rnxcmp_c.proofs.Vocabulary.{refl, sym, ◌∙◌, subst}
+use Rattle.rnxcmp_c.proofs.Vocabulary.{compacted, AnswersWithin, rooms, Compact}
 use Rattle.crx_filter.proofs.accounts.ByResults.{compaction-keeps}
 use Rattle.rnxcmp_c.proofs.exports.rnxcmp_c_compact.Goals as goal
 

@@ -1,11 +1,11 @@
 use Rattle.std.proofs.Common.{rules}
 use Rattle.rnxcmp_c.proofs.EndedLemmas.{KeepsPromises, keeps-promises}
 use Rattle.rnxcmp_c.proofs.RunLemmas.{answers-alone, take-enough}
-use Rattle.rnxcmp_c.proofs.Kept.{zero-answered}
-use Rattle.crx_filter.proofs.anywriter.OnlyTexts.{only-text}
-use Rattle.rnxcmp_c.proofs.{RunLemmas.answers-within, Words.{◌≤◌, length, map, refl, subst, sym, ap, ◌∙◌}}
-use Rattle.rnxcmp_c.proofs.Words.{INPUT_LIMIT, lines_of, as_read, whole_compact, FilterResult, AnswersWithin}
-use Rattle.rnxcmp_c.proofs.Words.{Choices, HasNoMemory, rooms, Expand}
+use Rattle.rnxcmp_c.proofs.PromisesOfCalls.{zero-answered}
+use Rattle.crx_filter.proofs.anywriter.AcceptedTexts.{only-text}
+use Rattle.rnxcmp_c.proofs.{RunLemmas.answers-within, Vocabulary.{◌≤◌, length, map, refl, subst, sym, ap, ◌∙◌}}
+use Rattle.rnxcmp_c.proofs.Vocabulary.{INPUT_LIMIT, lines_of, as_read, whole_compact, FilterResult, AnswersWithin}
+use Rattle.rnxcmp_c.proofs.Vocabulary.{Choices, HasNoMemory, rooms, Expand}
 use Rattle.rnxcmp_c.proofs.{exports.rnxcmp_c_expand.Goals.After-answer_of}
 use Rattle.crx_filter.specs.meaning.{ByResults.ExpansionKeeps, Expanded.expanded_unit, Written.result_of}
 use Rattle.rnxcmp_c.proofs.exports.rnxcmp_c_expand.Goals as goal

@@ -3,8 +3,8 @@ use Rattle.rnxcmp_c.proofs.EndedLemmas.{result-where, run-check, run-expansion, 
 use Rattle.rnxcmp_c.proofs.PromiseLemmas.{ends-on}
 use Rattle.rnxcmp_c.proofs.PromiseLemmas.{ends-promise, ends-refused, ends-was_ended, sound-holds}
 use Rattle.rnxcmp_c.proofs.PromiseLemmas.{sound-stands, stood}
-use Rattle.rnxcmp_c.proofs.{Words.{Holds, Expand, Check}, handle.rnxcmp_c_end.Goals.After-put_in}
-use Rattle.rnxcmp_c.proofs.Words.{ℕ, List, Task, BothTexts}
+use Rattle.rnxcmp_c.proofs.{Vocabulary.{Holds, Expand, Check}, handle.rnxcmp_c_end.Goals.After-put_in}
+use Rattle.rnxcmp_c.proofs.Vocabulary.{ℕ, List, Task, BothTexts}
 use Rattle.rnxcmp_c.specs.Opened.{EndsHandle, HandleStands}
 use Rattle.rnxcmp_c.proofs.handle.rnxcmp_c_end.Goals as goal
 

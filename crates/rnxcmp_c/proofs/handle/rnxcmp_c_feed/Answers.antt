@@ -2,29 +2,29 @@ use Rattle.std.proofs.Common.{arith}
 use Rattle.rnxcmp_c.proofs.PromiseLemmas.{feeds-on, feeds-promise, feeds-refused, feeds-takes}
 use Rattle.rnxcmp_c.proofs.PromiseLemmas.{feeds-was_ended, sound-holds, sound-stands, stood}
 use Rattle.rnxcmp_c.proofs.handle.rnxcmp_c_feed.Goals.{After-put_in}
-use Rattle.rnxcmp_c.proofs.Words.{ℕ, List, Task, BothTexts, Holds}
+use Rattle.rnxcmp_c.proofs.Vocabulary.{ℕ, List, Task, BothTexts, Holds}
 use Rattle.rnxcmp_c.specs.Opened.{FeedsHandle, HandleStands}
 use Rattle.rnxcmp_c.proofs.handle.rnxcmp_c_feed.Goals as goal
 
 pub take_out-reader-requires : goal.take_out-reader-requires
 take_out-reader-requires c = sound-holds c.requires.sound c.if-not-handle.false
 
-pub take_in-count-requires : goal.take_in-count-requires
-take_in-count-requires c = sound-stands c.requires.sound c.if-not-handle.false (grind arith)
+pub read_bytes-count-requires : goal.read_bytes-count-requires
+read_bytes-count-requires c = sound-stands c.requires.sound c.if-not-handle.false (grind arith)
 
 feeds : (c : After-put_in) (task : Task) (fed : List ℕ) (taken : BothTexts)
     → HandleStands task c.args.handle.now fed taken
     → FeedsHandle task c.args.handle.now c.put_in.new.handle fed taken c.args.bytes.now
-    c.take_in-count.result.0 c.take_in-count.result.1
+    c.read_bytes-count.result.0 c.read_bytes-count.result.1
 feeds c task fed taken stands =
     let holds : Holds c.args.handle.now c.deref_mut.result.now = grind arith in
     record {
       before = c.deref_mut.result.now;
-      after = c.take_in-count.new.self;
+      after = c.read_bytes-count.new.self;
       held = holds;
       holds = c.put_in.ensures.reader;
       is_open = c.put_in.ensures.opened;
-      feeds = c.take_in-count.ensures task fed taken (stood holds stands);
+      feeds = c.read_bytes-count.ensures task fed taken (stood holds stands);
     }
 
 pub returns : goal.returns

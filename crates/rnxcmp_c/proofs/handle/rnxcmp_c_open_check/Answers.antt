@@ -1,5 +1,5 @@
 use Rattle.std.proofs.{Common.arith, lemmas.Grind.common_steps}
-use Rattle.rnxcmp_c.proofs.Words.{Check, refl}
+use Rattle.rnxcmp_c.proofs.Vocabulary.{Check, refl}
 use Rattle.rnxcmp_c.proofs.handle.rnxcmp_c_open_check.Goals as goal
 
 pub returns-in-Ok-clause-opened : goal.returns-in-Ok-clause-opened

@@ -1,5 +1,5 @@
 use Rattle.std.proofs.{Common.arith, lemmas.Grind.common_steps}
-use Rattle.rnxcmp_c.proofs.Words.{ap, refl, Choices}
+use Rattle.rnxcmp_c.proofs.Vocabulary.{ap, refl, Choices}
 use Rattle.rnxcmp_c.proofs.handle.rnxcmp_c_open_expand.Goals as goal
 
 pub returns-in-Ok-new-clause-opened : goal.returns-in-Ok-new-clause-opened

@@ -2,7 +2,7 @@ use Rattle.std.proofs.{Common.{rules, arith}, lemmas.Grind.common_steps}
 use Rattle.rnxcmp_c.proofs.EndedLemmas.{ended-where, result-where, run-check, run-expansion}
 use Rattle.rnxcmp_c.proofs.EndedLemmas.{task-keeps}
 use Rattle.rnxcmp_c.proofs.PromiseLemmas.{handle-promise, sound-holds, stood}
-use Rattle.rnxcmp_c.proofs.Words.{ℕ, List, Holds, BothTexts, Task, Expand, Check}
+use Rattle.rnxcmp_c.proofs.Vocabulary.{ℕ, List, Holds, BothTexts, Task, Expand, Check}
 use Rattle.rnxcmp_c.proofs.handle.rnxcmp_c_take.Goals as goal
 
 pub take_out-reader-requires : goal.take_out-reader-requires
@@ -15,10 +15,10 @@ pub returns-clause-stands : goal.returns-clause-stands
 returns-clause-stands c = λ (task : Task) (fed : List ℕ) (taken : BothTexts) stands.
     let holds : Holds c.args.handle.now c.deref_mut.result.now = grind arith in
     record {
-      reader = c.hand_out-answer.new.self;
+      reader = c.move_out-answer.new.self;
       is_open = c.put_in.ensures.opened;
       holds = c.put_in.ensures.reader;
-      stands = rw holds (c.hand_out-answer.ensures.stands task fed taken (stood holds stands));
+      stands = rw holds (c.move_out-answer.ensures.stands task fed taken (stood holds stands));
     }
 
 pub returns-clause-promise : goal.returns-clause-promise
@@ -31,7 +31,7 @@ returns-clause-expansion c = λ choices limit fed taken stands ended memory few 
 pub returns-clause-check : goal.returns-clause-check
 returns-clause-check c = λ fed taken stands ended memory few long. run-check fed _ _ _
     (result-where fed _ _ _ _ Check memory few (ended-where fed _ _ _ _ Check memory long
-    ((handle-promise stands c.put_in.ensures.reader c.hand_out-answer.ensures.taken.answered).ended ended)))
+    ((handle-promise stands c.put_in.ensures.reader c.move_out-answer.ensures.taken.answered).ended ended)))
 
 pub returns-clause-sound : goal.returns-clause-sound
 returns-clause-sound c = λ is_open.

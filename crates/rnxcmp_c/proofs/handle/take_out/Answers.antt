@@ -1,4 +1,4 @@
-use Rattle.rnxcmp_c.proofs.Words.{ap, ◌∙◌}
+use Rattle.rnxcmp_c.proofs.Vocabulary.{ap, ◌∙◌}
 use Rattle.rnxcmp_c.proofs.handle.take_out.Goals as goal
 
 pub into_loose-requires : goal.into_loose-requires

@@ -1,8 +1,8 @@
 use Rattle.std.proofs.Common.{rules}
-use Rattle.rnxcmp_c.proofs.{ReaderLemmas.{lawful-for, length-begins, one_more-first, output-for}, Words.◌≡◌}
-use Rattle.rnxcmp_c.proofs.Words.{length, arith}
-use Rattle.rnxcmp_c.proofs.Words.{result_for, Answer, fault_code_in, line_in, placed, rooms}
-use Rattle.rnxcmp_c.proofs.Words.{status_in, handle_answer, run_for}
+use Rattle.rnxcmp_c.proofs.{ReaderLemmas.{lawful-for, length-begins, one_more-first, output-for}, Vocabulary.◌≡◌}
+use Rattle.rnxcmp_c.proofs.Vocabulary.{length, arith}
+use Rattle.rnxcmp_c.proofs.Vocabulary.{result_for, Answer, fault_code_in, line_in, placed, rooms}
+use Rattle.rnxcmp_c.proofs.Vocabulary.{status_in, handle_answer, run_for}
 use Rattle.rnxcmp_c.specs.meaning.Answers.{ExceedsLimit}
 use Rattle.rnxcmp_c.proofs.laws.a_handle_answers_as_a_call.Goals as goal
 

@@ -1,4 +1,4 @@
-use Rattle.rnxcmp_c.proofs.Words.{◌≡◌, refl, ap, AnyEngine, Compacting, Expanding, Checking}
+use Rattle.rnxcmp_c.proofs.Vocabulary.{◌≡◌, refl, ap, AnyEngine, Compacting, Expanding, Checking}
 use Rattle.rnxcmp_c.specs.Holdings.{engine_with}
 use Rattle.rnxcmp_c.proofs.laws.handle_holds.Goals as goal
 

@@ -1,6 +1,6 @@
 use Rattle.std.proofs.{Common.arith, lemmas.Grind.common_steps}
 use Rattle.rnxcmp_c.proofs.PromiseLemmas.{messages-own, output-first}
-use Rattle.rnxcmp_c.proofs.Words.{◌++◌, lines_of, ended_lines-come_first}
+use Rattle.rnxcmp_c.proofs.Vocabulary.{◌++◌, lines_of, ended_lines-come_first}
 use Rattle.rnxcmp_c.proofs.laws.what_lines_make_comes_first.Goals as goal
 
 pub returns-clause-begun : goal.returns-clause-begun

@@ -1,9 +1,9 @@
 use Rattle.std.proofs.{Common.{rules, length-drop, length-take-le}}
 use Rattle.rnxcmp_c.proofs.{GoingLemmas.stopped-weaker, PieceLemmas.none-or}
-use Rattle.rnxcmp_c.proofs.Words.{ℕ, ◌≡◌, ◌-◌, ◌+◌, ◌<◌, List, ◌++◌, length, take, drop, sym, ap, ◌∙◌, arith}
-use Rattle.rnxcmp_c.proofs.Words.{append_assoc, length-append, ⊎_elim, take-append-drop, err_from_is_err_and}
-use Rattle.rnxcmp_c.proofs.Words.{ended_lines_of, take_all, take_at, take-append-add, refl, TaskRun}
-use Rattle.rnxcmp_c.proofs.Words.{BothTexts}
+use Rattle.rnxcmp_c.proofs.Vocabulary.{ℕ, ◌≡◌, ◌-◌, ◌+◌, ◌<◌, List, ◌++◌, length, take, drop, sym, ap, ◌∙◌, arith}
+use Rattle.rnxcmp_c.proofs.Vocabulary.{append_assoc, length-append, ⊎_elim, take-append-drop, err_from_is_err_and}
+use Rattle.rnxcmp_c.proofs.Vocabulary.{ended_lines_of, take_all, take_at, take-append-add, refl, TaskRun}
+use Rattle.rnxcmp_c.proofs.Vocabulary.{BothTexts}
 use Rattle.rnxcmp_c.specs.Past.{StopsSoon}
 use Rattle.rnxcmp_c.proofs.lines.take_bytes.Goals as goal
 use Rattle.std.proofs.lemmas.Grind.{common_steps}

@@ -1,5 +1,5 @@
-use Rattle.rnxcmp_c.proofs.Words.{◌≡◌, ◌<◌, List, ℕ, ◌++◌, length, BothTexts, TaskRun}
-use Rattle.rnxcmp_c.proofs.Words.{ready_in, READY_LIMIT}
+use Rattle.rnxcmp_c.proofs.Vocabulary.{◌≡◌, ◌<◌, List, ℕ, ◌++◌, length, BothTexts, TaskRun}
+use Rattle.rnxcmp_c.proofs.Vocabulary.{ready_in, READY_LIMIT}
 use Rattle.rnxcmp_c.specs.{Going.{IsGoing, IsRunning}, Past.StopsSoon}
 use Rattle.rnxcmp_c.proofs.lines.take_bytes.Given as goal
 

@@ -1,9 +1,9 @@
 use Rattle.std.proofs.{lemmas.Grind.common_steps}
-use Rattle.rnxcmp_c.proofs.{Cut.end-kept, WithinLemmas.{marks-within, step-stays, step-stops}}
+use Rattle.rnxcmp_c.proofs.{EndAtLine.end-kept, WithinLemmas.{marks-within, step-stays, step-stops}}
 use Rattle.rnxcmp_c.proofs.GoingLemmas.{all-ended, all-but_last, end-taken, stopped, taken-more}
-use Rattle.rnxcmp_c.proofs.Words.{◌≡◌, ◌≤◌, ◌+◌, ℕ, List, [], ◌∷◌, length, false, arith, sym, refl, ap}
-use Rattle.rnxcmp_c.proofs.Words.{err_from_is_err_and, ended_lines_of, length-append, piece_line, lines_of}
-use Rattle.rnxcmp_c.proofs.Words.{IfErr-weaker, on_ok_weaker, BothTexts, TaskRun, None, ◌∙◌}
+use Rattle.rnxcmp_c.proofs.Vocabulary.{◌≡◌, ◌≤◌, ◌+◌, ℕ, List, [], ◌∷◌, length, false, arith, sym, refl, ap}
+use Rattle.rnxcmp_c.proofs.Vocabulary.{err_from_is_err_and, ended_lines_of, length-append, piece_line, lines_of}
+use Rattle.rnxcmp_c.proofs.Vocabulary.{IfErr-weaker, on_ok_weaker, BothTexts, TaskRun, None, ◌∙◌}
 use Rattle.rnxcmp_c.specs.Going.{IsRunning, IsSoFar}
 use Rattle.rnxcmp_c.proofs.lines.take_last.{Given.Over, Goals.{Joined-not-is_empty, else-not-is_empty}}
 use Rattle.rnxcmp_c.proofs.lines.take_last.Goals as goal
@@ -30,10 +30,10 @@ take_end-taken-requires-clause-within g c =
       r.4,
     )
 
-pub counted-requires : goal.counted-requires
-counted-requires g c =
+pub count_output-requires : goal.count_output-requires
+count_output-requires g c =
     let r = c.requires.going in
-    let last = reached g (goal.at.counted-requires g c).Joined-not-is_empty r.0 r.1 r.2 r.3 in
+    let last = reached g (goal.at.count_output-requires g c).Joined-not-is_empty r.0 r.1 r.2 r.3 in
     let held = c.if-not-is_empty.held in
     let taken = c.take_end-taken in
     let step = end-kept _ _ held.output taken.new.writer held.messages taken.new.messages _ held.number _
@@ -47,11 +47,11 @@ returns-clause-ends g c run fed taken is =
     let end = c.take_end-taken in
     let step = rw last.2 at (end-kept _ _ held.output end.new.writer held.messages end.new.messages _
     held.number _ end.result (end.ensures.taken.becomes (lines_of fed) None (last.1, refl))) in
-    end-taken last.0 c.counted.new.held fed refl _ _ (
-      on_ok_weaker c.counted.result (λ counted. step-stays 0 None _ _ _ _ _ _ _ c.mark-mark.ensures refl refl
-          refl _ step.0 counted) c.counted.ensures.good,
+    end-taken last.0 c.count_output.new.held fed refl _ _ (
+      on_ok_weaker c.count_output.result (λ counted. step-stays 0 None _ _ _ _ _ _ _ c.mark-mark.ensures refl refl
+          refl _ step.0 counted) c.count_output.ensures.good,
       IfErr-weaker _ _ _ (λ stop s. step-stops _ _ _ _ _ _ _ _ _ c.mark-mark.ensures refl refl _ step.0
-          step.1 stop s) c.counted.ensures.stops,
+          step.1 stop s) c.count_output.ensures.stops,
     )
 
 pub returns-in_err-take_within-clause-ends : goal.returns-in_err-take_within-clause-ends

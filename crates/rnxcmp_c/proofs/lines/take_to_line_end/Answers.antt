@@ -1,9 +1,9 @@
 use Rattle.std.proofs.{Common.rules, lemmas.{Grind.common_steps, List.take_more}}
 use Rattle.rnxcmp_c.proofs.GoingLemmas.{cut-at, goes-on, keeps-going, mid-kept, no_feed-before, soon-by}
 use Rattle.rnxcmp_c.proofs.GoingLemmas.{stops-there}
-use Rattle.rnxcmp_c.proofs.Words.{◌≡◌, ◌+◌, ◌-◌, [], ◌∷◌, ◌++◌, length, take, drop, ap, ◌∙◌, sym, subst}
-use Rattle.rnxcmp_c.proofs.Words.{arith}
-use Rattle.rnxcmp_c.proofs.Words.{take_all, err_from_is_err_and, HasNoFeed}
+use Rattle.rnxcmp_c.proofs.Vocabulary.{◌≡◌, ◌+◌, ◌-◌, [], ◌∷◌, ◌++◌, length, take, drop, ap, ◌∙◌, sym, subst}
+use Rattle.rnxcmp_c.proofs.Vocabulary.{arith}
+use Rattle.rnxcmp_c.proofs.Vocabulary.{take_all, err_from_is_err_and, HasNoFeed}
 use Rattle.rnxcmp_c.proofs.lines.take_to_line_end.{Given.Over, Goals.In-Some}
 use Rattle.rnxcmp_c.proofs.lines.take_to_line_end.Goals as goal
 

@@ -1,8 +1,8 @@
 use Rattle.std.proofs.{Common.rules, lemmas.Bool.lt-ltb}
-use Rattle.rnxcmp_c.proofs.{Cut.line-kept, PieceLemmas.{long-where_long, whole-where_not_long}}
+use Rattle.rnxcmp_c.proofs.{EndAtLine.line-kept, PieceLemmas.{long-where_long, whole-where_not_long}}
 use Rattle.rnxcmp_c.proofs.WithinLemmas.{marks-within, step-stays, step-stops}
-use Rattle.rnxcmp_c.proofs.Words.{◌≡◌, ℕ, List, [], None, Some, ap, refl, subst, sym, ◌∙◌, take, take_all}
-use Rattle.rnxcmp_c.proofs.Words.{IfErr-weaker, on_ok_weaker, InputLine, piece_line, LINE_ROOM}
+use Rattle.rnxcmp_c.proofs.Vocabulary.{◌≡◌, ℕ, List, [], None, Some, ap, refl, subst, sym, ◌∙◌, take, take_all}
+use Rattle.rnxcmp_c.proofs.Vocabulary.{IfErr-weaker, on_ok_weaker, InputLine, piece_line, LINE_ROOM}
 use Rattle.crx_lines.specs.Reading.{line_shown}
 use Rattle.rnxcmp_c.specs.Going.{LineIsGiven}
 use Rattle.rnxcmp_c.proofs.lines.take_within.Given.{Over}
@@ -54,11 +54,11 @@ given g c lines whole shown kept =
           )
     ]
 
-pub counted-requires : goal.counted-requires
-counted-requires g c =
+pub count_output-requires : goal.count_output-requires
+count_output-requires g c =
     let kept = c.args.held.now.tail.bytes.items in
     let step =
-    given g (goal.at.counted-requires g c).Joined-content-gt-LINE_LIMIT
+    given g (goal.at.count_output-requires g c).Joined-content-gt-LINE_LIMIT
     c.requires.shown.1.0 kept c.requires.shown.1.1
     (sym (take_all LINE_ROOM kept c.args.held.now.tail.within)) in
     marks-within _ _ _ _ _ _ _ _ c.mark-mark.ensures _ step.0.0 step.0.1
@@ -70,7 +70,7 @@ returns-clause-step g c = λ lines whole shown kept.
     let step = rw (← number) at (given g at lines whole shown kept) in
     rw (← number) (
       on_ok_weaker _ (λ counted. step-stays 0 None _ _ _ _ _ _ _ c.mark-mark.ensures step.1 step.2 step.3 _
-          step.0.0 counted) c.counted.ensures.good,
+          step.0.0 counted) c.count_output.ensures.good,
       IfErr-weaker _ _ _ (λ stop s. step-stops _ _ _ _ _ _ _ _ _ c.mark-mark.ensures step.1 step.2 _ step.0.0
-          step.0.1 stop s) c.counted.ensures.stops,
+          step.0.1 stop s) c.count_output.ensures.stops,
     )

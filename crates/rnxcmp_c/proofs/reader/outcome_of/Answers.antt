@@ -1,5 +1,5 @@
 use Rattle.std.proofs.lemmas.Grind.{common_steps}
-use Rattle.rnxcmp_c.proofs.Words.{inl, arith, refl}
+use Rattle.rnxcmp_c.proofs.Vocabulary.{inl, arith, refl}
 use Rattle.rnxcmp_c.proofs.reader.outcome_of.Goals as goal
 
 pub returns-then-add : goal.returns-then-add

@@ -1,8 +1,8 @@
-use Rattle.crx_compact.proofs.Words.{rules, ◌≡◌, ◌∷◌, ℕ, ℤ, List, Some, IsWithin}
-use Rattle.crx_compact.proofs.Words.{Result, Ok, Option, is_ok, Code, ArcTail, value_of, if◌then◌else◌, Fault}
+use Rattle.crx_compact.proofs.Vocabulary.{rules, ◌≡◌, ◌∷◌, ℕ, ℤ, List, Some, IsWithin}
+use Rattle.crx_compact.proofs.Vocabulary.{Result, Ok, Option, is_ok, Code, ArcTail, value_of, if◌then◌else◌, Fault}
 use Rattle.crx_compact.proofs.arcs.Running.{StepsOn, stepped}
 use Rattle.crx_compact.proofs.arcs.Running.{same-bits, begun-list, begun-kept, lower-below, within-below}
-use Rattle.crx_compact.proofs.{Words.{arc_of_code, value_of_code}, arcs.Arcs.values-of_codes}
+use Rattle.crx_compact.proofs.{Vocabulary.{arc_of_code, value_of_code}, arcs.Arcs.values-of_codes}
 use Rattle.crx_compact.proofs.{arcs.Bounds.within-is, arcs.Running.goes-on-kept}
 use Rattle.std.proofs.Common.{w64, to_z, of_z}
 use Rattle.crx_compact.specs.{ArcLaws.{accepted, arc_of_codes}}
@@ -36,12 +36,12 @@ pub returns-then-not-is_within-2-clause-value : goal.returns-then-not-is_within-
 returns-then-not-is_within-2-clause-value g c =
     search (rules, on g (goal.at.returns-then-not-is_within-2-clause-value g c).After-value_after-value)
 
-pub go_on-requires-clause-below : goal.go_on-requires-clause-below
-go_on-requires-clause-below g c = search (rules, lower-below)
+pub advance_differences-requires-clause-below : goal.advance_differences-requires-clause-below
+advance_differences-requires-clause-below g c = search (rules, lower-below)
 
-pub go_on-requires-clause-next : goal.go_on-requires-clause-next
-go_on-requires-clause-next g c =
-    let is = within g (goal.at.go_on-requires-clause-next g c).Else-not-is_within-2 in
+pub advance_differences-requires-clause-next : goal.advance_differences-requires-clause-next
+advance_differences-requires-clause-next g c =
+    let is = within g (goal.at.advance_differences-requires-clause-next g c).Else-not-is_within-2 in
     search (rules, within-below)
 
 pub invariant_of-self-in-Step : goal.invariant_of-self-in-Step

@@ -1,7 +1,7 @@
-use Rattle.crx_compact.proofs.Words.{rules, ◌≡◌, ◌+◌, ◌∷◌, ℤ, List, Option, take}
-use Rattle.crx_compact.proofs.Words.{slice_set, WRITTEN_ORDER, IsWithin, Code, Start, Step, ArcTail, code_at}
+use Rattle.crx_compact.proofs.Vocabulary.{rules, ◌≡◌, ◌+◌, ◌∷◌, ℤ, List, Option, take}
+use Rattle.crx_compact.proofs.Vocabulary.{slice_set, WRITTEN_ORDER, IsWithin, Code, Start, Step, ArcTail, code_at}
 use Rattle.crx_compact.proofs.arcs.Running.{same-bits, begun-kept, lower-below}
-use Rattle.crx_compact.proofs.{Words.{stretch, arc_of_value, code_of_value}, arcs.Arcs.codes-of_values}
+use Rattle.crx_compact.proofs.{Vocabulary.{stretch, arc_of_value, code_of_value}, arcs.Arcs.codes-of_values}
 use Rattle.crx_compact.proofs.arcs.Running.{within-below, goes-on-kept, goes-on, highest-short, begun-list}
 use Rattle.std.proofs.Common.{w64, to_z, of_z}
 use Rattle.crx_compact.specs.{ArcLaws.arc_of_values, Arcs.kept_tail}
@@ -34,12 +34,12 @@ returns-then-self-eq0 g c =
     arc_of_value c.args.value c.args.self.now = search (rules, same-bits, begun-list) in
     search (rules, below-short, every)
 
-pub go_on-highest-requires-clause-below : goal.go_on-highest-requires-clause-below
-go_on-highest-requires-clause-below g c = search (rules, lower-below)
+pub advance_differences-highest-requires-clause-below : goal.advance_differences-highest-requires-clause-below
+advance_differences-highest-requires-clause-below g c = search (rules, lower-below)
 
-pub go_on-highest-requires-clause-next : goal.go_on-highest-requires-clause-next
-go_on-highest-requires-clause-next g c =
-    let is = within g (goal.at.go_on-highest-requires-clause-next g c).In-Some in
+pub advance_differences-highest-requires-clause-next : goal.advance_differences-highest-requires-clause-next
+advance_differences-highest-requires-clause-next g c =
+    let is = within g (goal.at.advance_differences-highest-requires-clause-next g c).In-Some in
     search (rules, within-below)
 
 pub invariant_of-self-2 : goal.invariant_of-self-2
@@ -52,10 +52,10 @@ returns g c =
     let on = goes-on c.self.inside.order c.self.inside.count c.min-last.result c.in-Some.value
     c.self.inside.differences (search rules) (search rules) (search rules) in
     let is = within g (goal.at.returns g c).In-Some in
-    let code : Step (to_z w64 (of_z w64 c.go_on-highest.result)) ≡ code_of_value c.args.value
+    let code : Step (to_z w64 (of_z w64 c.advance_differences-highest.result)) ≡ code_of_value c.args.value
     c.args.self.now = search (rules, same-bits) in
     let arc : kept_tail c.self.inside.order
-    (take (c.min-last.result + 1) c.go_on-highest.new.differences) ≡ arc_of_value c.args.value
+    (take (c.min-last.result + 1) c.advance_differences-highest.new.differences) ≡ arc_of_value c.args.value
     c.args.self.now = search (rules, same-bits) in
     record {
       code = code;

@@ -1,5 +1,5 @@
 use Rattle.crx_compact.proofs.arcs.Running.{ToThird, after-three, goes-on, goes-on-kept}
-use Rattle.crx_compact.proofs.Words.{rules, ◌≡◌, min, take, sym, ap, subst, ◌∙◌, arith, ℕ, Step}
+use Rattle.crx_compact.proofs.Vocabulary.{rules, ◌≡◌, min, take, sym, ap, subst, ◌∙◌, arith, ℕ, Step}
 use Rattle.crx_compact.proofs.arcs.Running.{highest-short, same-bits, third-last, to-third-kept}
 use Rattle.crx_compact.proofs.{arc.Arc.push_third.Given.Over, arc.Arc.push_third.Goals.Else-from_le_bytes-ne-THIRD}
 use Rattle.crx_compact.specs.{ArcSteps.highest, Arcs.{IsArcInRange}}

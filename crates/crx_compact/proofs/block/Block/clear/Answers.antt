@@ -1,4 +1,4 @@
-use Rattle.crx_compact.proofs.Words.{arith}
+use Rattle.crx_compact.proofs.Vocabulary.{arith}
 use Rattle.crx_compact.proofs.LineTexts.{none-cut}
 use Rattle.crx_compact.proofs.block.Block.clear.Goals as goal
 use Rattle.std.proofs.lemmas.Grind.{common_steps}

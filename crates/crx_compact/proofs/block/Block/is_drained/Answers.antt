@@ -1,5 +1,5 @@
-use Rattle.crx_compact.proofs.Words.{rules, ◌≡◌, ◌≤◌, ℕ, zero, suc, List, [], ◌∷◌, drop, length, ap, true}
-use Rattle.crx_compact.proofs.Words.{nat_eq, arith, length-take-le, cut}
+use Rattle.crx_compact.proofs.Vocabulary.{rules, ◌≡◌, ◌≤◌, ℕ, zero, suc, List, [], ◌∷◌, drop, length, ap, true}
+use Rattle.crx_compact.proofs.Vocabulary.{nat_eq, arith, length-take-le, cut}
 use Rattle.std.proofs.{Math.ListN.drop_of_length-le, lemmas.Bool.Decides.nat_tests}
 use Rattle.crx_compact.proofs.block.Block.is_drained.Goals as goal
 

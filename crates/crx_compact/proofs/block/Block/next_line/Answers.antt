@@ -1,5 +1,5 @@
-use Rattle.crx_compact.proofs.Words.{rules, ◌≡◌, get_or, List, ℕ, take}
-use Rattle.crx_compact.proofs.Words.{arith, length-take-le}
+use Rattle.crx_compact.proofs.Vocabulary.{rules, ◌≡◌, get_or, List, ℕ, take}
+use Rattle.crx_compact.proofs.Vocabulary.{arith, length-take-le}
 use Rattle.crx_compact.specs.Blocks.{IsBlock}
 use Rattle.crx_compact.proofs.LineTexts.{NextLine, next-line}
 use Rattle.crx_compact.proofs.block.Block.next_line.Goals.{After-index}

@@ -1,4 +1,4 @@
-use Rattle.crx_compact.proofs.Words.{rules, refl, drop, length, ap, arith, take_at, PendingLines}
+use Rattle.crx_compact.proofs.Vocabulary.{rules, refl, drop, length, ap, arith, take_at, PendingLines}
 use Rattle.crx_compact.proofs.{LineTexts.{BlockPushed, block-pushed}, block.Block.put.Goals.After-put_line}
 use Rattle.crx_compact.proofs.block.Block.put.Goals as goal
 

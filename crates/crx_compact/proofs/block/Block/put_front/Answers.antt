@@ -1,4 +1,4 @@
-use Rattle.crx_compact.proofs.Words.{rules, ◌-◌, drop, length, ap, arith, length-set, take_at, PendingLines}
+use Rattle.crx_compact.proofs.Vocabulary.{rules, ◌-◌, drop, length, ap, arith, length-set, take_at, PendingLines}
 use Rattle.crx_compact.proofs.{LineTexts.{PutFront, put-front}, block.Block.put_front.Goals.After-put_line}
 use Rattle.crx_compact.proofs.block.Block.put_front.Goals as goal
 use Rattle.std.proofs.lemmas.Grind.{common_steps}

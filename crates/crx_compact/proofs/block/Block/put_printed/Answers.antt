@@ -1,6 +1,6 @@
 use Rattle.std.proofs.Common.{rules}
-use Rattle.crx_compact.proofs.Words.{◌+◌, ◌*◌, ◌≡◌, drop, length, set, ap, arith, length-set, take_at}
-use Rattle.crx_compact.proofs.Words.{printed_row, shown_row, ◌∙◌, take, ◌++◌, PendingLines}
+use Rattle.crx_compact.proofs.Vocabulary.{◌+◌, ◌*◌, ◌≡◌, drop, length, set, ap, arith, length-set, take_at}
+use Rattle.crx_compact.proofs.Vocabulary.{printed_row, shown_row, ◌∙◌, take, ◌++◌, PendingLines}
 use Rattle.crx_compact.proofs.{LineTexts.{BlockPushed, row-pushed}}
 use Rattle.crx_compact.specs.Placing.{row_tail_of}
 use Rattle.crx_compact.proofs.block.Block.put_printed.Goals.{After-print_line-length}

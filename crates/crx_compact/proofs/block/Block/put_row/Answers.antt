@@ -1,5 +1,5 @@
-use Rattle.crx_compact.proofs.Words.{◌+◌, ◌*◌, ◌≡◌, drop, length, set, ap, arith, length-set, take_at}
-use Rattle.crx_compact.proofs.Words.{◌∙◌, take, ◌++◌, PendingLines}
+use Rattle.crx_compact.proofs.Vocabulary.{◌+◌, ◌*◌, ◌≡◌, drop, length, set, ap, arith, length-set, take_at}
+use Rattle.crx_compact.proofs.Vocabulary.{◌∙◌, take, ◌++◌, PendingLines}
 use Rattle.crx_compact.proofs.{LineTexts.{BlockPushed, row-pushed}}
 use Rattle.crx_compact.specs.Placing.{line_after}
 use Rattle.crx_compact.proofs.block.Block.put_row.Goals.{After-write_line-length}

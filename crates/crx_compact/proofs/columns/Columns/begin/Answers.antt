@@ -1,6 +1,6 @@
-use Rattle.crx_compact.proofs.Words.{rules, ◌≡◌, Some}
-use Rattle.crx_compact.proofs.Words.{tail_for_line, tail_held}
-use Rattle.crx_compact.proofs.{Words.tail_of_history, columns.Columns.begin.Goals.After-read_epoch_line}
+use Rattle.crx_compact.proofs.Vocabulary.{rules, ◌≡◌, Some}
+use Rattle.crx_compact.proofs.Vocabulary.{tail_for_line, tail_held}
+use Rattle.crx_compact.proofs.{Vocabulary.tail_of_history, columns.Columns.begin.Goals.After-read_epoch_line}
 use Rattle.crx_compact.proofs.columns.Columns.begin.Goals.{then-is_full, else-is_full+else-not-self}
 use Rattle.crx_compact.proofs.{reading.Blocks.{begun-block, begun-refused}}
 use Rattle.crx_compact.proofs.reading.Stages.{tail-idle}

@@ -1,7 +1,7 @@
-use Rattle.crx_compact.proofs.Words.{rules, arith, ◌≡◌, Bool, true, not, Some, None, if◌then◌else◌}
-use Rattle.crx_compact.proofs.Words.{ap, ◌∙◌, tail_held}
-use Rattle.crx_compact.proofs.Words.{tail_of_history, lines_after_tail, no_tail}
-use Rattle.crx_compact.proofs.Words.{tail_written_after, Tail}
+use Rattle.crx_compact.proofs.Vocabulary.{rules, arith, ◌≡◌, Bool, true, not, Some, None, if◌then◌else◌}
+use Rattle.crx_compact.proofs.Vocabulary.{ap, ◌∙◌, tail_held}
+use Rattle.crx_compact.proofs.Vocabulary.{tail_of_history, lines_after_tail, no_tail}
+use Rattle.crx_compact.proofs.Vocabulary.{tail_written_after, Tail}
 use Rattle.crx_compact.proofs.{wayback.Tailing.{lines-coded, tail-coded}}
 use Rattle.crx_compact.proofs.reading.Stages.{stage-idle, tail-idle}
 use Rattle.crx_compact.specs.{Coded.CodedEpoch}

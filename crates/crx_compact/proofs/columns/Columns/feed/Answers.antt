@@ -1,14 +1,14 @@
-use Rattle.crx_compact.proofs.Words.{rules, ◌≡◌, ◌∙◌, ◌<◌, sym, ap, subst, arith, length, Some}
-use Rattle.crx_compact.proofs.Words.{None, eqb-true, Content, HasMade, begins_epoch, step_in}
+use Rattle.crx_compact.proofs.Vocabulary.{rules, ◌≡◌, ◌∙◌, ◌<◌, sym, ap, subst, arith, length, Some}
+use Rattle.crx_compact.proofs.Vocabulary.{None, eqb-true, Content, HasMade, begins_epoch, step_in}
 use Rattle.crx_compact.proofs.reading.Stages.{row-was_awaited, state-rows, step-by-stage}
-use Rattle.crx_compact.proofs.Words.{step_with_rows, tail_of_history, Tail}
+use Rattle.crx_compact.proofs.Vocabulary.{step_with_rows, tail_of_history, Tail}
 use Rattle.crx_compact.proofs.reading.{Blocks.{more-block, more-refused}, NoMemory.no-memory-in-epoch}
 use Rattle.crx_compact.proofs.{reading.StepsByCode.{made-more, made-whole, step-whole}}
 use Rattle.crx_compact.proofs.columns.Columns.feed.Goals as goal
 
 pub returns-in-Ok-clause-made : goal.returns-in-Ok-clause-made
 returns-in-Ok-clause-made c =
-    let new = c.take_line.new in
+    let new = c.read_line.new in
     let rows = c.in-Ok-true.ensures.ok in
     let tail : Tail = tail_of_history new.history in
     let come : new.count ≡ length new.history.satellites.rows =
@@ -20,7 +20,7 @@ returns-in-Ok-clause-made c =
 pub returns-in-Err-epoch-clause-memory : goal.returns-in-Err-epoch-clause-memory
 returns-in-Err-epoch-clause-memory c = λ out.
     let inside = c.self.inside in
-    let new = c.take_line.new in
+    let new = c.read_line.new in
     let rows = c.in-Ok-true.ensures.ok in
     let come : new.count ≡ length new.history.satellites.rows =
     eqb-true new.count (length new.history.satellites.rows) (sym rows.whole ∙ c.in-Ok-true.field-0-test) in
@@ -39,7 +39,7 @@ returns-in-Err-clause-memory c = λ out. absurd (no-memory-in-epoch c.args.self.
 
 pub returns-in-Ok-false-clause-made : goal.returns-in-Ok-false-clause-made
 returns-in-Ok-false-clause-made c =
-    let new = c.take_line.new in
+    let new = c.read_line.new in
     let rows = c.in-Ok-false.ensures.ok in
     subst (λ s. HasMade (step_in c.args.self.now (Content c.args.line.now)) s None) (sym (state-rows
     c.self.inside.is_kept new.expected new.count new.history rows.rows)) (made-more _ (tail_of_history

@@ -1,5 +1,5 @@
 use Rattle.std.proofs.Common.{arith}
-use Rattle.crx_compact.proofs.Justified.{left_justified-is}
+use Rattle.crx_compact.proofs.PaddedColumns.{left_justified-is}
 use Rattle.crx_compact.proofs.encoder.Encoder.put_first_lines.Goals as goal
 use Rattle.std.proofs.lemmas.Grind.{common_steps}
 

@@ -1,5 +1,5 @@
 -- `of` returns a value without bytes, at the tail of the history. The history doesn't change.
-use Rattle.crx_compact.proofs.Words.{[], ◌∷◌, refl, tail_of_history}
+use Rattle.crx_compact.proofs.Vocabulary.{[], ◌∷◌, refl, tail_of_history}
 use Rattle.std.proofs.raw_atomic.Walks.{proved}
 use mir.Syntax.{named}
 use mir.Val.{Val, vcons, vnil, vptr, vstruct}

@@ -1,12 +1,12 @@
 use Rattle.std.proofs.{Common.rules, lemmas.Result.IfOk-at_ok}
-use Rattle.crx_compact.proofs.Words.{◌≡◌, ◌++◌, ◌∷◌, [], ℕ, ℤ, List, Option, true, not, length, take, sym, ap}
-use Rattle.crx_compact.proofs.Words.{◌∙◌, subst, arith, if◌then◌else◌, is_ok, eqb-true, length-map}
-use Rattle.crx_compact.proofs.Words.{satellites_of, has_satellite, Row, HasRoom, OpenHistory, PendingLines}
-use Rattle.crx_compact.proofs.Words.{row_of_parts, tail_of_history, no_tail, row_tail_in, Tail}
-use Rattle.crx_compact.proofs.{Words.{AreRowsWritten, HaveRoom, slice_get_within}, Results.by_ok}
-use Rattle.crx_compact.proofs.ComeRows.{row-new}
-use Rattle.crx_compact.proofs.{Making.{taken_all, taken_more}, RowByRow.{all-at, all-next}}
-use Rattle.crx_compact.proofs.{placing.Prepared.asked-more}
+use Rattle.crx_compact.proofs.Vocabulary.{◌≡◌, ◌++◌, ◌∷◌, [], ℕ, ℤ, List, Option, true, not, length, take, sym, ap}
+use Rattle.crx_compact.proofs.Vocabulary.{◌∙◌, subst, arith, if◌then◌else◌, is_ok, eqb-true, length-map}
+use Rattle.crx_compact.proofs.Vocabulary.{satellites_of, has_satellite, Row, HasRoom, OpenHistory, PendingLines}
+use Rattle.crx_compact.proofs.Vocabulary.{row_of_parts, tail_of_history, no_tail, row_tail_in, Tail}
+use Rattle.crx_compact.proofs.{Vocabulary.{AreRowsWritten, HaveRoom, slice_get_within}, GoodResults.by_ok}
+use Rattle.crx_compact.proofs.RowsByHistory.{row-new}
+use Rattle.crx_compact.proofs.{OneByOne.{taken_all, taken_more}, RowByRow.{all-at, all-next}}
+use Rattle.crx_compact.proofs.{placing.ReservedRoom.asked-more}
 use borrow.Author.Count.{falls}
 use Rattle.crx_compact.specs.{Written.IsRowWritten}
 use Rattle.crx_compact.proofs.history.History.encode.Goals as goal

@@ -1,5 +1,5 @@
-use Rattle.crx_compact.proofs.Words.{◌≡◌, ◌+◌, ◌-◌, if◌then◌else◌, length, take}
-use Rattle.crx_compact.proofs.Words.{HaveRoom, KeepsRooms, AreRowsWritten, tail_of_history, no_tail}
+use Rattle.crx_compact.proofs.Vocabulary.{◌≡◌, ◌+◌, ◌-◌, if◌then◌else◌, length, take}
+use Rattle.crx_compact.proofs.Vocabulary.{HaveRoom, KeepsRooms, AreRowsWritten, tail_of_history, no_tail}
 use Rattle.crx_compact.specs.{Placing.HasAskedRoom, declared.block.TheConstants.{FIRST_LINES, LINES_LIMIT}}
 use Rattle.crx_compact.proofs.history.History.encode.Given as goal
 

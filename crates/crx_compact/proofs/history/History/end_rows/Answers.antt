@@ -1,12 +1,12 @@
-use Rattle.crx_compact.proofs.Words.{rules, ◌≡◌, ◌++◌, ◌+◌, ◌*◌, List, ℕ, ap, ◌∙◌, sym, without_end_blanks}
-use Rattle.crx_compact.proofs.Words.{text_difference, take, length, arith, code_text}
-use Rattle.crx_compact.proofs.Words.{code_of_value, epoch_text, flat_map}
-use Rattle.crx_compact.proofs.Words.{OpenHistory, Row, RowTail, row_tail_in}
-use Rattle.crx_compact.proofs.{Words.{epoch_by_rows}, SoundTexts.difference-trimmed}
-use Rattle.crx_compact.proofs.{Making.ok-unless}
+use Rattle.crx_compact.proofs.Vocabulary.{rules, ◌≡◌, ◌++◌, ◌+◌, ◌*◌, List, ℕ, ap, ◌∙◌, sym, without_end_blanks}
+use Rattle.crx_compact.proofs.Vocabulary.{text_difference, take, length, arith, code_text}
+use Rattle.crx_compact.proofs.Vocabulary.{code_of_value, epoch_text, flat_map}
+use Rattle.crx_compact.proofs.Vocabulary.{OpenHistory, Row, RowTail, row_tail_in}
+use Rattle.crx_compact.proofs.{Vocabulary.{epoch_by_rows}, SoundTexts.difference-trimmed}
+use Rattle.crx_compact.proofs.{OneByOne.ok-unless}
 use Rattle.std.proofs.lemmas.List.Folds.{flat_map-map}
 use Rattle.crx_text.proofs.CodeTexts.{code_text_length}
-use Rattle.crx_compact.proofs.wayback.Standing.{difference-length}
+use Rattle.crx_compact.proofs.wayback.LinesInFiles.{difference-length}
 use Rattle.crx_compact.proofs.history.History.end_rows.Goals.{After-bytes-2}
 use Rattle.crx_compact.proofs.history.History.end_rows.Goals as goal
 use Rattle.std.proofs.lemmas.Grind.{common_steps}

@@ -1,6 +1,6 @@
-use Rattle.crx_compact.proofs.Words.{arith, rules, ap, sym, ◌∙◌, slice_get, option_map, slice_get-map}
-use Rattle.crx_compact.proofs.Words.{same_Some, shown_row}
-use Rattle.crx_compact.proofs.Words.{IsAwaitedSatellite, OpenHistory, satellite_of}
+use Rattle.crx_compact.proofs.Vocabulary.{arith, rules, ap, sym, ◌∙◌, slice_get, option_map, slice_get-map}
+use Rattle.crx_compact.proofs.Vocabulary.{same_Some, shown_row}
+use Rattle.crx_compact.proofs.Vocabulary.{IsAwaitedSatellite, OpenHistory, satellite_of}
 use Rattle.crx_compact.proofs.{RowByRow.{all-at, is-there}, ShownEpochs.row-shown}
 use Rattle.crx_compact.specs.Placing.{row_tail_of}
 use Rattle.std.proofs.lemmas.Grind.{common_steps}

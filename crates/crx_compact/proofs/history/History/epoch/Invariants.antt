@@ -1,4 +1,4 @@
-use Rattle.crx_compact.proofs.Words.{◌≡◌, tail_of_history, shown_epoch}
+use Rattle.crx_compact.proofs.Vocabulary.{◌≡◌, tail_of_history, shown_epoch}
 use Rattle.crx_compact.proofs.history.History.epoch.Given as goal
 
 -- the rows up to an index are put into the epoch

@@ -1,5 +1,5 @@
-use Rattle.crx_compact.proofs.Words.{ap, ◌∙◌, ◌≡◌, columns, HEAD_WIDTH, Epoch}
-use Rattle.crx_compact.proofs.{Words.{OpenHistory}, ShownEpochs.{line-made, made-line}}
+use Rattle.crx_compact.proofs.Vocabulary.{ap, ◌∙◌, ◌≡◌, columns, HEAD_WIDTH, Epoch}
+use Rattle.crx_compact.proofs.{Vocabulary.{OpenHistory}, ShownEpochs.{line-made, made-line}}
 use Rattle.std.proofs.Common.{is_some, arith}
 use Rattle.crx_compact.proofs.history.History.head.Goals as goal
 use Rattle.std.proofs.lemmas.Grind.{common_steps}

@@ -1,6 +1,6 @@
-use Rattle.crx_compact.proofs.Words.{◌≡◌, ◌+◌, ◌-◌, sym, ap, subst, ◌∙◌, arith}
-use Rattle.crx_compact.proofs.Words.{OpenHistory}
-use Rattle.crx_compact.proofs.Words.{Some, slice_get, tail_of_history}
+use Rattle.crx_compact.proofs.Vocabulary.{◌≡◌, ◌+◌, ◌-◌, sym, ap, subst, ◌∙◌, arith}
+use Rattle.crx_compact.proofs.Vocabulary.{OpenHistory}
+use Rattle.crx_compact.proofs.Vocabulary.{Some, slice_get, tail_of_history}
 use Rattle.crx_compact.proofs.reading.Announced.{rows-allowed, rows-few}
 use Rattle.crx_compact.proofs.{PrintedBlocks.{row-printed}, RowByRow.{all-at}}
 use Rattle.crx_compact.specs.{Placing.{HasAllowedCount, row_tail_of}, PrintedBlocks.IsPrinted}

@@ -1,4 +1,4 @@
-use Rattle.crx_compact.proofs.Words.{rules, ap, refl, ReadCell, shown_value, Missing, None}
+use Rattle.crx_compact.proofs.Vocabulary.{rules, ap, refl, ReadCell, shown_value, Missing, None}
 use Rattle.crx_compact.proofs.{CellsRead.shown-code, Marks.none-there}
 use Rattle.crx_compact.proofs.history.History.read_clock.Goals as goal
 

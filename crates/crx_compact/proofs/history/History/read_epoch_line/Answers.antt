@@ -1,11 +1,11 @@
-use Rattle.crx_compact.proofs.Words.{◌≡◌, List, ℕ}
-use Rattle.crx_compact.proofs.Words.{map, ap, arith, length, ◌≤◌}
-use Rattle.crx_compact.proofs.Words.{◌∙◌, rules, err_from_is_err_and}
-use Rattle.crx_compact.proofs.Words.{patched, past_of_tail}
-use Rattle.crx_compact.proofs.Words.{satellites_of_line, satellites_of_text}
-use Rattle.crx_compact.proofs.Words.{OpenHistory, PlacedRows, padded_among, tail_of_history}
-use Rattle.crx_compact.proofs.{Words.{RowTail, and_parts, satellite_of}, Results.{by_ok}}
-use Rattle.crx_compact.proofs.{NamedAgain.named-kept, AnnouncedRows.announced-rows, EpochLines.text-few}
+use Rattle.crx_compact.proofs.Vocabulary.{◌≡◌, List, ℕ}
+use Rattle.crx_compact.proofs.Vocabulary.{map, ap, arith, length, ◌≤◌}
+use Rattle.crx_compact.proofs.Vocabulary.{◌∙◌, rules, err_from_is_err_and}
+use Rattle.crx_compact.proofs.Vocabulary.{patched, past_of_tail}
+use Rattle.crx_compact.proofs.Vocabulary.{satellites_of_line, satellites_of_text}
+use Rattle.crx_compact.proofs.Vocabulary.{OpenHistory, PlacedRows, padded_among, tail_of_history}
+use Rattle.crx_compact.proofs.{Vocabulary.{RowTail, and_parts, satellite_of}, GoodResults.{by_ok}}
+use Rattle.crx_compact.proofs.{RepeatedNames.named-kept, AnnouncedRows.announced-rows, EpochLines.text-few}
 use Rattle.crx_compact.proofs.history.History.read_epoch_line.Goals.{After-bytes-text}
 use Rattle.crx_compact.proofs.history.History.read_epoch_line.Goals as goal
 use Rattle.std.proofs.lemmas.Grind.{common_steps}
@@ -32,8 +32,8 @@ put_first-requires c =
     search (rules, short)
 
 -- the rows of the previous epoch are expected
-awaited : (c : After-bytes-text) → c.begin.new.self.rest ≡ c.args.self.now.satellites.rows
-awaited c = ap (λ (p : PlacedRows). p.rest) c.begin.ensures.begun
+awaited : (c : After-bytes-text) → c.begin_epoch.new.self.rest ≡ c.args.self.now.satellites.rows
+awaited c = ap (λ (p : PlacedRows). p.rest) c.begin_epoch.ensures.begun
     ∙ ap (λ (h : OpenHistory). h.satellites.rows) c.self.view_is
 
 -- if no mark is in the columns of their identifiers, the text names the expected satellites

@@ -1,5 +1,5 @@
-use Rattle.crx_compact.proofs.Words.{arith}
-use Rattle.crx_compact.proofs.Words.{same_Some}
+use Rattle.crx_compact.proofs.Vocabulary.{arith}
+use Rattle.crx_compact.proofs.Vocabulary.{same_Some}
 use Rattle.crx_compact.proofs.RowByRow.{all-at}
 use Rattle.std.proofs.lemmas.Result.{IfErr-weaker}
 use Rattle.crx_compact.specs.Placing.{HasAllowedCount, IsLeftAt, IsStoredAt}

@@ -1,9 +1,9 @@
-use Rattle.crx_compact.proofs.Words.{rules, ◌≡◌, ◌-◌, List, length, not, ap, err_from_is_err_and}
-use Rattle.crx_compact.proofs.Words.{sym, ◌∙◌, refl, subst, false≢true, has_satellite, PlacedRows, Row}
-use Rattle.crx_compact.proofs.Words.{HasRoom, KeepsRooms, OpenHistory, row_of_parts, arith}
-use Rattle.crx_compact.proofs.Words.{Tail, AreRowsWritten}
+use Rattle.crx_compact.proofs.Vocabulary.{rules, ◌≡◌, ◌-◌, List, length, not, ap, err_from_is_err_and}
+use Rattle.crx_compact.proofs.Vocabulary.{sym, ◌∙◌, refl, subst, false≢true, has_satellite, PlacedRows, Row}
+use Rattle.crx_compact.proofs.Vocabulary.{HasRoom, KeepsRooms, OpenHistory, row_of_parts, arith}
+use Rattle.crx_compact.proofs.Vocabulary.{Tail, AreRowsWritten}
 use Rattle.crx_compact.proofs.{Writing.{come-already, no-row, written-next}}
-use Rattle.crx_compact.proofs.{placing.Placed.placed-asked}
+use Rattle.crx_compact.proofs.{placing.AddingAnswers.placed-asked}
 use Rattle.crx_compact.proofs.placing.SteppedRows.{IsLastStored, come-stored, last-within}
 use Rattle.crx_compact.specs.{Placing.{HasCome, IsPlaced, SatelliteTail}, contracts.history.History.the_view}
 use Rattle.crx_compact.proofs.history.History.write_row.Goals.{After-unwrap-satellite, Joined-place}
@@ -56,9 +56,9 @@ returns-then-not-is_new-clause-written c = λ after rows written.
 -- the history of the satellite that was added
 stored : (c : After-unwrap-satellite) → HasCome c.args.name.now c.self.inside.satellites
     c.match-place.self-inside.satellites
-    → IsLastStored c.args.name.now (c.placed-last.result - 1) c.self.inside.satellites
+    → IsLastStored c.args.name.now (c.placed_count-last.result - 1) c.self.inside.satellites
     c.match-place.self-inside.satellites c.unwrap-satellite.result.now
-stored c come = come-stored _ _ _ _ _ come (ap (λ n. n - 1) c.placed-last.ensures.value)
+stored c come = come-stored _ _ _ _ _ come (ap (λ n. n - 1) c.placed_count-last.ensures.value)
     (rw (c.unwrap-satellite.ensures) at c.entry_mut.ensures.there)
 
 pub entry_mut-requires : goal.entry_mut-requires
@@ -94,7 +94,7 @@ returns-clause-written c = λ after rows written.
         answer = sym c.if-not-is_new.false ∙ answer at.Joined-place after rows written;
         written = λ is. written-next after rows row c.args.self.now _ before
             c.match-place.self-inside.satellites
-            (c.placed-last.result - 1) c.unwrap-satellite.result.now c.put_row.new.satellite
+            (c.placed_count-last.result - 1) c.unwrap-satellite.result.now c.put_row.new.satellite
             c.args.lines.now.lines
             c.put_row.new.self.lines same written c.requires.sound
             (no-row after rows c.args.self.now c.args.lines.now.lines before row.name c.match-place.is_new

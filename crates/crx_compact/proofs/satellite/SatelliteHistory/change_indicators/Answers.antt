@@ -1,6 +1,6 @@
-use Rattle.crx_compact.proofs.Words.{rules, few_kept, take_at, ◌≡◌, ◌*◌, ap, sym, ◌∙◌, arith, drop, length}
+use Rattle.crx_compact.proofs.Vocabulary.{rules, few_kept, take_at, ◌≡◌, ◌*◌, ap, sym, ◌∙◌, arith, drop, length}
 use Rattle.crx_compact.proofs.satellite.SatelliteHistory.change_indicators.Goals.{After-put_first}
-use Rattle.crx_compact.proofs.{Words.{length-each_place, subst, take}, wayback.Standing.difference-length}
+use Rattle.crx_compact.proofs.{Vocabulary.{length-each_place, subst, take}, wayback.LinesInFiles.difference-length}
 use Rattle.crx_compact.proofs.SoundTexts.{before-trimmed}
 use Rattle.std.proofs.lemmas.List.{length-take}
 use Rattle.crx_compact.specs.{HeldRows.AreHeldFlags, Placing.SatelliteTail}

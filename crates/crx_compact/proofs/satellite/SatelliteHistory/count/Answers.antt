@@ -1,5 +1,5 @@
 use Rattle.std.proofs.{lemmas.Grind.common_steps, Common.{arith, refl}}
-use Rattle.crx_compact.proofs.{Words.length-each_place, Resizing.fewer-types}
+use Rattle.crx_compact.proofs.{Vocabulary.length-each_place, Resizing.fewer-types}
 use Rattle.crx_compact.proofs.satellite.SatelliteHistory.count.Goals as goal
 
 pub returns-clause-value : goal.returns-clause-value

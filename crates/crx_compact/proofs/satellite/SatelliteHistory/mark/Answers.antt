@@ -1,4 +1,4 @@
-use Rattle.crx_compact.proofs.Words.{rules, length-each_place, length-take-le}
+use Rattle.crx_compact.proofs.Vocabulary.{rules, length-each_place, length-take-le}
 use Rattle.crx_compact.proofs.CellsFor.{cells-again}
 use Rattle.crx_compact.proofs.SoundTexts.{before-trimmed, same-text}
 use Rattle.crx_compact.proofs.satellite.SatelliteHistory.mark.Goals as goal

@@ -1,9 +1,9 @@
-use Rattle.crx_compact.proofs.Words.{rules, ◌≡◌, ◌≤◌, ◌+◌, ◌*◌, ◌++◌}
-use Rattle.crx_compact.proofs.Words.{List, ℕ, ap, sym, ◌∙◌, arith}
-use Rattle.crx_compact.proofs.Words.{common_steps, length, length-each_place, length-map, length-take-le, map}
+use Rattle.crx_compact.proofs.Vocabulary.{rules, ◌≡◌, ◌≤◌, ◌+◌, ◌*◌, ◌++◌}
+use Rattle.crx_compact.proofs.Vocabulary.{List, ℕ, ap, sym, ◌∙◌, arith}
+use Rattle.crx_compact.proofs.Vocabulary.{common_steps, length, length-each_place, length-map, length-take-le, map}
 use Rattle.crx_compact.proofs.satellite.SatelliteHistory.print_line.Goals.{After-self, then-arcs-count}
 use Rattle.crx_compact.proofs.satellite.SatelliteHistory.print_line.Goals.{else-arcs-count}
-use Rattle.crx_compact.proofs.{Words.{take, columns, shown_value}, SoundTexts.columns-trimmed}
+use Rattle.crx_compact.proofs.{Vocabulary.{take, columns, shown_value}, SoundTexts.columns-trimmed}
 use Rattle.crx_compact.proofs.{CellsFor.{values-past}}
 use Rattle.std.proofs.{lemmas.List.{drop_all}}
 use Rattle.crx_text.proofs.WrittenTexts.{line-written}

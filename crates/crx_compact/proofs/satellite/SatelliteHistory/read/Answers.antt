@@ -1,7 +1,7 @@
 use Rattle.crx_compact.proofs.SatelliteLines.{cells-refused, flags-refused, indicators-left, no-marks}
-use Rattle.crx_compact.proofs.Words.{arith, common_steps, rules, length-take-le, take_at, err_from_is_err_and}
+use Rattle.crx_compact.proofs.Vocabulary.{arith, common_steps, rules, length-take-le, take_at, err_from_is_err_and}
 use Rattle.crx_compact.proofs.{SatelliteLines.stored-read, Marks.{none-there, on-both}}
-use Rattle.crx_compact.proofs.Words.{length-each_place}
+use Rattle.crx_compact.proofs.Vocabulary.{length-each_place}
 use Rattle.std.proofs.{lemmas.Result.IfErr-weaker, lemmas.List.take_rest}
 use Rattle.crx_base.specs.Padded.{line_in}
 use Rattle.crx_compact.proofs.satellite.SatelliteHistory.read.Goals as goal

@@ -1,9 +1,9 @@
-use Rattle.crx_compact.proofs.Words.{rules, ◌≡◌, ◌++◌, arith}
-use Rattle.crx_compact.proofs.Words.{common_steps, ◌*◌, ◌-◌, take, replicate}
+use Rattle.crx_compact.proofs.Vocabulary.{rules, ◌≡◌, ◌++◌, arith}
+use Rattle.crx_compact.proofs.Vocabulary.{common_steps, ◌*◌, ◌-◌, take, replicate}
 use Rattle.crx_compact.proofs.Resizing.{fewer-held, fewer-types, more-held, more-types}
 use Rattle.crx_compact.proofs.satellite.SatelliteHistory.resize.Goals.{After-put_blanks}
 use borrow.Rule.Slice.PartMut.{put_mid}
-use Rattle.crx_compact.proofs.{CellsFor.{blanks-put, cells-cut}, Words.take_at}
+use Rattle.crx_compact.proofs.{CellsFor.{blanks-put, cells-cut}, Vocabulary.take_at}
 use Rattle.std.proofs.lemmas.List.{length-take}
 use Rattle.std.specs.Prelude.{vec_capacity}
 use Rattle.crx_compact.proofs.satellite.SatelliteHistory.resize.Goals as goal

@@ -3,7 +3,7 @@ use Rattle.std.proofs.{lemmas.List.{length-map, length-take-le, length-replicate
 use Rattle.std.proofs.lemmas.Option.{slice_get-get_or}
 use Rattle.crx_rinex.specs.SatelliteLines.{with_value}
 use Rattle.crx_compact.proofs.{CellsFor.{cell-there, length-cells}, ShownRows.{row-all, row-more}}
-use Rattle.crx_compact.proofs.{SoundTexts.columns-trimmed, Words.length-each_place}
+use Rattle.crx_compact.proofs.{SoundTexts.columns-trimmed, Vocabulary.length-each_place}
 use Rattle.crx_compact.specs.ArcSteps.{shown_value}
 use Rattle.crx_compact.proofs.satellite.SatelliteHistory.row.Goals as goal
 use Rattle.crx_compact.proofs.satellite.SatelliteHistory.row.Goals.{in-Some, in-None}

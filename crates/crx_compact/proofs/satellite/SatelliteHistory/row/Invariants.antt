@@ -1,4 +1,4 @@
-use Rattle.crx_compact.proofs.Words.{◌≡◌, ◌-◌, ◌*◌, ◌++◌, None, map, take, replicate, shown_value}
+use Rattle.crx_compact.proofs.Vocabulary.{◌≡◌, ◌-◌, ◌*◌, ◌++◌, None, map, take, replicate, shown_value}
 use Rattle.crx_compact.proofs.satellite.SatelliteHistory.row.Given as goal
 
 -- the values up to a place are put into the row

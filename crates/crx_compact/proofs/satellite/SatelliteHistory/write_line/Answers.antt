@@ -1,5 +1,5 @@
-use Rattle.crx_compact.proofs.Words.{rules, List, Option, ArcTail, ◌≡◌, ◌∙◌, ap}
-use Rattle.crx_compact.proofs.Words.{length, length-each_place, arith, common_steps}
+use Rattle.crx_compact.proofs.Vocabulary.{rules, List, Option, ArcTail, ◌≡◌, ◌∙◌, ap}
+use Rattle.crx_compact.proofs.Vocabulary.{length, length-each_place, arith, common_steps}
 use Rattle.crx_compact.proofs.satellite.SatelliteHistory.write_line.Goals.{After-self}
 use Rattle.crx_compact.proofs.placing.SteppedRows.{arcs-marked, codes-marked}
 use Rattle.crx_compact.specs.Placing.{SatelliteTail, cells_for}

@@ -1,8 +1,8 @@
 use Rattle.std.proofs.Common.{rules, ap, sym, ◌∙◌, arith, option_map}
 use Rattle.std.specs.Map.Iter.{deref_pair}
 use Rattle.crx_compact.proofs.RowByRow.{room-known}
-use Rattle.crx_compact.proofs.placing.Found.{found-same}
-use Rattle.crx_compact.proofs.placing.{Placed.{placed-exchanged, placed-next, placed-not}, PutNext.put-same}
+use Rattle.crx_compact.proofs.placing.LookUps.{found-same}
+use Rattle.crx_compact.proofs.placing.{AddingAnswers.{placed-exchanged, placed-next, placed-not}, PutNext.put-same}
 use Rattle.crx_compact.proofs.satellites.Satellites.place.Goals as goal
 
 pub key_at-requires : goal.key_at-requires

@@ -2,7 +2,7 @@ use Rattle.std.proofs.Common.{rules, arith}
 use Rattle.std.proofs.{lemmas.Option.{slice_get_within}}
 use Rattle.indexmap.specs.{Layout.length-set_value_at}
 use Rattle.crx_compact.proofs.placing.EntryChanges.{has-room, rooms-changed}
-use Rattle.crx_compact.proofs.placing.Prepared.{front-same, none-lost, range-same, rows-before, rows-same}
+use Rattle.crx_compact.proofs.placing.ReservedRoom.{front-same, none-lost, range-same, rows-before, rows-same}
 use Rattle.crx_compact.proofs.satellites.Satellites.prepare.Goals as goal
 
 pub pair_mut-satellite-requires : goal.pair_mut-satellite-requires

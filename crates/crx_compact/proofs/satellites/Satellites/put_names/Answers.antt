@@ -1,5 +1,5 @@
-use Rattle.crx_compact.proofs.Words.{◌≡◌, ◌+◌, ◌*◌, ℕ, List, ap, ◌∙◌, arith, take}
-use Rattle.crx_compact.proofs.{Words.RowTail, Making.texts_more}
+use Rattle.crx_compact.proofs.Vocabulary.{◌≡◌, ◌+◌, ◌*◌, ℕ, List, ap, ◌∙◌, arith, take}
+use Rattle.crx_compact.proofs.{Vocabulary.RowTail, OneByOne.texts_more}
 use Rattle.crx_compact.proofs.placing.{Orders.length-in_order, SteppedRows.{row-here, rows-counted}}
 use Rattle.crx_compact.specs.{Entries.in_order, Placing.row_tail_of}
 use Rattle.crx_compact.proofs.satellites.Satellites.put_names.Goals as goal

@@ -1,4 +1,4 @@
-use Rattle.crx_compact.proofs.Words.{◌≡◌, ◌+◌, ◌*◌, ◌++◌, take, RowTail}
+use Rattle.crx_compact.proofs.Vocabulary.{◌≡◌, ◌+◌, ◌*◌, ◌++◌, take, RowTail}
 use Rattle.std.specs.List.{flat_map}
 use Rattle.crx_compact.proofs.satellites.Satellites.put_names.Given as goal
 

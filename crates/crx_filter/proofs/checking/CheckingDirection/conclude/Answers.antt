@@ -1,4 +1,4 @@
-use Rattle.crx_filter.proofs.{Words.ap, steps.CheckerEnds.found-at-end}
+use Rattle.crx_filter.proofs.{Vocabulary.ap, steps.CheckerEnds.found-at-end}
 use Rattle.crx_filter.specs.meaning.Standard.{Findings, report_lines}
 use Rattle.crx_filter.proofs.checking.CheckingDirection.conclude.Goals as goal
 

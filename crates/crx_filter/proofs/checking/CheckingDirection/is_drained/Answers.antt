@@ -1,4 +1,4 @@
-use Rattle.{crx_filter.proofs.{Words.rules, steps.CheckerSteps.all-out}, std.proofs.lemmas.List.drop_all}
+use Rattle.{crx_filter.proofs.{Vocabulary.rules, steps.CheckerSteps.all-out}, std.proofs.lemmas.List.drop_all}
 use Rattle.crx_filter.proofs.checking.CheckingDirection.is_drained.Goals as goal
 
 pub returns : goal.returns

@@ -1,4 +1,4 @@
-use Rattle.crx_filter.proofs.Words.{◌≡◌, ℕ, zero, suc, List, [], ◌∷◌, refl, drop}
+use Rattle.crx_filter.proofs.Vocabulary.{◌≡◌, ℕ, zero, suc, List, [], ◌∷◌, refl, drop}
 use Rattle.std.{proofs.lemmas.List.drop-drop, specs.List.slice_get}
 use Rattle.crx_filter.specs.{Totals.found_held, meaning.Standard.report_lines}
 use Rattle.crx_filter.proofs.checking.CheckingDirection.next_line.Goals as goal

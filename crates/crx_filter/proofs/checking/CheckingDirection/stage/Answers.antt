@@ -1,4 +1,4 @@
-use Rattle.crx_filter.proofs.{following.CheckGoes.check-goes, steps.CheckerSteps.passes-nothing}
+use Rattle.crx_filter.proofs.{following.CheckByFilter.check-goes, steps.CheckerSteps.passes-nothing}
 use Rattle.crx_filter.proofs.checking.CheckingDirection.stage.Goals as goal
 
 pub returns-clause-lawful : goal.returns-clause-lawful

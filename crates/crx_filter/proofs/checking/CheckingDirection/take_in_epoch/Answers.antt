@@ -1,5 +1,5 @@
-use Rattle.crx_filter.proofs.Words.{◌≡◌, ap, has_satellite, not, sym, subst, true, ◌∙◌, List}
-use Rattle.crx_filter.proofs.Words.{Count, Row, is_open_stage, row_of}
+use Rattle.crx_filter.proofs.Vocabulary.{◌≡◌, ap, has_satellite, not, sym, subst, true, ◌∙◌, List}
+use Rattle.crx_filter.proofs.Vocabulary.{Count, Row, is_open_stage, row_of}
 use Rattle.crx_base.specs.Padded.{line_in}
 use Rattle.crx_filter.specs.{CheckingParts.AreNamed, Totals.IsObserved}
 use Rattle.crx_filter.proofs.steps.CheckerSteps.{named-answer, named-next, named-still, noted-takes}

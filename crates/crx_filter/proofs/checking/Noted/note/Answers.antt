@@ -1,12 +1,12 @@
-use Rattle.crx_filter.proofs.Checkers.{begun-printed, copied-printed, first-line, none-passed}
+use Rattle.crx_filter.proofs.CheckCounts.{begun-printed, copied-printed, first-line, none-passed}
 use Rattle.crx_filter.proofs.Reports.{version-same}
-use Rattle.crx_filter.proofs.Checkers.{unclocked-printed}
-use Rattle.crx_filter.proofs.Words.{◌≡◌, ◌∙◌, ◌||◌, ◌&&◌, not, ap, sym, subst}
-use Rattle.crx_filter.proofs.Words.{arith, bytes_eq, columns, common_steps}
-use Rattle.crx_filter.proofs.Words.{ℕ, Bool, false, Option, Some, is_some}
-use Rattle.crx_filter.proofs.Words.{without_end_blanks, last_line, earliest}
-use Rattle.crx_filter.proofs.Words.{Begun, Made, ObservationEpoch, OpenEpoch}
-use Rattle.crx_filter.proofs.Words.{printed_made, reader_phase, RinexReader, TakesRinexLine}
+use Rattle.crx_filter.proofs.CheckCounts.{unclocked-printed}
+use Rattle.crx_filter.proofs.Vocabulary.{◌≡◌, ◌∙◌, ◌||◌, ◌&&◌, not, ap, sym, subst}
+use Rattle.crx_filter.proofs.Vocabulary.{arith, bytes_eq, columns, common_steps}
+use Rattle.crx_filter.proofs.Vocabulary.{ℕ, Bool, false, Option, Some, is_some}
+use Rattle.crx_filter.proofs.Vocabulary.{without_end_blanks, last_line, earliest}
+use Rattle.crx_filter.proofs.Vocabulary.{Begun, Made, ObservationEpoch, OpenEpoch}
+use Rattle.crx_filter.proofs.Vocabulary.{printed_made, reader_phase, RinexReader, TakesRinexLine}
 use Rattle.crx_filter.specs.{CheckByLine.totals_made, CompactionByLine.is_before_header}
 use Rattle.crx_filter.specs.Totals.{HasPrinted, totals_held}
 use Rattle.crx_filter.proofs.checking.Noted.note.Goals.{After-is_some, in-Header-true, in-Event}
@@ -55,7 +55,7 @@ adds c before made takes = elim c.match-step.branch [
   )
   | in-Event w ↦ grind (arith, common_steps, copied-printed)
   | in-Begun+in-Some+then-is_none w ↦
-      let columns_are = w.end_trimmed.ensures.value
+      let columns_are = w.trim_end_columns.ensures.value
       ∙ ap (λ h. without_end_blanks (columns h 1 HEAD_WIDTH)) w.columns.ensures.value in
       let printed =
       unclocked-printed made before c.args.reader.now (line_shown c.args.line).content w.in-Some.head

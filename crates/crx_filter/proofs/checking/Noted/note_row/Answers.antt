@@ -1,6 +1,6 @@
-use Rattle.crx_filter.proofs.Checkers.{row-made}
-use Rattle.crx_filter.proofs.Words.{◌≡◌, ◌+◌, arith, common_steps, Made, ObservationEpoch, OpenEpoch}
-use Rattle.crx_filter.proofs.Words.{RinexReader, TakesRow, reader_phase}
+use Rattle.crx_filter.proofs.CheckCounts.{row-made}
+use Rattle.crx_filter.proofs.Vocabulary.{◌≡◌, ◌+◌, arith, common_steps, Made, ObservationEpoch, OpenEpoch}
+use Rattle.crx_filter.proofs.Vocabulary.{RinexReader, TakesRow, reader_phase}
 use Rattle.crx_filter.specs.{CheckByLine.totals_made, CompactionByLine.is_before_header}
 use Rattle.crx_filter.specs.Totals.{IsObserved, totals_held}
 use Rattle.crx_filter.proofs.checking.Noted.note_row.Goals.{After-is_some}

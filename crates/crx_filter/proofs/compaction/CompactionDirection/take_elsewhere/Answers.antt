@@ -1,14 +1,14 @@
-use Rattle.crx_filter.proofs.Words.{common_steps, arith, ap, refl, sym, ◌∙◌}
-use Rattle.crx_filter.proofs.Words.{◌≡◌, ◌+◌, true, false, Choices, Header}
-use Rattle.{crx_filter.proofs.Words.is_at_every, crx_compact.specs.Encoding.EncoderState}
+use Rattle.crx_filter.proofs.Vocabulary.{common_steps, arith, ap, refl, sym, ◌∙◌}
+use Rattle.crx_filter.proofs.Vocabulary.{◌≡◌, ◌+◌, true, false, Choices, Header}
+use Rattle.{crx_filter.proofs.Vocabulary.is_at_every, crx_compact.specs.Encoding.EncoderState}
 use Rattle.crx_filter.proofs.steps.CompactionKnows.{compaction_of, copied-takes}
 use Rattle.crx_filter.proofs.steps.CompactionKnows.{ended-takes, kept_in, moved-takes}
 use Rattle.crx_filter.proofs.steps.CompactionKnows.{refused-takes}
 use Rattle.crx_filter.proofs.steps.CompactionSteps.{copied-closed, is_copied, is_first_line}
-use Rattle.crx_filter.proofs.steps.Together.{begun-asked, begun-open, begun-rows}
-use Rattle.crx_filter.proofs.steps.Together.{begun-together, begun-whole, closed-together, none-there}
-use Rattle.crx_filter.proofs.steps.Together.{same-together, served-closed, served-open}
-use Rattle.{crx_filter.proofs.compaction.CompactionDirection.take_elsewhere.Goals.{After-begin, After-reset}}
+use Rattle.crx_filter.proofs.steps.CompactionParts.{begun-asked, begun-open, begun-rows}
+use Rattle.crx_filter.proofs.steps.CompactionParts.{begun-together, begun-whole, closed-together, none-there}
+use Rattle.crx_filter.proofs.steps.CompactionParts.{same-together, served-closed, served-open}
+use Rattle.{crx_filter.proofs.compaction.CompactionDirection.take_elsewhere.Goals.{After-begin_epoch, After-reset}}
 use Rattle.crx_filter.proofs.compaction.CompactionDirection.take_elsewhere.Goals.{
   in_default-via-in-Header+else-this,
 }
@@ -18,9 +18,9 @@ use Rattle.std.proofs.lemmas.Result.{err_from_is_err_and}
 use Rattle.crx_filter.proofs.compaction.CompactionDirection.take_elsewhere.Goals as goal
 
 -- an epoch that was begun is full if it is due
-due : (c : After-begin) (choices : Choices) → choices ≡ c.args.options.now
-    → c.begin.new.self.in_full ≡ is_at_every choices.every c.self.inside.index
-due c choices chosen = ap (λ (e : EncoderState). e.in_full) c.begin.ensures.begun ∙ c.is_at_every.ensures
+due : (c : After-begin_epoch) (choices : Choices) → choices ≡ c.args.options.now
+    → c.begin_epoch.new.self.in_full ≡ is_at_every choices.every c.self.inside.index
+due c choices chosen = ap (λ (e : EncoderState). e.in_full) c.begin_epoch.ensures.begun ∙ c.is_at_every.ensures
     ∙ ap (λ n. is_at_every n c.self.inside.index) c.every.ensures.value
     ∙ ap (λ (o : Choices). is_at_every o.every c.self.inside.index) (sym chosen)
 
@@ -68,15 +68,15 @@ returns-then-is_in_epoch c =
     let was = c.self.inside in
     let takes =
     rw (c.in-Begun.is, c.bytes.ensures.content) at (c.in_ok-take.ensures.reads.takes (kept_in was)) in
-    let begun = c.begin.ensures.begun in
+    let begun = c.begin_epoch.ensures.begun in
     let opened = sym c.is_in_epoch.ensures.value ∙ c.if-is_in_epoch.true in
     rw (← c.self.view_is) (record {
       takes = moved-takes _ (compaction_of was.index was.reader was.encoder)
-          (compaction_of was.index c.take.new.self c.begin.new.self)
+          (compaction_of was.index c.take.new.self c.begin_epoch.new.self)
           (line_shown c.args.line) _
           (begun-open _ _ _ takes opened) (rw begun refl)
           (λ choices chosen.
-          served-open _ _ _ (due (goal.at.returns-then-is_in_epoch c).After-begin choices chosen))
+          served-open _ _ _ (due (goal.at.returns-then-is_in_epoch c).After-begin_epoch choices chosen))
           (ap (λ (e : EncoderState). e.pending) begun);
     })
 
@@ -84,7 +84,7 @@ pub end_epoch-requires : goal.end_epoch-requires
 end_epoch-requires c =
     let begins = rw c.in-Begun.is at (c.in_ok-take.ensures.reads.takes (kept_in c.self.inside)) in
     record {
-      whole = begun-asked c.self.inside.encoder begins c.begin.ensures.begun
+      whole = begun-asked c.self.inside.encoder begins c.begin_epoch.ensures.begun
           (sym c.is_in_epoch.ensures.value ∙ c.if-is_in_epoch.false);
     }
 
@@ -100,14 +100,14 @@ returns-else-is_in_epoch c =
     let was = c.self.inside in
     let takes =
     rw (c.in-Begun.is, c.bytes.ensures.content) at (c.in_ok-take.ensures.reads.takes (kept_in was)) in
-    let begun = c.begin.ensures.begun in
+    let begun = c.begin_epoch.ensures.begun in
     let done = begun-whole _ _ _ takes (sym c.is_in_epoch.ensures.value ∙ c.if-is_in_epoch.false) in
     let ends = c.end_epoch.ensures.ends done.head done.held in
     rw (← c.self.view_is) (record {
       takes = ended-takes _ (compaction_of was.index was.reader was.encoder)
           (compaction_of (was.index + 1) c.take.new.self c.end_epoch.new.encoder) (line_shown c.args.line) _
           done
-          c.begin.new.self (due (goal.at.returns-else-is_in_epoch c).After-begin)
+          c.begin_epoch.new.self (due (goal.at.returns-else-is_in_epoch c).After-begin_epoch)
           (ap (λ (e : EncoderState). e.before) begun) (begun-rows was.encoder takes begun)
           ends refl;
     })

@@ -1,9 +1,9 @@
-use Rattle.crx_filter.proofs.Words.{ap, refl, ◌+◌, ◌∙◌, None}
+use Rattle.crx_filter.proofs.Vocabulary.{ap, refl, ◌+◌, ◌∙◌, None}
 use Rattle.crx_compact.specs.Encoding.{EncoderState}
 use Rattle.crx_filter.proofs.steps.CompactionKnows.{compaction_of, ended-takes}
 use Rattle.crx_filter.proofs.steps.CompactionKnows.{kept_in, moved-takes, refused-takes}
-use Rattle.crx_filter.proofs.steps.Together.{closed-together, due-there, row-asked, row-ends, row-moves}
-use Rattle.crx_filter.proofs.steps.Together.{row-together, served-open}
+use Rattle.crx_filter.proofs.steps.CompactionParts.{closed-together, due-there, row-asked, row-ends, row-moves}
+use Rattle.crx_filter.proofs.steps.CompactionParts.{row-together, served-open}
 use Rattle.{crx_lines.specs.Reading.line_shown, std.proofs.lemmas.Result.err_from_is_err_and}
 use Rattle.crx_filter.proofs.compaction.CompactionDirection.take_in_epoch.Goals as goal
 

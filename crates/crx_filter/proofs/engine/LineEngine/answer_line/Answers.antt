@@ -1,4 +1,4 @@
-use Rattle.crx_filter.proofs.{Words.begins_epoch, steps.{EngineAnswers.goes-on, EngineFaults.refused-read}}
+use Rattle.crx_filter.proofs.{Vocabulary.begins_epoch, steps.{EngineAnswers.goes-on, EngineFaults.refused-read}}
 use Rattle.{crx_filter.specs.declared.stage.Stage.TheVariants.Open, crx_lines.specs.Reading.line_shown}
 use Rattle.std.proofs.Common.{refl, sym, ap, ◌∙◌}
 use Rattle.crx_filter.proofs.engine.LineEngine.answer_line.Goals as goal

@@ -1,4 +1,4 @@
-use Rattle.crx_filter.proofs.Words.{common_steps, arith, sym, ◌∙◌, ◌≡◌, ap, and_parts, List, ℕ, Ok}
+use Rattle.crx_filter.proofs.Vocabulary.{common_steps, arith, sym, ◌∙◌, ◌≡◌, ap, and_parts, List, ℕ, Ok}
 use Rattle.crx_filter.proofs.steps.EngineAnswers.{goes-on}
 use Rattle.crx_filter.proofs.steps.EngineFaults.{ends-failed, ends-skipped, ends-well}
 use Rattle.crx_filter.proofs.engine.LineEngine.end.{Given.Over, Goals.{After-conclude, After-stage-stage}}
@@ -28,7 +28,7 @@ concluded g c step goes answered =
     let ends = c.conclude.ensures in
     let steps = ends-well d.by_line was.options was.number (d.parts was.direction) (d.parts
     c.conclude.new.self) c.stage-stage.result c.stage-stage.ensures.value c.stage-stage.ensures.held
-    c.in_default.not-Ended (ap (λ (p : DirectionParts _ _). p.types) ends.parts) (d.closing was.direction) (Ok
+    c.in_default.not-Ended (ap (λ (p : DirectionParts _ _). p.types) ends.parts) (d.lines_at_end was.direction) (Ok
     step) _ (answered ∙ ends.value) ends.ready (ap (λ (p : DirectionParts _ _). p.stage) ends.parts)
     (ap (λ (p : DirectionParts _ _). p.kept) ends.parts)
     (sym c.fault_at_end.ensures.value ∙ c.in_default-fault_at_end.is) in
@@ -53,7 +53,7 @@ returns-then-skip-may_skip g c =
         steps = grind (arith, common_steps, ends-skipped);
         closes = λ lines come known. (
           grind (arith, common_steps, ends-skipped),
-          g.D.Direction.skipping _ _ lines come.taken_as (sym c.skip.ensures.value ∙ on),
+          g.D.Direction.no_report_when_skipping _ _ lines come.taken_as (sym c.skip.ensures.value ∙ on),
         );
         stays = λ choices lines known. tt;
       };

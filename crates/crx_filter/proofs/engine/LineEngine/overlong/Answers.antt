@@ -1,5 +1,5 @@
-use Rattle.crx_filter.proofs.Words.{common_steps, arith, ap, refl, ◌∙◌, sym, ◌+◌, inl, List, [], ℕ, LineStep}
-use Rattle.crx_filter.proofs.Words.{step_made, LineTooLong, Overlong}
+use Rattle.crx_filter.proofs.Vocabulary.{common_steps, arith, ap, refl, ◌∙◌, sym, ◌+◌, inl, List, [], ℕ, LineStep}
+use Rattle.crx_filter.proofs.Vocabulary.{step_made, LineTooLong, Overlong}
 use Rattle.crx_filter.proofs.steps.EngineAnswers.{as-read-long, goes-on}
 use Rattle.crx_filter.proofs.steps.EngineFaults.{long-next, none-handed, refused-takes}
 use Rattle.crx_filter.specs.{DirectionParts.EngineParts, EngineState.engine_state}

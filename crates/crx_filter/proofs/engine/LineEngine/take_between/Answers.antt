@@ -1,4 +1,4 @@
-use Rattle.crx_filter.proofs.Words.{common_steps, arith, sym, refl, ap, ◌∙◌, begins_epoch, InputLine}
+use Rattle.crx_filter.proofs.Vocabulary.{common_steps, arith, sym, refl, ap, ◌∙◌, begins_epoch, InputLine}
 use Rattle.crx_filter.proofs.steps.EngineFaults.{handed-line, refused-read}
 use Rattle.{crx_filter.proofs.steps.EngineAnswers.goes-on, crx_lines.specs.Reading.line_shown}
 use Rattle.crx_filter.proofs.engine.LineEngine.take_between.Goals as goal

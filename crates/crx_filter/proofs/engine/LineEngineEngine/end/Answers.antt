@@ -4,7 +4,7 @@ use Rattle.std.proofs.Common.{length, ◌≡◌}
 use Rattle.crx_filter.proofs.engine.LineEngineEngine.end.Goals as goal
 
 pub returns-clause-stepped : goal.returns-clause-stepped
-returns-clause-stepped g c = end-stepped g.D.Direction.by_line (g.D.Direction.closing
+returns-clause-stepped g c = end-stepped g.D.Direction.by_line (g.D.Direction.lines_at_end
     c.args.self.now.direction) _ (engine_state g.D.Direction c.args.self.now) (engine_state g.D.Direction
     c.end.new.self) _ g.D.Direction.filter c.end.ensures.takes.steps
 

@@ -1,4 +1,4 @@
-use Rattle.crx_filter.proofs.{Words.{inl, [], Overlong}, steps.EngineAnswers.{as-read-long, line-answered}}
+use Rattle.crx_filter.proofs.{Vocabulary.{inl, [], Overlong}, steps.EngineAnswers.{as-read-long, line-answered}}
 use Rattle.crx_filter.proofs.steps.StepCounts.{answers-counted, has-stepped, steps-counted}
 use Rattle.crx_filter.specs.EngineState.{engine_state, engine_took}
 use Rattle.crx_filter.proofs.engine.LineEngineEngine.overlong.Goals as goal
@@ -12,8 +12,8 @@ returns-clause-answers g c = λ lines notices line shown awaited long.
     let d = g.D.Direction in
     let then = c.overlong.new.self in
     rw c.overlong.ensures.drained (answers-counted (d.filter c.args.self.now.options) (engine_took d then)
-    (d.report_is then.direction) _ _ [] lines notices line _ shown.1 (returns-clause-count g c)
-    (line-answered d c.args.self.now then (d.report_is then.direction) line Overlong _ (as-read-long line
+    (d.report_is_right then.direction) _ _ [] lines notices line _ shown.1 (returns-clause-count g c)
+    (line-answered d c.args.self.now then (d.report_is_right then.direction) line Overlong _ (as-read-long line
     long) (c.overlong.ensures.takes line long) lines notices shown.0 awaited))
 
 pub returns-clause-stepped : goal.returns-clause-stepped

@@ -1,4 +1,4 @@
-use Rattle.crx_filter.proofs.Words.{common_steps, arith, ◌≡◌, []}
+use Rattle.crx_filter.proofs.Vocabulary.{common_steps, arith, ◌≡◌, []}
 use Rattle.crx_filter.proofs.steps.ExpansionKnows.{expansion_of, reader-takes}
 use Rattle.{crx_lines.specs.Reading.line_shown, std.proofs.lemmas.Result.err_from_is_err_and}
 use Rattle.crx_filter.{proofs.expansion.ExpansionDirection.take_elsewhere.Goals.After-read_between}

@@ -4,8 +4,8 @@ use Rattle.crx_filter.proofs.expansion.ExpansionDirection.take_in_epoch.Goals as
 
 pub returns : goal.returns
 returns c =
-    let read = rw c.padded.ensures.content at c.go_on.ensures.reads in
+    let read = rw c.padded.ensures.content at c.continue_epoch.ensures.reads in
     rw (← c.self.view_is) (record {
-      takes = reader-takes c.self.inside.reader c.go_on.new.self _
-          (line_shown c.args.line) c.go_on.result _ read;
+      takes = reader-takes c.self.inside.reader c.continue_epoch.new.self _
+          (line_shown c.args.line) c.continue_epoch.result _ read;
     })

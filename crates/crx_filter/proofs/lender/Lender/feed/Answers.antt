@@ -1,5 +1,5 @@
-use Rattle.crx_filter.proofs.Words.{common_steps, arith, ◌≡◌, List, ℕ, Bool, false, [], None, Some}
-use Rattle.crx_filter.proofs.Words.{if◌then◌else◌}
+use Rattle.crx_filter.proofs.Vocabulary.{common_steps, arith, ◌≡◌, List, ℕ, Bool, false, [], None, Some}
+use Rattle.crx_filter.proofs.Vocabulary.{if◌then◌else◌}
 use Rattle.crx_filter.proofs.{lender.Lender.feed.{Given.Over, Goals.After-answer_line}}
 use Rattle.{crx_filter.specs.LenderState.lines_then, crx_lines.specs.Reading.line_shown}
 use Rattle.crx_filter.proofs.lender.Lender.feed.Goals as goal

@@ -1,5 +1,5 @@
-use Rattle.crx_filter.proofs.Words.{common_steps, ◌≡◌, ◌≤◌, ◌++◌, ◌∷◌, [], List, length, refl, arith}
-use Rattle.crx_filter.proofs.Words.{◌∙◌, ObservationHead, Row, RinexReader}
+use Rattle.crx_filter.proofs.Vocabulary.{common_steps, ◌≡◌, ◌≤◌, ◌++◌, ◌∷◌, [], List, length, refl, arith}
+use Rattle.crx_filter.proofs.Vocabulary.{◌∙◌, ObservationHead, Row, RinexReader}
 use Rattle.crx_base.specs.declared.limits.TheConstants.{SATELLITES_LIMIT}
 use Rattle.crx_filter.proofs.RinexSteps.{IsInEpoch, in-its-epoch, last-row-taken, row-taken, stays-open}
 use Rattle.{crx_rinex.specs.meaning.EpochLines.IsObservationHead, std.proofs.lemmas.List.length_push}

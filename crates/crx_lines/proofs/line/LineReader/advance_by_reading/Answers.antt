@@ -8,7 +8,7 @@ use Rattle.crx_lines.specs.Reading.{ReaderState, TakesPiece}
 use Rattle.crx_lines.specs.declared.phase.Phase.TheVariants.{Open, Ended}
 use Rattle.crx_base.specs.{declared.limits.TheConstants.INPUT_LIMIT, meaning.Lines.{InputLine, line_of}}
 use Rattle.crx_lines.proofs.line.LineReader.advance_by_reading.Given.{Over}
-use Rattle.crx_lines.proofs.line.LineReader.advance_by_reading.Goals.{After-take_line-cut}
+use Rattle.crx_lines.proofs.line.LineReader.advance_by_reading.Goals.{After-cut_line-cut}
 use Rattle.crx_lines.proofs.line.LineReader.advance_by_reading.Goals.{then-found-2, else-found-2}
 use Rattle.crx_lines.proofs.line.LineReader.advance_by_reading.Goals as goal
 use Rattle.std.proofs.lemmas.Grind.{common_steps}
@@ -17,7 +17,7 @@ pub returns-in-Err-clause-answers : goal.returns-in-Err-clause-answers
 returns-in-Err-clause-answers g c = grind (arith, common_steps, fault-answers)
 
 -- the taken line, and the bytes left after it
-module _ (g : Over) (c : After-take_line-cut g) where
+module _ (g : Over) (c : After-cut_line-cut g) where
   abbrev held : List ℕ
   held = kept c.seek.new.window
 
@@ -37,14 +37,14 @@ module _ (g : Over) (c : After-take_line-cut g) where
   some : (0 < c.in-Ok.found.passed + c.in-Ok.found.len) ⊎ (c.in-Ok.found.is_ended ≡ true)
   some = some-read c.in-Ok.found.passed c.in-Ok.found.len _ c.if-found.false
 
-  left : kept c.take_line-cut.new.self ≡ drop n held
+  left : kept c.cut_line-cut.new.self ≡ drop n held
   left = grind (arith, common_steps)
 
-  line : cut_shown c.take_line-cut.new.self.bytes.items c.take_line-cut.result
+  line : cut_shown c.cut_line-cut.new.self.bytes.items c.cut_line-cut.result
       ≡ line_of (record { bytes = take c.in-Ok.found.len held; is_ended = c.in-Ok.found.is_ended })
   line = grind (arith, common_steps)
 
-  taken : (after : ReaderState) → after.rest ≡ kept c.take_line-cut.new.self
+  taken : (after : ReaderState) → after.rest ≡ kept c.cut_line-cut.new.self
       → after.passed ≡ c.args.self.now.passed + (c.in-Ok.found.passed + n)
       → after.number ≡ c.args.self.now.number + 1 → after.phase ≡ cond c.in-Ok.found.is_ended Open Ended
       → TakesPiece (reading c.args.self.now) c.in-Ok.ensures.ok.1.given (g.R.Source.at_end c.seek.new.reader)
@@ -54,21 +54,21 @@ module _ (g : Over) (c : After-take_line-cut g) where
       after (sym start-is) refl (rest ∙ left) passes number phase
 
 pub overflow_add-self : goal.overflow_add-self
-overflow_add-self g c = omega (arith, within g (goal.at.overflow_add-self g c).After-take_line-cut)
+overflow_add-self g c = omega (arith, within g (goal.at.overflow_add-self g c).After-cut_line-cut)
 
 pub overflow_add-self-2 : goal.overflow_add-self-2
-overflow_add-self-2 g c = omega (arith, within g (goal.at.overflow_add-self-2 g c).After-take_line-cut)
+overflow_add-self-2 g c = omega (arith, within g (goal.at.overflow_add-self-2 g c).After-cut_line-cut)
 
 pub invariant_of-self-2 : goal.invariant_of-self-2
 invariant_of-self-2 g c = grind (arith, common_steps, some-byte, length-drop)
 
 pub returns-then-found-cut-clause-answers : goal.returns-then-found-cut-clause-answers
 returns-then-found-cut-clause-answers g c =
-    let at = (goal.at.returns-then-found-cut-clause-answers g c).After-take_line-cut in
+    let at = (goal.at.returns-then-found-cut-clause-answers g c).After-cut_line-cut in
     let s = c.in-Ok.ensures.ok.1 in
     let found = c.in-Ok.found in
-    let cut = c.take_line-cut.result in
-    let over = ⊎_elim (λ h. inl h) (λ h. inr (omega (arith, h, c.take_line-cut.ensures.cut.3)))
+    let cut = c.cut_line-cut.result in
+    let over = ⊎_elim (λ h. inl h) (λ h. inr (omega (arith, h, c.cut_line-cut.ensures.cut.3)))
     (too-long found.passed (cut.to - cut.from) c.if-found-cut.true) in (
       s.given,
       s.lead,
@@ -85,7 +85,7 @@ returns-then-found-cut-clause-answers g c =
 
 pub returns-clause-answers : goal.returns-clause-answers
 returns-clause-answers g c =
-    let at = (goal.at.returns-clause-answers g c).After-take_line-cut in
+    let at = (goal.at.returns-clause-answers g c).After-cut_line-cut in
     let s = c.in-Ok.ensures.ok.1 in
     let found = c.in-Ok.found in
     let whole = whole-piece _ _ _ _ _ _ _ _ _ _ s c.in-Ok.ensures.end (count g at)

@@ -42,7 +42,7 @@ read g c r0 lines before =
 pub returns-in-Ok-true-clause-goes : goal.returns-in-Ok-true-clause-goes
 returns-in-Ok-true-clause-goes g c = λ r0 w0 m0 lines shown running.
     let at = (goal.at.returns-in-Ok-true-clause-goes g c).In-Ok-Some in
-    let taken = rw (c.in-Ok-true.is ∙ ap Ok c.in-Ok-true.field-0-test) at c.hand_out.ensures.taken in
+    let taken = rw (c.in-Ok-true.is ∙ ap Ok c.in-Ok-true.field-0-test) at c.feed_line.ensures.taken in
     goes-by (g.E.Engine.filter c.args.self.now.engine) (span-joins g.W.Sink g.met.W.Sink.took_both)
     (span-joins g.M.Sink g.met.M.Sink.took_both) running (read g at r0 lines running.read) _ (Ok false)
     (taken.becomes lines _ (shown, refl))
@@ -51,33 +51,33 @@ pub returns-in-Ok-false-clause-goes : goal.returns-in-Ok-false-clause-goes
 returns-in-Ok-false-clause-goes g c = λ r0 w0 m0 lines shown running.
     let at = (goal.at.returns-in-Ok-false-clause-goes g c).In-Ok-Some in
     let is = c.in-Ok-false.is ∙ ap Ok c.in-Ok-false.field-0-test in
-    let held = rw (is) at c.hand_out.ensures.taken in
+    let held = rw (is) at c.feed_line.ensures.taken in
     let then = c.take_answer.ensures.taken in
-    let taken = answered-next g.E.Engine c.args.self.now.engine c.hand_out.new.engine c.take_answer.new.engine
+    let taken = answered-next g.E.Engine c.args.self.now.engine c.feed_line.new.engine c.take_answer.new.engine
     (line_shown c.in-Ok-Some.line) held.1 held.2 then.1 in
     rw (then.2) (goes-by (g.E.Engine.filter c.args.self.now.engine)
     (span-joins g.W.Sink g.met.W.Sink.took_both) (span-joins g.M.Sink g.met.M.Sink.took_both) running
     (read g at r0 lines running.read) _ then.0
-    (rw (c.hand_out.ensures.untouched is) at (taken.becomes lines _ (shown, refl))))
+    (rw (c.feed_line.ensures.untouched is) at (taken.becomes lines _ (shown, refl))))
 
 pub returns-in-Ok-false-clause-stepped : goal.returns-in-Ok-false-clause-stepped
 returns-in-Ok-false-clause-stepped g c =
     let is = c.in-Ok-false.is ∙ ap Ok c.in-Ok-false.field-0-test in
-    let held = rw (is) at c.hand_out.ensures.taken in
+    let held = rw (is) at c.feed_line.ensures.taken in
     let then = c.take_answer.ensures.taken in
     let kept = stepped-ok (g.E.Engine.ready c.take_answer.new.engine ≡ []) then.0 then.1.drained in
     let filter = then.1.filter ∙ held.1 in
-    let told = rw (c.hand_out.ensures.untouched is) at c.take_answer.ensures.order.told in
+    let told = rw (c.feed_line.ensures.untouched is) at c.take_answer.ensures.order.told in
     grind (arith, common_steps, kept, filter, told)
 
-pub returns-in-Err-hand_out-clause-goes : goal.returns-in-Err-hand_out-clause-goes
-returns-in-Err-hand_out-clause-goes g c = λ r0 w0 m0 lines shown running.
-    let at = (goal.at.returns-in-Err-hand_out-clause-goes g c).In-Ok-Some in
-    let taken = rw (c.in-Err-hand_out.is) at c.hand_out.ensures.taken in
+pub returns-in-Err-feed_line-clause-goes : goal.returns-in-Err-feed_line-clause-goes
+returns-in-Err-feed_line-clause-goes g c = λ r0 w0 m0 lines shown running.
+    let at = (goal.at.returns-in-Err-feed_line-clause-goes g c).In-Ok-Some in
+    let taken = rw (c.in-Err-feed_line.is) at c.feed_line.ensures.taken in
     rw (c.fail_to_write.ensures.ended, c.fail_to_write.ensures.stopped) (goes-by
     (g.E.Engine.filter c.args.self.now.engine) (span-joins g.W.Sink g.met.W.Sink.took_both)
     (span-joins g.M.Sink g.met.M.Sink.took_both) running (read g at r0 lines running.read)
-    (g.E.Engine.shows c.hand_out.new.engine) (Err Unwritten)
+    (g.E.Engine.shows c.feed_line.new.engine) (Err Unwritten)
     (taken.becomes lines _ (shown, refl)))
 
 pub returns-in-Err-clause-goes : goal.returns-in-Err-clause-goes
@@ -97,31 +97,31 @@ returns-in-Err-clause-stepped g c =
     let kept = stepped-ok (g.E.Engine.ready c.take_overlong.new.self.engine ≡ []) taken.0 taken.1.drained in
     grind (arith, common_steps, kept)
 
-pub returns-else-not-hand_on-clause-goes : goal.returns-else-not-hand_on-clause-goes
-returns-else-not-hand_on-clause-goes g c = λ r0 w0 m0 lines shown running.
+pub returns-else-not-pass_on_before_wait-clause-goes : goal.returns-else-not-pass_on_before_wait-clause-goes
+returns-else-not-pass_on_before_wait-clause-goes g c = λ r0 w0 m0 lines shown running.
     let same = rw (c.in-Ok-None.is, c.in-Ok-None.field-0-is) at c.next_held.follows.holds-at-none in
     let still = still-running (span-joins g.W.Sink g.met.W.Sink.took_both) running
-    (c.hand_on.ensures.still c.if-not-hand_on.false) in
+    (c.pass_on_before_wait.ensures.still c.if-not-pass_on_before_wait.false) in
     grind (arith, common_steps, same, still)
 
-pub returns-then-not-hand_on-clause-goes : goal.returns-then-not-hand_on-clause-goes
-returns-then-not-hand_on-clause-goes g c = λ r0 w0 m0 lines shown running.
+pub returns-then-not-pass_on_before_wait-clause-goes : goal.returns-then-not-pass_on_before_wait-clause-goes
+returns-then-not-pass_on_before_wait-clause-goes g c = λ r0 w0 m0 lines shown running.
     let same = rw (c.in-Ok-None.is, c.in-Ok-None.field-0-is) at c.next_held.follows.holds-at-none in
     let now = subst (λ (now : ReaderState). IsRunning (reader_span g.R.Source r0 c.args.reader.now)
     (span g.W.Sink w0 c.args.writer.now) (span g.M.Sink m0 c.args.messages.now) now lines
     ((g.E.Engine.filter c.args.self.now.engine).so_far lines)) (sym same) running in
     let is = c.in-Ok-None.is ∙ ap Ok c.in-Ok-None.field-0-is in
-    let stop = c.fail_to_write-then-not-hand_on.ensures in
+    let stop = c.fail_to_write-then-not-pass_on_before_wait.ensures in
     rw (stop.ended, stop.stopped) (inr (inr (
       refl,
       handing-fails (span-joins g.W.Sink g.met.W.Sink.took_both) now
           (subst (λ (state : ReaderState). state.phase ≡ Open → HasNoFeed state.rest) (sym same)
           (λ opened. has-no-feed _ (c.next_held.ensures.none is opened)))
-          (c.hand_on.ensures.failed c.if-not-hand_on.true),
+          (c.pass_on_before_wait.ensures.failed c.if-not-pass_on_before_wait.true),
     )))
 
-pub returns-else-not-hand_on-clause-stepped : goal.returns-else-not-hand_on-clause-stepped
-returns-else-not-hand_on-clause-stepped g c =
+pub returns-else-not-pass_on_before_wait-clause-stepped : goal.returns-else-not-pass_on_before_wait-clause-stepped
+returns-else-not-pass_on_before_wait-clause-stepped g c =
     let then = c.read_step.ensures.stepped in
     record {
       filter = then.filter;
@@ -131,7 +131,7 @@ returns-else-not-hand_on-clause-stepped g c =
       unasked = grind (arith, common_steps);
       told = ⊎_elim inl (λ told. inr (
         told.0,
-        g.met.W.Sink.took_both _ _ _ [] [] (c.hand_on.ensures.still c.if-not-hand_on.false).0 told.1,
+        g.met.W.Sink.took_both _ _ _ [] [] (c.pass_on_before_wait.ensures.still c.if-not-pass_on_before_wait.false).0 told.1,
         told.2,
       )) then.told;
     }

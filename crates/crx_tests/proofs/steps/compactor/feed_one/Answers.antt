@@ -23,6 +23,6 @@ returns-in-Ok-clause-counted g c =
     in
     let by-number = subst (λ (n : ℕ). (compactor_state fed).number ≡ taken_after answer n) c.requires.counted
     counted in
-    let by-result = subst (λ (n : ℕ). (compactor_state fed).number ≡ n) (sym c.counted.ensures) by-number in
+    let by-result = subst (λ (n : ℕ). (compactor_state fed).number ≡ n) (sym c.number_after.ensures) by-number in
     same-number (compactor_state fed)
-    (compactor_state c.take_ready.new.engine) c.counted.result c.take_ready.ensures by-result
+    (compactor_state c.take_ready.new.engine) c.number_after.result c.take_ready.ensures by-result

@@ -23,6 +23,6 @@ returns-in-Ok-clause-counted g c =
     (Ok answer) c.in-Ok.ensures.takes.steps in
     let by-number = subst (λ (n : ℕ). (expander_state fed).number ≡ taken_after answer n) c.requires.counted
     counted in
-    let by-result = subst (λ (n : ℕ). (expander_state fed).number ≡ n) (sym c.counted.ensures) by-number in
+    let by-result = subst (λ (n : ℕ). (expander_state fed).number ≡ n) (sym c.number_after.ensures) by-number in
     same-number (expander_state fed)
-    (expander_state c.take_ready.new.engine) c.counted.result c.take_ready.ensures by-result
+    (expander_state c.take_ready.new.engine) c.number_after.result c.take_ready.ensures by-result

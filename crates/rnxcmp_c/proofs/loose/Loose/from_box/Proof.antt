@@ -1,17 +1,17 @@
 -- `from_box` takes the box apart.
-use Rattle.rnxcmp_c.proofs.{LooseValues.{both, loose_good, loose_in}, RawWords.{◌≡◌, List, [], ◌∷◌, ◌++◌}}
-use Rattle.rnxcmp_c.proofs.RawWords.{refl, ap, ◌∙◌, a_type, dcons, dnil, Val, vptr, vstruct}
-use Rattle.rnxcmp_c.proofs.RawWords.{of_list, inst_fn, SProp, emp, never, id⊢, fst∗, ftrue, fsep, flft}
-use Rattle.rnxcmp_c.proofs.RawWords.{WpFn, sem, ‵, raw, ◌⊛◌, some, later, ◌$◌, ◌∵◌, !, qed, by, move, keep}
-use Rattle.rnxcmp_c.proofs.RawWords.{drop, split, split3, join, fsplit, fjoin, fpick, pick, regoal, prop}
-use Rattle.rnxcmp_c.proofs.RawWords.{use0}
-use Rattle.rnxcmp_c.proofs.RawWords.{use1, await, rewrite, feq_l, stop, fld, of_opd, no_more, and_then}
-use Rattle.rnxcmp_c.proofs.RawWords.{returns, enter, alloc_all, pass_all, free_all, look_at, get, get_in}
-use Rattle.rnxcmp_c.proofs.RawWords.{sets, agg, sub, whole, fact, fact_i, tables, no, RattleType, owns}
-use Rattle.rnxcmp_c.proofs.RawWords.{types_at, plain, RawPtr, Ptr, block_ptr, null_ptr, ptr_val, in_a_block}
-use Rattle.rnxcmp_c.proofs.RawWords.{nothing, only, heard, param, layout, bounded, param_laws, triple_of}
-use Rattle.rnxcmp_c.proofs.RawWords.{Stays, stay_dropped, walk_of, Goes-blank, handle_tells, fm, box_owns}
-use Rattle.rnxcmp_c.proofs.RawWords.{box_out, box_in, proved_at, leaves}
+use Rattle.rnxcmp_c.proofs.{LooseValues.{both, loose_good, loose_in}, PointerVocabulary.{◌≡◌, List, [], ◌∷◌, ◌++◌}}
+use Rattle.rnxcmp_c.proofs.PointerVocabulary.{refl, ap, ◌∙◌, a_type, dcons, dnil, Val, vptr, vstruct}
+use Rattle.rnxcmp_c.proofs.PointerVocabulary.{of_list, inst_fn, SProp, emp, never, id⊢, fst∗, ftrue, fsep, flft}
+use Rattle.rnxcmp_c.proofs.PointerVocabulary.{WpFn, sem, ‵, raw, ◌⊛◌, some, later, ◌$◌, ◌∵◌, !, qed, by, move, keep}
+use Rattle.rnxcmp_c.proofs.PointerVocabulary.{drop, split, split3, join, fsplit, fjoin, fpick, pick, regoal, prop}
+use Rattle.rnxcmp_c.proofs.PointerVocabulary.{use0}
+use Rattle.rnxcmp_c.proofs.PointerVocabulary.{use1, await, rewrite, feq_l, stop, fld, of_opd, no_more, and_then}
+use Rattle.rnxcmp_c.proofs.PointerVocabulary.{returns, enter, alloc_all, pass_all, free_all, look_at, get, get_in}
+use Rattle.rnxcmp_c.proofs.PointerVocabulary.{sets, agg, sub, whole, fact, fact_i, tables, no, RattleType, owns}
+use Rattle.rnxcmp_c.proofs.PointerVocabulary.{types_at, plain, RawPtr, Ptr, block_ptr, null_ptr, ptr_val, in_a_block}
+use Rattle.rnxcmp_c.proofs.PointerVocabulary.{nothing, only, heard, param, layout, bounded, param_laws, triple_of}
+use Rattle.rnxcmp_c.proofs.PointerVocabulary.{Stays, stay_dropped, walk_of, Goes-blank, handle_tells, fm, box_owns}
+use Rattle.rnxcmp_c.proofs.PointerVocabulary.{box_out, box_in, proved_at, leaves}
 use Rattle.rnxcmp_c.proofs.loose.Loose.from_box.Statement.{statement}
 use Rattle.rnxcmp_c.specs.contracts.loose.Loose.from_box.{ended, clauses, Key.name as #self}
 use types.ByLocal.{lands_as}

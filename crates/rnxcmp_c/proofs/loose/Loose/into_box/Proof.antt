@@ -1,14 +1,14 @@
 -- `into_box` puts the box together again.
-use Rattle.rnxcmp_c.proofs.{LooseValues.{both, Loose, loose_good, loose_out}, RawWords.{◌≡◌, List, [], ◌∷◌}}
-use Rattle.rnxcmp_c.proofs.RawWords.{◌++◌, refl, sym, ap, subst, a_type, dcons, dnil, Val, vptr, inst_fn}
-use Rattle.rnxcmp_c.proofs.RawWords.{SProp, id⊢, ftrue, flft, WpFn, ‵, raw, ◌⊛◌, some, later, ◌$◌, ◌∵◌}
-use Rattle.rnxcmp_c.proofs.RawWords.{ !, qed, by, move, keep, drop, split, split3, join, fsplit, fjoin, pick}
-use Rattle.rnxcmp_c.proofs.RawWords.{regoal, prop, use1, await, rewrite, feq_i, stop, fld, of_opd, no_more}
-use Rattle.rnxcmp_c.proofs.RawWords.{and_then, returns, enter, alloc_all, pass_all, free_all, look_at, get}
-use Rattle.rnxcmp_c.proofs.RawWords.{get_in, sets, sub, whole, fact, tables, no, RattleType, owns, types_at}
-use Rattle.rnxcmp_c.proofs.RawWords.{plain, block_ptr, nothing, only, param, layout, bounded, param_laws}
-use Rattle.rnxcmp_c.proofs.RawWords.{triple_of, Stays, stay_dropped, walk_of, Goes-blank, fm, Good, box_out}
-use Rattle.rnxcmp_c.proofs.{RawWords.{box_in, proved_at, leaves}, loose.Loose.into_box.Statement.statement}
+use Rattle.rnxcmp_c.proofs.{LooseValues.{both, Loose, loose_good, loose_out}, PointerVocabulary.{◌≡◌, List, [], ◌∷◌}}
+use Rattle.rnxcmp_c.proofs.PointerVocabulary.{◌++◌, refl, sym, ap, subst, a_type, dcons, dnil, Val, vptr, inst_fn}
+use Rattle.rnxcmp_c.proofs.PointerVocabulary.{SProp, id⊢, ftrue, flft, WpFn, ‵, raw, ◌⊛◌, some, later, ◌$◌, ◌∵◌}
+use Rattle.rnxcmp_c.proofs.PointerVocabulary.{ !, qed, by, move, keep, drop, split, split3, join, fsplit, fjoin, pick}
+use Rattle.rnxcmp_c.proofs.PointerVocabulary.{regoal, prop, use1, await, rewrite, feq_i, stop, fld, of_opd, no_more}
+use Rattle.rnxcmp_c.proofs.PointerVocabulary.{and_then, returns, enter, alloc_all, pass_all, free_all, look_at, get}
+use Rattle.rnxcmp_c.proofs.PointerVocabulary.{get_in, sets, sub, whole, fact, tables, no, RattleType, owns, types_at}
+use Rattle.rnxcmp_c.proofs.PointerVocabulary.{plain, block_ptr, nothing, only, param, layout, bounded, param_laws}
+use Rattle.rnxcmp_c.proofs.PointerVocabulary.{triple_of, Stays, stay_dropped, walk_of, Goes-blank, fm, Good, box_out}
+use Rattle.rnxcmp_c.proofs.{PointerVocabulary.{box_in, proved_at, leaves}, loose.Loose.into_box.Statement.statement}
 use Rattle.rnxcmp_c.specs.contracts.loose.Loose.into_box.{ended, clauses, Key.name as #self}
 use types.{ByLocal.{lands_last, env}, Kit.at_ret, Run.{first, blocks, exec}}
 use contract.BorrowLft.{◌⊑◌}

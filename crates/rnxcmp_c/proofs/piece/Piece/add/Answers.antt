@@ -1,5 +1,5 @@
-use Rattle.rnxcmp_c.proofs.Words.{ℕ, ◌≡◌, ◌+◌, ◌-◌, ◌++◌, List, length, take, sym, ap, ◌∙◌, arith}
-use Rattle.rnxcmp_c.proofs.{PieceLemmas.first-allowed, Words.{take-append-add, LINE_ROOM}}
+use Rattle.rnxcmp_c.proofs.Vocabulary.{ℕ, ◌≡◌, ◌+◌, ◌-◌, ◌++◌, List, length, take, sym, ap, ◌∙◌, arith}
+use Rattle.rnxcmp_c.proofs.{PieceLemmas.first-allowed, Vocabulary.{take-append-add, LINE_ROOM}}
 use Rattle.std.proofs.Common.{vec_len}
 use Rattle.rnxcmp_c.proofs.piece.Piece.add.Goals as goal
 

@@ -1,7 +1,7 @@
 use Rattle.std.proofs.Common.{arith}
 use Rattle.rnxcmp_c.proofs.HandleLemmas.{ended-by_none, runs-where_none}
 use Rattle.rnxcmp_c.proofs.ReaderLemmas.{all-over, ended-as, stops-over}
-use Rattle.rnxcmp_c.proofs.Words.{inl, inr, ⊎_elim, ap, sym, ◌∙◌, Some, None, Reader}
+use Rattle.rnxcmp_c.proofs.Vocabulary.{inl, inr, ⊎_elim, ap, sym, ◌∙◌, Some, None, Reader}
 use Rattle.rnxcmp_c.proofs.reader.Reader.take_end.Goals as goal
 use Rattle.std.proofs.lemmas.Grind.{common_steps}
 

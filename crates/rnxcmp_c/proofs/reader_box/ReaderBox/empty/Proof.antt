@@ -1,9 +1,9 @@
 -- `empty` makes a null pointer, which owns nothing.
-use Rattle.rnxcmp_c.proofs.{ReaderBoxValues.{word, place_in}, RawWords.{◌≡◌, List, [], ◌∷◌, refl, Val, SProp}}
-use Rattle.rnxcmp_c.proofs.RawWords.{emp, ftrue, ‵, raw, ◌⊛◌, ◌$◌, ◌∵◌, !, qed, by, keep, drop, use0, no_more}
-use Rattle.rnxcmp_c.proofs.RawWords.{and_then, returns, enter, alloc_all, pass_all, free_all, look_at, sets}
-use Rattle.rnxcmp_c.proofs.RawWords.{agg, fact, fact_i, tables, null_ptr, nothing, walk_of, proved_at, leaves}
-use Rattle.rnxcmp_c.proofs.{RawWords.Reader, reader_box.ReaderBox.empty.Statement.statement}
+use Rattle.rnxcmp_c.proofs.{ReaderBoxValues.{word, place_in}, PointerVocabulary.{◌≡◌, List, [], ◌∷◌, refl, Val, SProp}}
+use Rattle.rnxcmp_c.proofs.PointerVocabulary.{emp, ftrue, ‵, raw, ◌⊛◌, ◌$◌, ◌∵◌, !, qed, by, keep, drop, use0, no_more}
+use Rattle.rnxcmp_c.proofs.PointerVocabulary.{and_then, returns, enter, alloc_all, pass_all, free_all, look_at, sets}
+use Rattle.rnxcmp_c.proofs.PointerVocabulary.{agg, fact, fact_i, tables, null_ptr, nothing, walk_of, proved_at, leaves}
+use Rattle.rnxcmp_c.proofs.{PointerVocabulary.Reader, reader_box.ReaderBox.empty.Statement.statement}
 use Rattle.rnxcmp_c.specs.contracts.reader_box.ReaderBox.empty.{ended, clauses, Key.name as #self}
 use Rattle.std.proofs.Common.{lit<}
 use types.Run.{lit}

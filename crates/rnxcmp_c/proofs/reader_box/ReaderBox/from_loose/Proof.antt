@@ -2,14 +2,14 @@
 use Rattle.std.proofs.{Common.arith, lemmas.Grind.common_steps}
 use Rattle.rnxcmp_c.proofs.{LooseValues.{both, Loose, loose_good, loose_out}}
 use Rattle.rnxcmp_c.proofs.{ReaderBoxValues.{word, place_in}}
-use Rattle.rnxcmp_c.proofs.RawWords.{List, [], ◌∷◌, ◌++◌, refl, Val, vptr, SProp, emp}
-use Rattle.rnxcmp_c.proofs.RawWords.{ftrue, fsep, WpFn, ‵, raw, ◌⊛◌, ◌$◌, ◌∵◌, !, qed, move, keep, drop}
-use Rattle.rnxcmp_c.proofs.RawWords.{split, join, fsplit, fjoin, suffices, regoal, prop, done, stop, fld}
-use Rattle.rnxcmp_c.proofs.RawWords.{of_opd, no_more}
-use Rattle.rnxcmp_c.proofs.RawWords.{and_then, returns, enter, alloc_all, pass_all, free_all, look_at, get}
-use Rattle.rnxcmp_c.proofs.RawWords.{get_in, sets, agg, sub, whole, tables, yes, RattleType, plain, block_ptr}
-use Rattle.rnxcmp_c.proofs.RawWords.{nothing, says, Stays, stay_dropped, walk_of, ends_at, Goes-dropped}
-use Rattle.rnxcmp_c.proofs.{RawWords.{proved_at, ghosts}, reader_box.ReaderBox.from_loose.Statement.statement}
+use Rattle.rnxcmp_c.proofs.PointerVocabulary.{List, [], ◌∷◌, ◌++◌, refl, Val, vptr, SProp, emp}
+use Rattle.rnxcmp_c.proofs.PointerVocabulary.{ftrue, fsep, WpFn, ‵, raw, ◌⊛◌, ◌$◌, ◌∵◌, !, qed, move, keep, drop}
+use Rattle.rnxcmp_c.proofs.PointerVocabulary.{split, join, fsplit, fjoin, suffices, regoal, prop, done, stop, fld}
+use Rattle.rnxcmp_c.proofs.PointerVocabulary.{of_opd, no_more}
+use Rattle.rnxcmp_c.proofs.PointerVocabulary.{and_then, returns, enter, alloc_all, pass_all, free_all, look_at, get}
+use Rattle.rnxcmp_c.proofs.PointerVocabulary.{get_in, sets, agg, sub, whole, tables, yes, RattleType, plain, block_ptr}
+use Rattle.rnxcmp_c.proofs.PointerVocabulary.{nothing, says, Stays, stay_dropped, walk_of, ends_at, Goes-dropped}
+use Rattle.rnxcmp_c.proofs.{PointerVocabulary.{proved_at, ghosts}, reader_box.ReaderBox.from_loose.Statement.statement}
 use Rattle.rnxcmp_c.specs.contracts.reader_box.ReaderBox.from_loose.{ended, clauses, Key.name as #self}
 use Rattle.std_heap.specs.contracts.Global as heap
 use Rattle.std_heap.proofs.Global.TheLaws as heap_laws

@@ -1,16 +1,16 @@
 -- `into_loose` moves the pointer, together with everything that the box owned.
 use Rattle.rnxcmp_c.proofs.LooseValues.{al, both, loose_good, loose_in}
-use Rattle.rnxcmp_c.proofs.{ReaderBoxValues.word, RawWords.{◌≡◌, List}}
-use Rattle.rnxcmp_c.proofs.RawWords.{[], ◌∷◌, ◌++◌, refl, ap, ◌∙◌, Val, vptr, vstruct, of_list}
-use Rattle.rnxcmp_c.proofs.RawWords.{SProp, never, fst∗, ftrue, fsep, WpFn, sem, ‵, raw, ◌⊛◌, ◌$◌}
-use Rattle.rnxcmp_c.proofs.RawWords.{◌∵◌, !, qed, move, drop, split, join, fsplit, fjoin, fpick, suffices}
-use Rattle.rnxcmp_c.proofs.RawWords.{regoal, prop}
-use Rattle.rnxcmp_c.proofs.RawWords.{rewrite, feq_l, done, stop, fld, of_opd, no_more, and_then, returns}
-use Rattle.rnxcmp_c.proofs.RawWords.{enter, alloc_all, pass_all, free_all, look_at, get, get_in, sets, agg}
-use Rattle.rnxcmp_c.proofs.RawWords.{sub, whole, fact, tables, yes, RattleType, plain, Ptr, block_ptr}
-use Rattle.rnxcmp_c.proofs.RawWords.{null_ptr, ptr_val, in_a_block, lone, nothing, heard, says, Stays}
-use Rattle.rnxcmp_c.proofs.RawWords.{stay_dropped, walk_of, ends_at, Goes-dropped, proved_at}
-use Rattle.rnxcmp_c.proofs.RawWords.{handle_tells, box_owns, ghosts, reader_box_owns, Reader}
+use Rattle.rnxcmp_c.proofs.{ReaderBoxValues.word, PointerVocabulary.{◌≡◌, List}}
+use Rattle.rnxcmp_c.proofs.PointerVocabulary.{[], ◌∷◌, ◌++◌, refl, ap, ◌∙◌, Val, vptr, vstruct, of_list}
+use Rattle.rnxcmp_c.proofs.PointerVocabulary.{SProp, never, fst∗, ftrue, fsep, WpFn, sem, ‵, raw, ◌⊛◌, ◌$◌}
+use Rattle.rnxcmp_c.proofs.PointerVocabulary.{◌∵◌, !, qed, move, drop, split, join, fsplit, fjoin, fpick, suffices}
+use Rattle.rnxcmp_c.proofs.PointerVocabulary.{regoal, prop}
+use Rattle.rnxcmp_c.proofs.PointerVocabulary.{rewrite, feq_l, done, stop, fld, of_opd, no_more, and_then, returns}
+use Rattle.rnxcmp_c.proofs.PointerVocabulary.{enter, alloc_all, pass_all, free_all, look_at, get, get_in, sets, agg}
+use Rattle.rnxcmp_c.proofs.PointerVocabulary.{sub, whole, fact, tables, yes, RattleType, plain, Ptr, block_ptr}
+use Rattle.rnxcmp_c.proofs.PointerVocabulary.{null_ptr, ptr_val, in_a_block, lone, nothing, heard, says, Stays}
+use Rattle.rnxcmp_c.proofs.PointerVocabulary.{stay_dropped, walk_of, ends_at, Goes-dropped, proved_at}
+use Rattle.rnxcmp_c.proofs.PointerVocabulary.{handle_tells, box_owns, ghosts, reader_box_owns, Reader}
 use Rattle.rnxcmp_c.{proofs.reader_box.ReaderBox.into_loose.Statement.statement, specs.ReaderBoxes.heap}
 use Rattle.rnxcmp_c.specs.contracts.reader_box.ReaderBox.into_loose.{ended, clauses, Key.name as #self}
 use mir.Raw.{raw as bare}

@@ -1,7 +1,0 @@
-use Rattle.crx_compact.proofs.Words.{ℕ, ◌<◌}
-use Rattle.crx_compact.specs.Entries.{KeepsTypes}
-use Rattle.crx_compact.proofs.satellites.Satellites.come_again.Given as goal
-
-abbrev pub invariant-loop-place : goal.invariant-loop-place
-invariant-loop-place l = (place : ℕ) → place < l.place → KeepsTypes l.types l.order.items place
-    l.known.entries
