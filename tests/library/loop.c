@@ -13,7 +13,7 @@
 
 static char bytes[65536], room[65536], lines[4096];
 
-static void write_what_is_ready(rnxcmp_handle *handle, rnxcmp_answer *answer) {
+static void write_ready(rnxcmp_handle *handle, rnxcmp_answer *answer) {
     while (answer->output_length > 0 || answer->messages_length > 0) {
         size_t output_length = answer->output_length, messages_length = answer->messages_length;
         rnxcmp_take(handle, room, sizeof room, lines, sizeof lines, answer);
@@ -47,7 +47,7 @@ int main(int count, char **words) {
     while (status == RNXCMP_GOOD && (length = fread(bytes, 1, sizeof bytes, stdin)) > 0) {
         for (size_t from = 0; status == RNXCMP_GOOD && from < length; from += used) {
             status = rnxcmp_feed(&handle, bytes + from, length - from, &used, &answer);
-            write_what_is_ready(&handle, &answer);
+            write_ready(&handle, &answer);
         }
         fed += length;
         if (fed <= after) {
@@ -57,7 +57,7 @@ int main(int count, char **words) {
     growths_after = growths - growths_before, most_after = most_held;
     if (status == RNXCMP_GOOD && !ferror(stdin)) {
         status = rnxcmp_end(&handle, &answer);
-        write_what_is_ready(&handle, &answer);
+        write_ready(&handle, &answer);
     }
     rnxcmp_close(&handle);
     fflush(stderr);
