@@ -1,4 +1,4 @@
-"""The tables of `explain`: each error's likely causes, and what a file's first bytes tell.
+"""The tables of `explain`: the likely causes of each error, and those that a file's first bytes tell.
 
 They are plain data, from which docs/USE.md gets its own (`make numbers`). An error's words are in crates/crx_base/src/fault.rt.
 """
@@ -8,7 +8,7 @@ from typing import Dict, NamedTuple, Optional, Tuple
 
 
 class Entry(NamedTuple):
-    """The text that an error's place should have, the likely causes, the likeliest first, and what to do."""
+    """The text that an error's place should have, the likely causes, the likeliest first, and the remedy."""
 
     expected: str
     causes: Tuple[str, ...]
@@ -75,7 +75,7 @@ COMPACT_ERRORS: Dict[int, Entry] = {
 
 
 class Sign(NamedTuple):
-    """A pattern of first bytes, the direction for which it tells something (an empty text: both), the cause, and what to do."""
+    """A pattern of first bytes, the direction for which it tells something (an empty text: both), the cause, and the remedy."""
 
     pattern: bytes
     direction: str
@@ -122,7 +122,7 @@ def entry_of(code: int, direction: str) -> Entry:
 
 
 def sign_of(start: bytes, direction: str) -> Optional[Tuple[str, str]]:
-    """Returns the cause that a text's first bytes tell and what to do, or None."""
+    """Returns the cause that a text's first bytes tell and its remedy, or None."""
     for sign in SIGNS:
         found = re.match(sign.pattern, start[:4096]) if sign.direction in ("", direction) else None
         if found:

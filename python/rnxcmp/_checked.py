@@ -25,7 +25,7 @@ class Checked:
 
 
 def _rinex(text: Iterator[bytes], start: bytes) -> Iterator[bytes]:
-    """Gives the RINEX of compact text, whose first piece is `start`."""
+    """Returns the RINEX of compact text, whose first piece is `start`."""
     with Stream.expanding() as stream:
         yield from stream.outputs(start)
         for piece in text:
@@ -51,7 +51,7 @@ def direction_of(name: str) -> str:
 
 
 def checked(name: str, tell: Callable[[str], None]) -> Checked:
-    """Checks a file; raises its fault, and calls `tell` with a warning if it may be cut off."""
+    """Checks a file; raises its error, and calls `tell` with a warning if it may be cut off."""
     source = Input(name)
     try:
         text, start = source.text(), b""

@@ -28,14 +28,14 @@ _LONGEST, _SHOWN = 10000, 100  # bytes of a line that are kept, more than a line
 
 
 class Explanation(NamedTuple):
-    """Why a file isn't simply good.
+    """The reason why a file is refused, isn't standard, or may be cut off.
 
     :ivar state: ``refused``, ``not standard`` or ``cut off``.
     :ivar line: the line of the error, or the first one that isn't standard; 0 for a packed file that can't be unpacked.
     :ivar code: the error's code, or None; ``words`` says it in words.
     :ivar text: the text of that line; ``expected`` says which text belongs there.
     :ivar field: the field of the error, if the line tells it, and ``columns`` the field's first and last column.
-    :ivar causes: the likely causes, the likeliest first; ``remedy`` says what to do.
+    :ivar causes: the likely causes, the likeliest first; ``remedy`` is the next step.
     :ivar may_be_cut_off: whether the file is accepted, and its last line has no line end.
     """
 
@@ -207,7 +207,7 @@ def explain(content: Content, *, direction: Optional[str] = None) -> Optional[Ex
 
 
 def likely(code: int, direction: str, name: str) -> str:
-    """Returns the likely causes of an error in a file as one line: what its first bytes tell, otherwise two causes of the table."""
+    """Returns the likely causes of an error in a file as one line: the one that its first bytes tell, otherwise two of the table."""
     try:
         sign = sign_of(next(_text_of(name), b""), direction) if code < 10 else None
     except Exception:  # as above

@@ -16,23 +16,23 @@ if TYPE_CHECKING:
 
 
 def _bytes_of(content: Content) -> bytes:
-    """The bytes of a file, or those that were given; a ``str`` is a path."""
+    """Returns the bytes of an input as `content_of` does, but a ``str`` is always a path."""
     return bytes_of_file(content) if isinstance(content, str) else content_of(content)
 
 
 def _within(pieces: Iterable[bytes], packing: str, max_length: Optional[int]) -> bytes:
-    """The pieces of what is unpacked, of which no more are taken than may be."""
+    """Returns all of an unpacked text; raises an error when it is longer than `max_length`."""
     parts, length = [], 0
     for part in pieces:
         length += len(part)
         if max_length is not None and length > max_length:
-            raise OutputLimitError(f"what is in {packing} is longer than max_length")
+            raise OutputLimitError(f"the text in {packing} is longer than max_length")
         parts.append(part)
     return b"".join(parts)
 
 
 def _unpacked(data: bytes, max_length: Optional[int] = None) -> bytes:
-    """The bytes, unpacked if they are packed."""
+    """Returns the bytes, unpacked if they are packed."""
     limit_of(max_length)
     if other_packing(data):
         raise UnsupportedError(f"compression not supported: {other_packing(data)}")
@@ -46,22 +46,22 @@ def _unpacked(data: bytes, max_length: Optional[int] = None) -> bytes:
 
 
 def _label(data: bytes) -> bytes:
-    """What the first line has from column 61 on."""
+    """Returns the first line's label, in columns 61 to 80."""
     return data[:82].split(b"\n")[0][60:80].rstrip()
 
 
 def is_compact(data: bytes) -> bool:
-    """Whether it is Compact RINEX, of any version."""
+    """Returns whether it is Compact RINEX, of any version."""
     return _label(data) == b"CRINEX VERS   / TYPE"
 
 
 def is_observation(data: bytes) -> bool:
-    """Whether it is RINEX observation data, of any version."""
+    """Returns whether it is RINEX observation data, of any version."""
     return _label(data) == b"RINEX VERSION / TYPE" and data[20:21] == b"O"
 
 
 def _version(data: bytes) -> str:
-    """The version in the first line."""
+    """Returns the version in the first line."""
     return data[:20].split(b"\n")[0].decode("latin-1").strip()
 
 
@@ -75,18 +75,17 @@ def ensure_known(data: bytes) -> None:
 
 
 def _warn_if_cut(data: bytes) -> None:
-    """Warns where the last line has no line end."""
+    """Warns if the last line has no line end."""
     if not data.endswith(b"\n"):
         warn(CUT_OFF)
 
 
 def decompress(content: Content, *, skip_strange_epochs: bool = False, max_length: Optional[int] = USUAL) -> bytes:
-    """The content of a file, or of bytes, as RINEX: unpacked, and expanded if it is Compact RINEX 3.0.
-
-    What is neither comes back as it is. Other compressions, and Compact RINEX 1.0, raise :class:`UnsupportedError`.
+    """Returns the content of a file, or bytes, as RINEX: unpacked, and expanded if it is Compact RINEX 3.0. Other data is only unpacked.
 
     :param max_length: the most bytes that may be unpacked, and that the expansion may have; more raise :class:`OutputLimitError`.
         If it isn't given, that is a thousand times the content, and at least 64 MB; None is no limit.
+    :raises UnsupportedError: if the compression is another one, or the content is Compact RINEX 1.0.
     """
     packed = _bytes_of(content)
     limit = limit_for(len(packed), max_length)
@@ -106,10 +105,10 @@ def compress(
     reinit_every_nth: Optional[int] = None,
     max_length: Optional[int] = None,
 ) -> bytes:
-    """The content of a RINEX file, or of bytes, compacted where it holds observations, and in gzip.
+    """Returns the content of a file, or bytes, in gzip, and compacted if it is observation data.
 
     :param compression: ``"gz"``, or ``"none"`` for none; others raise :class:`UnsupportedError`.
-    :param max_length: the most bytes that may come out of gzip, and that compact text may have; more raise :class:`OutputLimitError`.
+    :param max_length: the most bytes that may be unpacked, and that compact text may have; more raise :class:`OutputLimitError`.
     """
     if compression not in ("gz", "none"):
         raise UnsupportedError(f"compression not supported: {compression}")

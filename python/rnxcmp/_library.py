@@ -17,7 +17,7 @@ _NAME = f"librnxcmp-{INTERFACE}.dll" if os.name == "nt" else f"librnxcmp.so.{INT
 
 
 class Options(ctypes.Structure):
-    """``rnxcmp_options``; its size is set where it is made."""
+    """``rnxcmp_options``; `_options_of` sets its size."""
 
     _fields_ = [
         ("size", ctypes.c_size_t),
@@ -47,7 +47,7 @@ class Handle(ctypes.Structure):
 
 
 def _opened() -> ctypes.CDLL:
-    """The library that the environment variable RNXCMP_LIBRARY names, the one beside this file, or the system's."""
+    """Loads the library that the environment variable RNXCMP_LIBRARY names, otherwise the one in this file's folder or the system's."""
     named = os.environ.get("RNXCMP_LIBRARY")
     beside = os.path.join(os.path.dirname(os.path.realpath(__file__)), _NAME)
     library = ctypes.CDLL(named or (beside if os.path.exists(beside) else _NAME))

@@ -1,4 +1,4 @@
-"""One file beside the other, as users of the package ``hatanaka`` know the calls."""
+"""One file in the folder of another, by calls that users of the package ``hatanaka`` know."""
 
 import os
 from pathlib import Path
@@ -15,11 +15,11 @@ from ._whole import COMPACTION, COPY, EXPANSION, Choices, Whole, start_of
 
 PathLike = Union[str, "os.PathLike[str]"]
 
-_FIRST_LINE = 82  # bytes of a file that say what it is
+_FIRST_LINE = 82  # bytes of a file that tell its format
 
 
 def _other_name_of(path: str, direction: str) -> str:
-    """The name without the ending of packed files, with the other form's ending where it has one of this form."""
+    """Returns the name without the extension of packed files, and with the other form's extension if it has one of this form."""
     plain = unpacked_name(path)
     return plain if direction == COPY else other_name(plain, direction) or plain
 
@@ -30,7 +30,7 @@ def _refuse(delete: bool) -> None:
 
 
 def _ensure_name(source: str, target: str, is_compact_text: bool, is_rinex: bool) -> None:
-    """Refuses a name under which compact text would be taken for RINEX, or RINEX for compact text, and that of the input."""
+    """Refuses the input's name, and a name under which compact text would be taken for RINEX, or RINEX for compact text."""
     misleading = (is_compact_text and is_named_as_input(target, COMPACTION)) or (is_rinex and is_named_as_input(target, EXPANSION))
     if misleading or target == str(Path(source)):
         raise UnsupportedError(f"no name for the converted file: {source}")
@@ -41,21 +41,21 @@ def _do(path: str, target: str, choices: Choices) -> Path:
 
 
 def get_decompressed_path(path: PathLike) -> Path:
-    """The name of the file that :func:`decompress_on_disk` writes: without ``.gz``, and ``.crx`` as ``.rnx``, ``.24d`` as ``.24o``."""
+    """Returns the name that :func:`decompress_on_disk` writes: without ``.gz``, and ``.crx`` as ``.rnx``, ``.24d`` as ``.24o``."""
     return Path(_other_name_of(os.fspath(path), EXPANSION))
 
 
 def decompress_on_disk(
     path: PathLike, *, delete: bool = False, skip_strange_epochs: bool = False, verify: bool = False, force: bool = False
 ) -> Path:
-    """Decompresses a file into the file :func:`get_decompressed_path` names, and gives that path.
+    """Decompresses a file into the file that :func:`get_decompressed_path` names, and returns that path.
 
-    The file appears whole, or not at all, and the input stays as it is. One that holds nothing to decompress is left as it is.
+    The file appears whole, or not at all, and the input stays as it is. If there is nothing to decompress, the input's path is returned.
 
     :param verify: read the file back from the disk and compare before it gets its name.
-    :param force: replace a file that is there. Else one that holds this input is left as it is, and any other one is an error.
+    :param force: replace a file that exists. Otherwise it is left as it is, and is an error unless it holds this input.
     :param delete: must be false: no input is removed.
-    :raises RnxcmpError: where nothing was made.
+    :raises RnxcmpError: if nothing was made.
     """
     _refuse(delete)
     source = os.fspath(path)
@@ -80,14 +80,14 @@ def compress_on_disk(
     verify: bool = False,
     force: bool = False,
 ) -> Path:
-    """Compresses a file beside it, as ``abcd0010.24o`` to ``abcd0010.24d.gz``, and gives that path.
+    """Compresses a file into one in the same folder, such as ``abcd0010.24o`` into ``abcd0010.24d.gz``, and returns that path.
 
     The file appears whole, or not at all, and the input stays as it is.
 
     :param verify: read the file back from the disk and compare before it gets its name.
-    :param force: replace a file that is there. Else one that holds this input is left as it is, and any other one is an error.
+    :param force: replace a file that exists. Otherwise it is left as it is, and is an error unless it holds this input.
     :param delete: must be false: no input is removed.
-    :raises RnxcmpError: where nothing was made.
+    :raises RnxcmpError: if nothing was made.
     """
     _refuse(delete)
     if compression not in ("gz", "none"):

@@ -71,8 +71,8 @@ class _Parts(io.RawIOBase):
 
 
 class _Text(io.TextIOWrapper):
-    """A text that ends at an error: a read returns the text before it, and the next one raises it. A reader who asks for no more is told too:
-    `read` warns, and `close` raises it."""
+    """A text that ends at an error: a read returns the text before it, and the next one raises it. If there is no next one, `read` has
+    warned, and `close` raises it."""
 
     def __init__(self, parts: _Parts) -> None:
         super().__init__(io.BufferedReader(parts, 1 << 16), encoding="latin-1", newline="\n")
@@ -99,10 +99,10 @@ class _Text(io.TextIOWrapper):
 
 
 def open(path: Path, *, skip_strange_epochs: bool = False) -> io.TextIOWrapper:
-    """Opens a file for reading as the text of RINEX: ``.rnx`` or ``.crx``, as it is, in gzip or in ``.Z``, by its first bytes.
+    """Opens a file for reading as the text of RINEX: ``.rnx`` or ``.crx``, as it is or packed, by its first bytes.
 
-    The text is read in memory that doesn't grow with the file, each byte as one character (Latin-1), and line ends as they are. A file that
-    is neither RINEX nor Compact RINEX 3.0 is read as it is.
+    The text is read in memory that doesn't grow with the file, each byte as one character (Latin-1), and line ends as they are. If a file
+    is neither RINEX nor Compact RINEX 3.0, it is read as it is.
 
     An error of the file ends its text: reads return the text before the error, and then raise :class:`RnxcmpError`. If no read raised it,
     closing the file does.

@@ -21,30 +21,30 @@ _GZIP_FORM = 31  # zlib's number for gzip
 
 
 class UnsupportedError(RnxcmpError):
-    """A compression or a format that this package doesn't know; the message names it."""
+    """The error for a compression or a format that this package doesn't know; the message names it."""
 
 
 class PackError(RnxcmpError):
-    """A packed file is damaged or cut off."""
+    """The error for a packed file that is damaged or cut off."""
 
 
 def other_packing(start: bytes) -> str:
-    """The name of a compression that isn't read here, by what a file begins with, or an empty text."""
+    """Returns the name of a compression that isn't read here, by a file's first bytes, or an empty text."""
     return next((name for sign, name in _OTHERS if start.startswith(sign)), "")
 
 
 def pieces_of(descriptor: int) -> Iterator[bytes]:
-    """Gives the bytes of an open file, from where it is."""
+    """Returns the bytes of an open file from its position on, in pieces."""
     return iter(lambda: os.read(descriptor, _PIECE), b"")
 
 
 def pieces_in(data: bytes) -> Iterator[bytes]:
-    """Bytes in pieces, as a file's are read."""
+    """Returns bytes in pieces, as a file is read."""
     return (data[at : at + _PIECE] for at in range(0, len(data), _PIECE))
 
 
 def out_of_gzip(pieces: Iterable[bytes]) -> Iterator[bytes]:
-    """The text of all members; zeros between and after them are no text."""
+    """Returns the text of all members; zeros between and after them are no text."""
     member, first = None, True
     for piece in pieces:
         while True:
@@ -70,13 +70,13 @@ def out_of_gzip(pieces: Iterable[bytes]) -> Iterator[bytes]:
 
 
 def packed_by_gzip(data: bytes) -> bytes:
-    """The bytes in gzip, as small as it makes them. The same bytes are packed the same."""
+    """Returns the bytes in gzip, at its best compression. The same bytes are packed the same."""
     packer = zlib.compressobj(9, zlib.DEFLATED, _GZIP_FORM)
     return packer.compress(data) + packer.flush()
 
 
 def out_of_compress(data: bytes) -> Iterator[bytes]:
-    """The text of bytes that compress packed (`.Z`)."""
+    """Returns the text of bytes that compress packed (`.Z`)."""
     import tempfile
 
     with tempfile.TemporaryFile() as file:
@@ -86,7 +86,7 @@ def out_of_compress(data: bytes) -> Iterator[bytes]:
 
 
 def _out_of_compress(descriptor: int) -> Iterator[bytes]:
-    """The text of a `.Z` file, by `gzip -dc`."""
+    """Returns the text of a `.Z` file, by `gzip -dc`."""
     import subprocess
 
     os.lseek(descriptor, 0, os.SEEK_SET)
@@ -112,7 +112,7 @@ def _out_of_compress(descriptor: int) -> Iterator[bytes]:
 
 
 def _only_file_in(file: BinaryIO) -> BinaryIO:
-    """Opens the file that a zip has."""
+    """Opens the file in a zip; raises an error unless there is exactly one."""
     from zipfile import ZipFile
 
     found = ZipFile(file)
@@ -123,7 +123,7 @@ def _only_file_in(file: BinaryIO) -> BinaryIO:
 
 
 def out_of_archive(file: BinaryIO, start: bytes) -> Iterator[bytes]:
-    """Gives the text of an open file that begins with `start`, out of bzip2, xz or zip."""
+    """Returns the text of an open file that begins with `start`, unpacked from bzip2, xz or zip."""
     from bz2 import BZ2File
     from lzma import LZMAError, LZMAFile
     from zipfile import BadZipFile
@@ -146,7 +146,7 @@ def _out_of_archive(descriptor: int, start: bytes) -> Iterator[bytes]:
 
 
 def text_of(descriptor: int) -> Iterator[bytes]:
-    """Gives the text of an open file that is at its beginning, unpacked by its first bytes."""
+    """Returns the text of an open file that is at its beginning, unpacked if its first bytes say that it is packed."""
     pieces, start = pieces_of(descriptor), b""
     while len(start) < _SIGN and (piece := next(pieces, b"")):
         start += piece
@@ -161,13 +161,13 @@ def text_of(descriptor: int) -> Iterator[bytes]:
 
 
 def text_again(descriptor: int) -> Iterator[bytes]:
-    """Gives the text of an open file, from its beginning again."""
+    """Returns the text of an open file from its beginning, as `text_of` does."""
     os.lseek(descriptor, 0, os.SEEK_SET)
     return text_of(descriptor)
 
 
 class Packing:
-    """Writes a text through a call, packed by gzip or as it is. The same text is packed the same."""
+    """Writes a text by `write`, in gzip if `pack` says so. The same text is packed the same."""
 
     def __init__(self, write: Callable[[bytes], None], pack: bool) -> None:
         self._write = write

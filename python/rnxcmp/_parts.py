@@ -1,4 +1,4 @@
-"""Files that get their name once they are whole and on the disk. Until then each is a temporary file beside its place,
+"""Files that get their name when they are whole and on the disk. Until then each is a temporary file in the same folder,
 `part.rnxcmp-file.HEX`. An error or a signal removes it; a kill or a power cut leaves it."""
 
 from __future__ import annotations
@@ -25,7 +25,7 @@ _unfinished: Set[Part] = set()
 
 
 class FileError(RnxcmpError):
-    """Why nothing was made of a file."""
+    """An error because of which a file has no output."""
 
 
 class CannotName(FileError):
@@ -33,18 +33,18 @@ class CannotName(FileError):
 
 
 @contextmanager
-def saying(what: str) -> Iterator[None]:
-    """Turns an error of the system into a `FileError` that begins with `what`, unless it says that a file exists."""
+def saying(text: str) -> Iterator[None]:
+    """Turns an error of the system into a `FileError` that begins with `text`, unless it says that a file exists."""
     try:
         yield
     except FileExistsError:
         raise
     except OSError as error:
-        raise FileError(f"{what}: {error.strerror or error}") from error
+        raise FileError(f"{text}: {error.strerror or error}") from error
 
 
 def identity_of(status: os.stat_result) -> Tuple[int, ...]:
-    """Returns device, inode, size and both times, which differ once a file is changed or replaced."""
+    """Returns device, inode, size and both times, which differ if a file was changed or replaced."""
     return (status.st_dev, status.st_ino, status.st_size, status.st_mtime_ns, status.st_ctime_ns)
 
 
@@ -86,7 +86,7 @@ def remove_unfinished() -> None:
 
 
 def make_folder(name: str) -> None:
-    """Makes a folder and those that it is in, as far as they don't exist, and flushes their names to the disk."""
+    """Makes a folder and the folders above it, unless they exist, and flushes their names to the disk."""
     if not name or os.path.isdir(name):
         return
     above = os.path.dirname(name)
@@ -101,7 +101,7 @@ def make_folder(name: str) -> None:
 
 
 def _give_rights(file: int, like: os.stat_result, to_owner_alone: bool) -> bool:
-    """Gives a file the owner, group and mode of another, as far as the disk allows: whether others may read it who may not read that one.
+    """Gives a file the owner, group and mode of another, as far as the disk allows; returns whether more users may read it than that one.
     If the group can't be given, group and others get the rights that both had."""
     mode = like.st_mode & 0o777
     for owner in (like.st_uid, -1):
@@ -121,7 +121,7 @@ def _give_rights(file: int, like: os.stat_result, to_owner_alone: bool) -> bool:
 
 
 class Part:
-    """A temporary file for a place. Whoever begins it removes it, also after a failure."""
+    """A temporary file that gets the name `place`. Who calls `begin` also calls `remove`, even after an error."""
 
     def __init__(self, place: str) -> None:
         self._where = quoted(place)
@@ -131,7 +131,7 @@ class Part:
 
     def begin(self) -> None:
         """Creates the file, empty."""
-        with saying(f"cannot write beside {self._where}"):
+        with saying(f"cannot write next to {self._where}"):
             self._folder = os.open(self._home or ".", FOLDER)
             _unfinished.add(self)
             self.file = os.open(self._name, os.O_RDWR | os.O_CREAT | os.O_EXCL | os.O_CLOEXEC, 0o600, dir_fd=self._folder)
@@ -144,22 +144,22 @@ class Part:
                 view = view[os.write(self.file, view) :]
 
     def flush(self) -> None:
-        """Flushes the bytes to the disk, and has the next reads of the file come from there."""
-        with saying(f"cannot bring {self._where} onto the disk"):
+        """Flushes the bytes to the disk, and drops the file from the cache, so that it is read back from the disk."""
+        with saying(f"cannot flush {self._where} to the disk"):
             os.fsync(self.file)
             os.posix_fadvise(self.file, 0, 0, os.POSIX_FADV_DONTNEED)
 
     def resemble(self, like: os.stat_result, is_listed: bool) -> bool:
-        """Gives it owner, mode and times of another file, as far as the disk allows: whether others may read it who may not read that file.
-        `is_listed`: that file has an access control list, which isn't copied."""
+        """Gives it owner, mode and times of another file, as far as the disk allows; returns whether more users may read it than that file.
+        `is_listed`: whether that file has an access control list, which isn't copied."""
         opens = _give_rights(self.file, like, is_listed or has_list(self.file))
         with suppress(OSError):
             os.utime(self.file, ns=(like.st_atime_ns, like.st_mtime_ns))
         return opens
 
     def put(self, force: bool) -> None:
-        """Gives the file its name, over an old file if `force` says so, and flushes the folder to the disk. Raises FileExistsError if
-        something has the name."""
+        """Gives the file its name, over an old file if `force` says so, and flushes the folder to the disk. Otherwise raises
+        FileExistsError if the name exists."""
         with saying(f"cannot put {self._where} into place"):
             self._close_file()  # network disks keep a file that is open when its name is removed
             is_linked = not force and self._is_linked()
@@ -167,14 +167,14 @@ class Part:
                 os.rename(self._name, self._place, src_dir_fd=self._folder, dst_dir_fd=self._folder)
             elif not is_linked:
                 self._rename_where_nothing_is()
-        with saying(f"cannot remove {self._name} beside {self._where}"):
+        with saying(f"cannot remove {self._name} next to {self._where}"):
             if is_linked:
                 os.unlink(self._name, dir_fd=self._folder)
-        with saying(f"cannot bring the name {self._where} onto the disk"):
+        with saying(f"cannot flush the name {self._where} to the disk"):
             sync_folder(self._folder)
 
     def _is_linked(self) -> bool:
-        """Links the file to its name, unless the disk has no links."""
+        """Links the file to its name; returns False if the disk has no links."""
         try:
             os.link(self._name, self._place, src_dir_fd=self._folder, dst_dir_fd=self._folder, follow_symlinks=False)
         except OSError as error:
@@ -199,7 +199,7 @@ class Part:
             os.close(file)
 
     def remove(self) -> None:
-        """Closes the file, and removes it unless it has its name."""
+        """Closes the file, and removes it unless it got its name."""
         if self in _unfinished:
             for call in (self._close_file, lambda: os.unlink(self._name, dir_fd=self._folder), lambda: os.close(self._folder)):
                 with suppress(OSError):

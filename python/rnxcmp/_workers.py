@@ -1,4 +1,4 @@
-"""Many inputs in several processes at once. Each process does every n-th input; the answers are given in the order of the inputs."""
+"""Many inputs in several processes at once. Each process does every n-th input; the answers are returned in the order of the inputs."""
 
 from __future__ import annotations
 
@@ -17,7 +17,7 @@ _OF_ALL = (signal.SIGINT, signal.SIGHUP, signal.SIGQUIT)  # a terminal sends the
 
 
 class Workers:
-    """Processes that call `work` with each of `inputs`. Once they are asked to end each finishes the input that it has begun."""
+    """Processes that call `work` with each of `inputs`. When they are asked to end, each finishes the input that it has begun."""
 
     def __init__(self, count: int, work: Callable[[str], object], inputs: Sequence[str]) -> None:
         self._count, self._ends = len(inputs), mmap.mmap(-1, 1)  # memory that all processes share: whether they are asked to end
@@ -32,7 +32,7 @@ class Workers:
             self._workers.append((process, os.fdopen(reader, "rb")))
 
     def _answer(self, writer: int, work: Callable[[str], object], inputs: Sequence[str]) -> None:
-        """Is a worker: writes an answer for each input, and ends this process."""
+        """Writes an answer for each input, and ends this process, which is a worker."""
         status = 1
         try:
             disown_unfinished()
@@ -53,11 +53,11 @@ class Workers:
             os._exit(status)
 
     def ask_to_end(self) -> None:
-        """Has no further input begun."""
+        """Asks all workers to begin no further input."""
         self._ends[0] = 1
 
     def answers(self) -> Iterator[Optional[object]]:
-        """Gives the answer for each input in order, or None for one that isn't done, because its process died or all are asked to end."""
+        """Returns the answer for each input in order, or None if it isn't done because its process died or all were asked to end."""
         for number in range(self._count):
             process, file = self._workers[number % len(self._workers)]
             try:
@@ -67,5 +67,5 @@ class Workers:
                 yield None
 
     def died(self) -> int:
-        """Waits for all processes: how many of them died."""
+        """Waits for all processes; returns how many of them died."""
         return sum(os.waitpid(process, 0)[1] != 0 for process, _ in self._workers)

@@ -12,7 +12,7 @@ import re
 import sys
 from contextlib import suppress
 
-if os.name == "nt":  # which has no call that names a file and replaces nothing
+if os.name == "nt":  # no call there names a file and replaces nothing
     sys.exit("rnxcmp-file: ERROR: whole files need POSIX, which Windows isn't: rnxcmp.exe does a file, and the package rnxcmp bytes and streams")
 
 from ._calls import RnxcmpError, version
@@ -40,9 +40,9 @@ usage: rnxcmp-file rnx2crx [options] INPUT..
        rnxcmp-file explain [--json] [--inputs LIST] INPUT..
 
 Compacts (rnx2crx) or expands (crx2rnx) whole files. The output is beside the
-input, under its name with the other ending, packed by gzip if the input is.
-With check it says which files aren't valid or may be cut off. With explain it
-says why a file is refused, isn't standard, or may be cut off: the line, its
+input, under its name with the other extension, and packed by gzip if the input
+is. With check it says which files aren't valid or may be cut off. With explain
+it says why a file is refused, isn't standard, or may be cut off: the line, its
 field, the expected text, and the likely causes.
 
   -o OUTPUT           the output's name, for one input; - is standard output of
@@ -52,32 +52,31 @@ field, the expected text, and the likely causes.
   --new               pass over each input whose output exists
   -j N                do N files at once; as many as there are processors if no
                       number follows
-  --inputs LIST       the names of more inputs, each with a NUL; - is standard
+  --inputs LIST       more inputs: their names, each with a NUL; - is standard
                       input
   --gzip, --no-gzip   pack the output, or don't
   --verify            read each output back from the disk, and compare what it
                       expands to with the input
   --verified-to LIST  do so, and write the names of the inputs that are verified
                       exact into the file LIST, each with a NUL
-  --normal-form       with --verified-to: those verified by normal form too
-  --accept-cut        with --verified-to: those whose last line has no line end
-                      too
+  --normal-form       with --verified-to: also inputs verified by normal form
+  --accept-cut        with --verified-to: also inputs without a last line end
   -f                  replace an output that exists
   -e N, --date TEXT   as for rnxcmp rnx2crx
   -s                  warn about epochs with a fault, and skip them
   --max-output SIZE   make no output that is longer, unpacked: a number of bytes
-                      or of thousands (k), millions (M) or milliards (G)
+                      or of thousands (k), millions (M) or billions (G)
   -v                  print all warnings, not three a file
-  --json              print a JSON object a file, each on one line
+  --json              print a JSON object for each file, on one line
   -q                  print no line for a file that is done
   -h, --help          print this help
   --version           print the version
 
-It never changes or removes an input. An output that exists is left as it is: if
-it holds this input that is fine, otherwise an error, unless -f is given. Exit
-status: 0 all files are done; 2 epochs were skipped, so a file isn't verified,
-or a checked file may be cut off; 1 an error. Each message begins with the
-input's name.
+It never changes or removes an input. An output that exists is left as it is,
+unless -f is given; unless it holds this input, it is an error. Exit status: 0
+all files are done; 2 epochs were skipped, so a file isn't verified, or a
+checked file may be cut off; 1 an error. Each message begins with the input's
+name.
 """
 REMOVES_NOTHING = (
     "is no longer an option: no input is ever removed; "
@@ -102,7 +101,7 @@ class _Parser(argparse.ArgumentParser):
 
 
 def _formatter(prog: str) -> argparse.HelpFormatter:
-    """With a width, since to find out that of the terminal takes as long as all else."""
+    """Returns a formatter with a fixed width, because finding out the terminal's takes as long as the rest of the start."""
     return argparse.HelpFormatter(prog, width=80)
 
 
@@ -135,7 +134,7 @@ def _is_date(text: str) -> bool:
 
 
 def _arguments(words: Sequence[str]) -> argparse.Namespace:
-    """The arguments; refuses what doesn't go together."""
+    """Returns the arguments; refuses those that contradict each other."""
     words = list(words)
     for at in range(len(words)):
         if words[at] == "-j" and not re.match("[0-9]", "".join(words[at + 1 : at + 2])):
@@ -177,19 +176,19 @@ def _ensure_names(found: argparse.Namespace) -> None:
 
 
 def _place(found: argparse.Namespace, name: str) -> str:
-    """An input's name as it is below the folder of --from, or as it is given."""
+    """Returns an input's name as it is below the folder of --from, or as it is given."""
     return name if found.base is None else os.path.relpath(os.path.abspath(name), os.path.abspath(found.base))
 
 
 def _output_of(found: argparse.Namespace, choices: Choices, name: str) -> str:
-    """The name of an input's output, by the arguments."""
+    """Returns the name of an input's output, by the arguments."""
     if found.output is not None or found.to is None:
         return found.output or output_name(name, choices)
     return os.path.join(found.to, os.path.dirname(_place(found, name)), os.path.basename(output_name(name, choices)))
 
 
 def _ensure_own_outputs(found: argparse.Namespace, choices: Choices) -> None:
-    """Refuses two inputs with one output, of which two processes would make one file."""
+    """Refuses two inputs with one output, because two processes would make the same file."""
     outputs: Dict[str, str] = {}
     for name in found.inputs:
         with suppress(FileError):
@@ -201,9 +200,9 @@ def _ensure_own_outputs(found: argparse.Namespace, choices: Choices) -> None:
 def _ensure_choices(found: argparse.Namespace) -> None:
     given = {name for name, value in vars(found).items() if value not in (None, False)} - {"direction", "inputs", "more", "json"}
     if found.direction == EXPLANATION and given:
-        _refuse("explain takes --json and --inputs alone")
+        _refuse("explain takes only --json and --inputs")
     if found.direction == CHECK and given - {"quiet", "jobs"}:
-        _refuse("check takes -j, --json, -q and --inputs alone")
+        _refuse("check takes only -j, --json, -q and --inputs")
     if found.jobs is not None and not (re.fullmatch("[0-9]{1,3}", found.jobs) and 1 <= int(found.jobs) <= 256):
         _refuse("the number of -j is from 1 to 256")
     if found.new and found.force:
@@ -215,20 +214,20 @@ def _ensure_choices(found: argparse.Namespace) -> None:
     if found.date is not None and not _is_date(found.date):
         _refuse("bad date: at most 20 characters, each printable ASCII")
     if found.most is not None and not _size_of(found.most):
-        _refuse("the size of --max-output is a number of bytes, from 1, or one with k, M or G behind it")
+        _refuse("the size of --max-output is a number of bytes, from 1, or such a number and k, M or G")
     for given, name in ((found.normal_form, "--normal-form"), (found.accept_cut, "--accept-cut")):
         if given and found.list is None:
             _refuse(f"{name} belongs to --verified-to")
 
 
 def _size_of(text: str) -> int:
-    """A number of bytes, or 0 for what is none."""
+    """Returns a number of bytes, or 0 if `text` isn't one."""
     size = re.fullmatch("([0-9]{1,9})([kMG]?)", text) or re.fullmatch("([0-9]{1,18})()", text)
     return int(size[1]) * _UNITS[size[2]] if size else 0
 
 
 def _listed(name: str) -> List[str]:
-    """The names in a list, each of which ends in a NUL."""
+    """Returns the names in a list, each of which ends in a NUL."""
     try:
         with open(0 if name == "-" else name, "rb", closefd=name != "-") as file:
             *names, rest = file.read().split(b"\0")
@@ -249,7 +248,7 @@ def _choices(found: argparse.Namespace) -> Choices:
     return Choices(found.direction, pack, verify, found.force, found.skip, every, found.date, most, found.new, found.to is not None)
 
 
-# ---- what is printed
+# ---- output and messages
 
 
 def _write_all(descriptor: int, text: Union[str, bytes]) -> None:
@@ -259,13 +258,13 @@ def _write_all(descriptor: int, text: Union[str, bytes]) -> None:
 
 
 def _say(text: str) -> None:
-    """A message on standard error; where it can't be written nothing else can be said."""
+    """Writes a message to standard error. If that fails, nobody can be told."""
     with suppress(OSError):
         _write_all(2, f"{text}\n")
 
 
 class Failure:
-    """Why nothing was made of a file: the message, and the line and the code of a fault, or 0."""
+    """The reason why a file has no output: the message, and the line and code of an error of the input, or 0."""
 
     def __init__(self, text: str, line: int = 0, code: int = 0) -> None:
         self.text, self.line, self.code = text, line, code
@@ -287,7 +286,7 @@ def _as_json(name: str, result: Result, checks: bool) -> str:
 
 
 class Printer:
-    """The lines on standard output, and how far the run is, on a terminal."""
+    """Writes the lines on standard output and, if standard error is a terminal, the progress there."""
 
     def __init__(self, found: argparse.Namespace) -> None:
         self._json, self._quiet, self._count = found.json, found.quiet, len(found.inputs)
@@ -316,7 +315,7 @@ class Printer:
         _say(f"{quoted(name)}: {text}")
 
     def line(self, text: str) -> None:
-        """A line on standard output; once one couldn't be written, none is tried."""
+        """Writes a line to standard output, unless an earlier one couldn't be written."""
         self.clear()
         if self.failed:
             return
@@ -327,10 +326,10 @@ class Printer:
             _say(f"rnxcmp-file: ERROR: cannot write to standard output: {error.strerror}")
 
     def file(self, name: str, result: Result) -> None:
-        """What was done with a file, or why nothing was."""
+        """Writes and counts the result of a file."""
         done = result if isinstance(result, Done) else None
-        for what in (done.state, done.verified, "skipped" if done.skipped else "") if done else ("error" if isinstance(result, Failure) else "",):
-            self._counts[what] += 1
+        for kind in (done.state, done.verified, "skipped" if done.skipped else "") if done else ("error" if isinstance(result, Failure) else "",):
+            self._counts[kind] += 1
         self._counts["cut off"] += getattr(result, "may_be_cut_off", False)
         if self._json:
             self.line(_as_json(name, result, self._checks))
@@ -342,7 +341,7 @@ class Printer:
             self.line(f"{quoted(name)}: {said}")
 
     def summary(self) -> None:
-        """How many files were done in which way; of each file no more is kept than that, since there may be many."""
+        """Writes the counts, which are all that is kept of the files, because there may be many."""
         if self._json or (self._checks and self._quiet) or (self._count < 2 and not self._always):
             return
         counts, words = self._counts, {MADE: "made", REPLACED: "replaced", THERE: "there already", PASSED: "passed over", "error": "errors"}
@@ -355,7 +354,7 @@ class Printer:
 
 
 class Warnings:
-    """The warnings about a file: of those about lines some are said, and how many more there are, or all."""
+    """Says the warnings about a file, but of those about lines only the first and the number of the others, unless all are wanted."""
 
     def __init__(self, say: Callable[[str], None], all_of_them: bool) -> None:
         self._say, self._all, self._count = say, all_of_them, 0
@@ -381,7 +380,7 @@ def _absolute(name: str) -> str:
 
 
 class VerifiedList:
-    """The file with the names of the verified inputs. It appears whole, at the end, and never replaces a file."""
+    """The file with the names of the verified inputs. It appears at the end, whole, and never replaces a file."""
 
     def __init__(self, place: str, normal_form: bool, accept_cut: bool, force: bool) -> None:
         self._place, self._accepts_cut, self._force = place, accept_cut, force
@@ -390,7 +389,7 @@ class VerifiedList:
         self.part = Part(place)
 
     def begin(self) -> None:
-        """Makes the temporary file, so that it is known at once if that can't be done."""
+        """Makes the temporary file, so that an error is known at once."""
         if os.path.lexists(self._place):
             raise FileError("file exists")
         self.part.begin()
@@ -400,7 +399,7 @@ class VerifiedList:
             self._found.append((_absolute(name), done))
 
     def put(self) -> int:
-        """Gives the list its name: how many files have changed since they were verified, and aren't in it."""
+        """Gives the list its name; returns how many files aren't in it because they changed after they were verified."""
         held = [name for name, done in self._found if done.still_holds(name)]
         for name in dict.fromkeys(held):
             self.part.write(os.fsencode(name) + b"\0")
@@ -420,11 +419,11 @@ class VerifiedList:
 
 
 def _tried(work: Callable[[], Result]) -> Result:
-    """Does a file: what was done, or the message of its error."""
+    """Calls `work`; returns its result, or a failure with the message of its error."""
     try:
         return work()
     except (RnxcmpError, MemoryError) as error:
-        words = str(error) or "out of memory"  # of which Python says nothing
+        words = str(error) or "out of memory"  # Python's MemoryError has no words
         text = f"ERROR {words}" if words.startswith("line ") else f"ERROR: {words}"
         return Failure(text, getattr(error, "line", 0), getattr(error, "code", 0))
     except OSError as error:
@@ -437,7 +436,7 @@ def _to_standard_output(data: bytes) -> None:
 
 
 class Run:
-    """One call of the tool."""
+    """A call of the tool."""
 
     def __init__(self, found: argparse.Namespace) -> None:
         self._found, self._choices = found, _choices(found)
@@ -464,11 +463,11 @@ class Run:
             result = self._with_cause(name, result)
             say(result.text)
         elif isinstance(result, Done) and self._choices.verify and result.skipped:
-            say("WARNING: not verified, since epochs were skipped")
+            say("WARNING: not verified, because epochs were skipped")
         return result
 
     def _tell(self, name: str, result: Result) -> int:
-        """Says what was done with a file: the status."""
+        """Says the result of a file; returns its status."""
         if self._verified and isinstance(result, Done):
             self._verified.add(name, result)
         self._printer.file(name, result)
@@ -477,7 +476,7 @@ class Run:
         return SKIPPED if (result.skipped if isinstance(result, Done) else result.may_be_cut_off) else GOOD
 
     def _with_cause(self, name: str, failure: Failure) -> Failure:
-        """Adds the likely causes of a fault of the input, in parentheses."""
+        """Adds the likely causes in parentheses, if it is an error of the input."""
         if not failure.code or not failure.text.startswith("ERROR line "):
             return failure
         from ._checked import direction_of
@@ -496,7 +495,7 @@ class Run:
         return texts, self._do(name, texts.append)
 
     def _at_once(self) -> Iterator[int]:
-        """Does several files at once. A signal, or a process that dies, lets the others finish the files that they have begun."""
+        """Does several files at once. After a signal, or when a process dies, the others finish the files that they have begun."""
         from ._workers import Workers
 
         workers, undone = Workers(int(self._found.jobs), self._answer, self._found.inputs), []
@@ -517,7 +516,7 @@ class Run:
             yield FAILED
 
     def _do_all(self) -> int:
-        """Does all files: the status."""
+        """Does all files; returns the status."""
         statuses = {*(self._at_once() if self._found.jobs and len(self._found.inputs) > 1 else self._one_by_one())}
         self._printer.clear()
         self._printer.summary()
@@ -526,7 +525,7 @@ class Run:
         return SKIPPED if SKIPPED in statuses else GOOD
 
     def run(self) -> int:
-        """Does all files, and puts the list into place: the status."""
+        """Does all files, and gives the list its name; returns the status."""
         if self._verified is None:
             return self._do_all()
         try:
@@ -544,7 +543,7 @@ class Run:
 
 
 def _open_streams() -> None:
-    """Has no file take the number of a standard stream that was closed."""
+    """Opens standard streams that are closed, so that no file gets their numbers."""
     for descriptor in range(3):
         try:
             os.fstat(descriptor)
@@ -553,7 +552,7 @@ def _open_streams() -> None:
 
 
 def _end_by(number: int, _: object) -> None:
-    """Ends the process by a signal, once its temporary files are removed."""
+    """Removes the temporary files, and ends the process by the signal."""
     import signal
 
     remove_unfinished()
@@ -562,7 +561,7 @@ def _end_by(number: int, _: object) -> None:
 
 
 def _handle_signals(handler: Callable[[int, object], None] = _end_by) -> None:
-    """Has a handler called for the signals that ask a run to end, unless they are ignored."""
+    """Sets the handler of each signal that asks a run to end, unless it is ignored."""
     import signal
 
     for name in ("HUP", "INT", "QUIT", "TERM", "ALRM", "USR1", "USR2", "XCPU"):
@@ -586,7 +585,7 @@ def _run_words(words: Sequence[str]) -> int:
 
 
 def main(words: Optional[Sequence[str]] = None) -> int:
-    """The command: the status."""
+    """Runs the command; returns the status."""
     _open_streams()
     _handle_signals()
     try:
@@ -597,7 +596,7 @@ def main(words: Optional[Sequence[str]] = None) -> int:
 
 
 def __getattr__(name: str) -> object:
-    """The calls for files, which need more than the command does."""
+    """Loads the calls for files, which the command doesn't need."""
     if name in ("compress_on_disk", "decompress_on_disk"):
         from . import _on_disk
 

@@ -72,7 +72,7 @@ REFUSED = (
     ("rnx2crx a.rnx -o ''", "an empty name"), ("rnx2crx a.rnx -o -", "only crx2rnx -o - writes to standard output"), ("rnx2crx a.rnx --verified-to -", "only crx2rnx -o - writes to standard output"),
     ("crx2rnx a.crx -o - --verify", "-o - makes no file"), ("rnx2crx -j 2 a.rnx -o c", "goes without -j"), ("rnx2crx -j 0 a.rnx", "from 1 to 256"), ("rnx2crx -j 257 a.rnx", "from 1 to 256"), ("rnx2crx --new -f a.rnx", "--new passes over"),
     ("rnx2crx --from . a.rnx", "--from belongs to --to"), ("rnx2crx --to out /a.rnx", "--to needs --from FOLDER"), ("rnx2crx --to out ../a.rnx", "--to needs --from FOLDER"), ("rnx2crx --to out --from folder.rnx a.rnx", "a.rnx isn't below"),
-    ("rnx2crx -j 2 a.rnx ./a.rnx", "these have one output: a.rnx and ./a.rnx"), ("check -f a.rnx", "check takes -j, --json, -q and --inputs alone"), ("rnx2crx a.rnx -o b.crx.bz2", "an output is packed by gzip only"),
+    ("rnx2crx -j 2 a.rnx ./a.rnx", "these have one output: a.rnx and ./a.rnx"), ("check -f a.rnx", "check takes only -j, --json, -q and --inputs"), ("rnx2crx a.rnx -o b.crx.bz2", "an output is packed by gzip only"),
     ("rnx2crx a.rnx b.rnx -o c", "-o names one output"), ("crx2rnx a.rnx -e 2", "belong to rnx2crx"), ("crx2rnx a.rnx --date x", "belong to rnx2crx"), ("rnx2crx a.rnx -e 0", "from 1 to 1000000"),
     ("rnx2crx a.rnx -e 1000001", "from 1 to 1000000"), ("rnx2crx a.rnx -e x", "from 1"), (f"rnx2crx a.rnx -e {'9' * 5000}", "from 1 to 1000000"), (f"rnx2crx a.rnx --date {'x' * 21}", "bad date"),
     ("rnx2crx a.rnx --date \u00e9", "bad date"), ("rnx2crx a.rnx --gzip --no-gzip", "not allowed"), ("rnx2crx a.rnx --ver", "unrecognized arguments: --ver;"),
@@ -80,10 +80,10 @@ REFUSED = (
     *((f"rnx2crx a.rnx --max-output {size}", "the size of --max-output") for size in ("0", "x", "1m", "-1", "9" * 20)), ("rnx2crx a.rnx --delete", "--delete is no longer an option: no input is ever removed"),
     ("rnx2crx -d a.rnx", "-d is no longer an option: no input is ever removed"), ("rnx2crx .", "this is a folder, not a file"), ("rnx2crx folder.rnx", "this is a folder, not a file"), ("rnx2crx a.txt", "no output name"),
     ("rnx2crx . -o b", "this is a folder"), ("rnx2crx a.rnx -o b.24o.gz", "named as an input"), ("crx2rnx a.crx -o folder.rnx/.CRX", "named as an input"), ("rnx2crx pipe.rnx", "no regular file"),
-    ("rnx2crx none.rnx", "none.rnx: ERROR: cannot read this file: No such file"), ("rnx2crx a.rnx -o no/b", "cannot write beside no/b: No such file"), ("rnx2crx a.rnx -o a.rnx/b", "cannot look at a.rnx/b: Not a directory"),
+    ("rnx2crx none.rnx", "none.rnx: ERROR: cannot read this file: No such file"), ("rnx2crx a.rnx -o no/b", "cannot write next to no/b: No such file"), ("rnx2crx a.rnx -o a.rnx/b", "cannot look at a.rnx/b: Not a directory"),
     ("rnx2crx a.rnx -o pipe", "the output is no regular file: pipe"), ("rnx2crx -f a.rnx -o pipe", "the output is no regular file: pipe"), ("rnx2crx a.rnx -o dangling", "a link to nothing"), ("rnx2crx empty.rnx", "ERROR line 1 code 3"),
     ("rnx2crx a.bz2.rnx", "the packed text is "), ("rnx2crx zstd.rnx", "zstd"), ("rnx2crx round", "no output name"), ("rnx2crx a.rnx -o round", "cannot look at round: Too many levels of symbolic links"), ("rnx2crx --inputs half", "doesn't end in a NUL: half"),
-    ("rnx2crx --inputs none", "cannot read the list of inputs none: No such file"), ("rnx2crx --inputs .", "cannot read the list of inputs .: Is a directory"), ("explain -f a.rnx", "explain takes --json and --inputs alone"),
+    ("rnx2crx --inputs none", "cannot read the list of inputs none: No such file"), ("rnx2crx --inputs .", "cannot read the list of inputs .: Is a directory"), ("explain -f a.rnx", "explain takes only --json and --inputs"),
 )  # fmt: skip
 AT_START = {
     **A, "empty.rnx": b"", "a.bz2.rnx": b"BZh91AY", "zstd.rnx": b"\x28\xb5\x2f\xfd", "folder.rnx": FOLDER, "pipe.rnx": PIPE, "pipe": PIPE, "dangling": "nothing", "round": "round", "half": b"a b.rnx\0c\nd.rnx",
@@ -101,7 +101,7 @@ def lists(texts):
         said = ["4 files: 3 made, 0 replaced, 0 there already, 1 errors", "verified: 1 exact, 1 normal form", "with skipped epochs: 1"]
         yield row(four, f"rnx2crx -s --verified-to list {more} {' '.join(four)}", 1, said, ["bad.rnx: ERROR line 1 code 3", "s.rnx: WARNING line"], ("a.crx", "p.crx", "s.crx", "list"), listed)
     there = {**S, "s.crx": texts.filtered(STRANGE, "rnx2crx", "-s")}
-    yield row(there, "rnx2crx -s --verified-to list --normal-form s.rnx", 2, "s.crx is there already, not verified: 1 warnings", "s.rnx: WARNING: not verified, since epochs were skipped", ("list",), [])
+    yield row(there, "rnx2crx -s --verified-to list --normal-form s.rnx", 2, "s.crx is there already, not verified: 1 warnings", "s.rnx: WARNING: not verified, because epochs were skipped", ("list",), [])
     yield row({**A, "sub": FOLDER}, "rnx2crx a.rnx --verified-to sub/l -osub/b", 0, "made sub/b, verified exact", (), ("sub/b", "sub/l"))
     for name in ("taken", "pipe", "folder.rnx", "dangling", "a.rnx"):
         yield row({**AT_START, "taken": b""}, f"rnx2crx -f --verified-to {name} a.rnx", 1, (), f"{name}: ERROR: file exists\n")
