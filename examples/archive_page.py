@@ -27,7 +27,9 @@ STATES = {
 }
 ORDER = list(STATES)
 TO_LOOK_AT = ORDER[:3]
-SIDE, LEFT, TOP = 11, 96, 30  # of the picture, in pixels: a square with its margin, the names, the days
+SIDE, LEFT, TOP = 12, 96, 32  # of the picture, in pixels: a square with its margin, the names, the days
+STYLE = """body { font: 14px sans-serif; margin: 1.5em } td { padding: 1px 8px; vertical-align: top } tr:target { background: #ffd }
+span { display: inline-block; width: 12px; height: 12px; margin: 0 4px -1px 16px } span:first-child { margin-left: 0 }"""
 
 
 def station_and_day(name):
@@ -107,21 +109,21 @@ def square(archive, station, day, x, y):
     files = archive.cells.get((station, day))
     if not files:
         title = f"{station} {day}: no file"
-        return f'<rect x="{x}" y="{y}" width="9" height="9" fill="none" stroke="#ddd"><title>{html.escape(title)}</title></rect>'
+        return f'<rect x="{x + 0.5}" y="{y + 0.5}" width="9" height="9" fill="none" stroke="#bbb"><title>{html.escape(title)}</title></rect>'
     title = "\n".join([f"{station} {day}", *(f"{os.path.basename(file['input'])}: {words_of(file)}" for file in files[:6])])
-    made = f'<rect x="{x}" y="{y}" width="9" height="9" fill="{STATES[worst(files)][1]}"><title>{html.escape(title)}</title></rect>'
+    made = f'<rect x="{x}" y="{y}" width="10" height="10" fill="{STATES[worst(files)][1]}"><title>{html.escape(title)}</title></rect>'
     return f'<a href="#{html.escape(station)}-{day}">{made}</a>' if worst(files) in TO_LOOK_AT else made
 
 
 def picture(archive):
     """Returns the stations and days as SVG."""
     width, height = LEFT + SIDE * len(archive.days) + 90, TOP + SIDE * len(archive.stations) + 6
-    made = [f'<svg xmlns="http://www.w3.org/2000/svg" width="{width}" height="{height}" font-family="sans-serif" font-size="10">']
+    made = [f'<svg xmlns="http://www.w3.org/2000/svg" width="{width}" height="{height}" font-family="sans-serif" font-size="11">']
     for k, day in enumerate(archive.days):
         if day.day == 1 or k == 0:
             made.append(f'<text x="{LEFT + SIDE * k}" y="12">{day:%Y-%m}</text>')
-        if day.day % 10 == 1:
-            made.append(f'<text x="{LEFT + SIDE * k}" y="25" fill="#888">{day.day}</text>')
+        if day.day in (1, 11, 21):
+            made.append(f'<text x="{LEFT + SIDE * k}" y="26" fill="#666">{day.day}</text>')
     for row, station in enumerate(archive.stations):
         y = TOP + SIDE * row
         made.append(f'<text x="{LEFT - 6}" y="{y + 9}" text-anchor="end">{html.escape(station)}</text>')
@@ -133,7 +135,7 @@ def picture(archive):
 def as_page(archive):
     """Returns the page as HTML."""
     key = "\n".join(
-        f'<span style="background:{colour}">&nbsp;&nbsp;&nbsp;</span> {words}: {archive.counts[state]}'
+        f'<span style="background:{colour}"></span>{words}: {archive.counts[state]}'
         for state, (_, colour, words) in STATES.items()
         if archive.counts[state]
     )
@@ -145,9 +147,10 @@ def as_page(archive):
     return f"""<!doctype html>
 <meta charset="utf-8">
 <title>Archive</title>
-<style>body {{ font: 14px sans-serif; margin: 1.5em }} td {{ padding: 1px 8px; vertical-align: top }} tr:target {{ background: #ffd }}</style>
+<style>{STYLE}</style>
 <h1>Archive: {len(archive.stations)} stations, {len(archive.days)} days, {count} files</h1>
-<p>{key}</p>
+<p>{key}
+<span style="border: 1px solid #bbb; width: 10px; height: 10px"></span>a day without a file</p>
 {picture(archive)}
 <h2>{len(rows)} files to look at</h2>
 <table>
@@ -161,6 +164,7 @@ def main():
     parser.add_argument("--text", action="store_true", help="print text instead of HTML")
     words = parser.parse_args()
     archive = Archive(line for line in sys.stdin if line.strip())
+    sys.stdout.reconfigure(encoding="utf-8", errors="replace")  # a name may have any bytes
     sys.stdout.write(as_text(archive) if words.text else as_page(archive))
     return 0
 

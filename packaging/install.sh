@@ -53,3 +53,6 @@ install -m 644 "${NOTICES:-$here/../NOTICES}" "$here"/../LICENSE-* "$here/../CHA
 for name in USE FILES ARCHIVES PLANNING GUARANTEES FORMATS; do
     install -m 644 "$here/../docs/$name.md" "$prefix/share/doc/rnxcmp"
 done
+install -m 644 "$here/../docs/archive.png" "$prefix/share/doc/rnxcmp"
+install -d "$prefix/share/doc/rnxcmp/examples"
+install -m 755 "$here/../examples/archive_page.py" "$prefix/share/doc/rnxcmp/examples"

@@ -15,7 +15,7 @@ done
     rm -f "$prefix/$name"
 done
 rm -rf "$prefix/lib/rnxcmp/rnxcmp/__pycache__"
-for folder in lib/rnxcmp/rnxcmp lib/rnxcmp lib/cmake/rnxcmp share/doc/rnxcmp; do
+for folder in lib/rnxcmp/rnxcmp lib/rnxcmp lib/cmake/rnxcmp share/doc/rnxcmp/examples share/doc/rnxcmp; do
     [ ! -d "$prefix/$folder" ] || rmdir "$prefix/$folder" 2> /dev/null ||
         printf '%s has other files, and stays\n' "$("$here/quoted.sh" "$prefix/$folder")" >&2
 done

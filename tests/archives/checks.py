@@ -37,6 +37,7 @@ WANTED = {
         "reports/archive/padded.24o.txt:standard no 32, blanks at its end\n",
         " 2  blanks at its end\n",
     ],
+    "A page of the archive": ["see archive.html"],
     "Checksums before and after": ["the same sums"],
     "Do the files come back?": ["the messages say which"],
     "Other programs that read the files": ["the same"],
@@ -47,6 +48,7 @@ LEFT = {
     "find and xargs": (["a_MO.crx", "sub/b_MO.crx", "packed_MO.crx.gz", "strange_MO.crx"], ["bad_MO.crx"]),
     "GNU parallel, with a job log": (["abcd0010.24d.gz", "padded.24d.gz"], ["faulty.24d.gz"]),
     "make": (["abcd0010.24d", "abcd0020.24d", "padded.24d"], ["faulty.24d", "two.24d"]),
+    "A page of the archive": (["../archive.html"], []),
     "A compaction every night": (["a_MO.crx.gz", "sub/b_MO.crx.gz"], ["bad_MO.crx.gz", "strange_MO.crx.gz"]),
 }
 

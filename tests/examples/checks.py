@@ -84,14 +84,14 @@ def available():
 
 # Four files of two stations in three days, as `rnxcmp-file --json` prints them, and the page of them.
 ARCHIVE = """{"input": "a/abcd0300.24d.gz", "error": null, "may_be_cut_off": false}
-{"input": "a/abcd0310.24d.gz", "error": "ERROR line 9 code 13: bad satellite <x>", "may_be_cut_off": false}
+{"input": "a\\udcff/abcd0310.24d.gz", "error": "ERROR line 9 code 13: bad satellite <x>", "may_be_cut_off": false}
 {"input": "b/WXYZ00DEU_R_20240320000_01D_30S_MO.crx.gz", "error": null, "may_be_cut_off": true}
 {"input": "b/WXYZ00DEU_R_20240300000_01D_30S_MO.rnx", "output": "o.crx", "verified": null, "error": null, "may_be_cut_off": false}
 """
 PAGE = """            |  2024-01-30 to 2024-02-01
 ABCD      #X   2 of 3
 WXYZ00DEU . c  2 of 3
-ERROR line 9 code 13: bad satellite <x>: a/abcd0310.24d.gz
+ERROR line 9 code 13: bad satellite <x>: a?/abcd0310.24d.gz
 may be cut off: b/WXYZ00DEU_R_20240320000_01D_30S_MO.crx.gz
 1 error; 1 may be cut off; 1 not verified; 1 good
 X error  c may be cut off  s epochs skipped  . not verified  # good  blank: no file
@@ -103,7 +103,7 @@ def page_of_an_archive():
     command = [sys.executable, TOP / "examples/archive_page.py"]
     text, page = (subprocess.run([*command, *words], input=ARCHIVE, capture_output=True, text=True, timeout=60).stdout for words in (["--text"], []))
     wrong = [] if text == PAGE else [text]
-    wrong += [] if "Archive: 2 stations, 3 days, 4 files" in page and "bad satellite &lt;x&gt;" in page and page.count("no file") == 2 else [page]
+    wrong += [] if "Archive: 2 stations, 3 days, 4 files" in page and "bad satellite &lt;x&gt;" in page and page.count("no file<") == 2 else [page]
     return wrong + [f"the page has {word}" for word in ("<script", "src=", "<x>", "@import") if word in page]
 
 

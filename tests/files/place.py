@@ -13,8 +13,6 @@ import traceback
 from pathlib import Path
 
 TOP = Path(__file__).resolve().parents[2]
-
-
 PACKAGE = Path(os.environ.get("RNXCMP_FILES_TESTED", TOP / "python")).resolve()
 CACHE = tempfile.TemporaryDirectory()  # of what Python compiles, which no run is to leave beside the sources
 os.chmod(CACHE.name, 0o777)  # some runs are another user's

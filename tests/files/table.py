@@ -112,8 +112,6 @@ def lists(texts):
     yield row({f"{LONG}.rnx": GOOD}, f"rnx2crx --verified-to {LONG}list {LONG}.rnx", 0, "verified exact", (), (f"{LONG}.crx", f"{LONG}list"))
     yield row({f"{LONG}.rnx": GOOD}, f"rnx2crx --gzip {LONG}.rnx", 1, (), f"cannot look at {LONG}.crx.gz: File name too long\n")
     yield row({f"{LONG}.rnx": GOOD}, f"rnx2crx --verified-to {LONG}listlist {LONG}.rnx", 1, (), "File name too long\n", (f"{LONG}.crx",))
-
-
     three = {"a.rnx": marked(GOOD, 1), "a.rnx.gz": gzip.compress(marked(GOOD, 2)), "a.rnx.GZ": gzip.compress(marked(GOOD, 3))}  # with one output
     yield row(three, "rnx2crx -f --no-gzip --verified-to list a.rnx a.rnx.gz a.rnx.GZ", 1, (), "list: ERROR: 2 files changed after they were verified", ("a.crx", "list"), ["a.rnx.GZ"])
 
