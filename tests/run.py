@@ -53,7 +53,7 @@ KINDS = (
     Kind("build", "build"),
     Kind("library", "library", True, 41),
     Kind("release", "release", True),
-    Kind("recipe", "archives", True, 73),
+    Kind("recipe", "archives", True, 75),
     Kind("law", "laws"),
     Kind("process", "process"),
     Kind("file", "files", True, 109),
