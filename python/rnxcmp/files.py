@@ -418,6 +418,10 @@ class VerifiedList:
 # ---- the run
 
 
+def _words_of(error: Exception) -> str:
+    return getattr(error, "strerror", None) or str(error)
+
+
 def _tried(work: Callable[[], Result]) -> Result:
     """Calls `work`; returns its result, or a failure with the message of its error."""
     try:
@@ -426,8 +430,8 @@ def _tried(work: Callable[[], Result]) -> Result:
         words = str(error) or "out of memory"  # Python's MemoryError has no words
         text = f"ERROR {words}" if words.startswith("line ") else f"ERROR: {words}"
         return Failure(text, getattr(error, "line", 0), getattr(error, "code", 0))
-    except OSError as error:
-        return Failure(f"ERROR: {error.strerror or error}")
+    except (OSError, ImportError) as error:  # some modules are loaded when they are first used
+        return Failure(f"ERROR: {_words_of(error)}")
 
 
 def _to_standard_output(data: bytes) -> None:
@@ -590,8 +594,8 @@ def main(words: Optional[Sequence[str]] = None) -> int:
     _handle_signals()
     try:
         return _run_words(sys.argv[1:] if words is None else words)
-    except OSError as error:
-        _say(f"rnxcmp-file: ERROR: {error.strerror or error}")
+    except (OSError, ImportError) as error:
+        _say(f"rnxcmp-file: ERROR: {_words_of(error)}")
         return FAILED
 
 

@@ -129,12 +129,15 @@ def speed(program, slack=2):
                  "constant.crx": b"".join([*constant[:80], b"\n", *constant[80:]]), "cr.rnx": large.replace(b"\n", b"\r")}  # fmt: skip
         for name, data in files.items():
             (Path(folder) / name).write_bytes(data)
-        start = measured([sys.executable, "-S", "-c", "pass"], folder)[0]
         for name in files:
-            conversion = measured([program, "rnx2crx" if name.endswith(".rnx") else "crx2rnx", "-", name], folder)[0]
-            seconds, said = measured([sys.executable, "-S", "-c", SAY_MEMORY, "explain", name], folder)
-            most = slack * (2 * conversion + 0.05)
-            wrong += [] if seconds - start <= most else [f"{name} takes {seconds - start:.3f} s, and a conversion {conversion:.3f} s"]
+            for _ in range(5):  # other programs slow down some runs
+                start = measured([sys.executable, "-S", "-c", "pass"], folder)[0]
+                conversion = measured([program, "rnx2crx" if name.endswith(".rnx") else "crx2rnx", "-", name], folder)[0]
+                seconds, said = measured([sys.executable, "-S", "-c", SAY_MEMORY, "explain", name], folder)
+                late = seconds - start - slack * (2 * conversion + 0.05)
+                if late <= 0:
+                    break
+            wrong += [] if late <= 0 else [f"{name} takes {seconds - start:.3f} s, and a conversion {conversion:.3f} s"]
             *lines, memory = said.decode().splitlines()
             wrong += [] if int(memory) < 64000 else [f"{name} takes {memory} kB"]
             wrong += [] if ("nothing to explain" if name.startswith("large") else "refused") in lines[0] else [f"{name}: {lines}"]
