@@ -28,7 +28,8 @@ STATES = {
 ORDER = list(STATES)
 TO_LOOK_AT = ORDER[:3]
 SIDE, LEFT, TOP = 12, 96, 32  # of the picture, in pixels: a square with its margin, the names, the days
-STYLE = """body { font: 14px sans-serif; margin: 1.5em } td { padding: 1px 8px; vertical-align: top } tr:target { background: #ffd }
+STYLE = """body { font: 14px sans-serif; margin: 1.5em }
+td { padding: 1px 8px; vertical-align: top } td:first-child { white-space: nowrap } tr:target { background: #ffd }
 span { display: inline-block; width: 12px; height: 12px; margin: 0 4px -1px 16px } span:first-child { margin-left: 0 }"""
 
 
