@@ -171,6 +171,7 @@ def from_python(texts):
         ("compress_on_disk", "a.rnx", GOOD, None, {"compression": "none"}, "a.crx", "a.crx"),
         ("compress_on_disk", "a.24n", b"navigation\n", None, {"verify": True}, "a.24n.gz", "a.24n.gz"),
         ("compress_on_disk", "a.24o", GOOD, other, {}, "FileError file exists, and holds something else", "a.24d.gz"),
+        ("compress_on_disk", "a.24n", bytes(300000), gzip.compress(bytes(1 << 18)), {}, "FileError file exists, and holds something else", "a.24n.gz"),
         ("compress_on_disk", "a.24o", GOOD, other, {"force": True}, "a.24d.gz", "a.24d.gz"),
         ("compress_on_disk", "a.24o", GOOD, None, {"delete": True}, "ValueError delete is no longer an option: no input is ever removed", None),
         ("compress_on_disk", "a.rnx", changed_epoch(GOOD), None, {}, "RnxcmpError line 33 code", None),
@@ -206,10 +207,7 @@ def from_python(texts):
     return wrong
 
 
-CHECKS = (
-    names, lines, streams_that_end, progress, nothing_around, little_memory, quick_start,
-    modules_of_the_folder, from_python,
-)  # fmt: skip
+CHECKS = (names, lines, streams_that_end, progress, nothing_around, little_memory, quick_start, modules_of_the_folder, from_python)
 
 
 def checks(texts):

@@ -26,7 +26,7 @@ from place import Texts  # noqa: E402
 NOT_KNOWN = 3  # the status where a check didn't end in time, and no other has seen anything
 ABOUT = {  # words in the names of the checks that are about a file
     "_parts.py": ("order", "modes", "access", "disks", "outputs that", "signals"),
-    "_whole.py": ("ways back", "cut files", "lists of", "inputs that", "bytes that", "links", "no epoch", "order", "refusals", "archives"),
+    "_whole.py": ("ways back", "cut files", "lists of", "inputs that", "bytes that", "links", "no epoch", "order", "refusals", "archives", "from python"),
     "_names.py": ("names",),
     "_on_disk.py": ("from python",),
     "_packed.py": ("packs", "archives"),
