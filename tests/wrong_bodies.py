@@ -5,8 +5,9 @@
     tests/wrong_bodies.py CRATE [NAME ..]  one crate, or these edits of it, each with the line that refuses it
 
 A contract is proved for each function by itself, from the contracts of the functions that it calls and not from their bodies. So edits of
-different functions don't meet, and one check of a copy of the crate tries them all. An edit that changes something outside functions, such as
-a constant, is tried alone.
+different functions don't meet, and one check of a copy of the crate tries them all. But the prover leaves a proof open that cites the proof of a
+function that is called and isn't proved: an edit of which nothing more is known is tried again, without those that were refused. An edit that
+changes something outside functions, such as a constant, is tried alone.
 
 An edit passes if a clause refuses a function that it changes. It fails if these functions are still proved, if the compiler refuses the text
 (then it is no edit), if it changes a definition, or if a function is refused only because its proof names something that the edit took away.
@@ -41,6 +42,7 @@ PLACE = re.compile(r"^(?:note: )?(?:\./)?((?:src|specs|proofs)/\S+?):(\d+):\d+: 
 UNREAD = re.compile(r"^(?:\./)?((?:src|specs)/\S+?):(\d+):\d+: error(?:\[|: (?!`)).*", re.M)  # by the compiler
 NAMES = re.compile(r"has no (?:field|`)|is not in scope")  # a proof names what isn't there
 FALSE = "allow values at which this goal is false"
+WAITS = "was not admitted"  # a proof that it cites
 Edit = namedtuple("Edit", "name pairs functions alone")  # of each pair its file, old and new text
 running, stopping = set(), threading.Event()
 
@@ -122,7 +124,7 @@ def words_of(crate, edits):
 
 
 def verdict(edit, crate, said):
-    """Returns an edit's name, what is wrong with it or nothing, and a line of the prover's output that shows it."""
+    """Returns an edit's name, what is wrong with it or nothing, and a line of the prover's output that shows it; None if its proof waits."""
     if unread := UNREAD.search(said):
         is_its = edit.alone or any(place.has(*unread.groups()) for place in edit.functions)
         return edit.name, "NO EDIT" if is_its else "NOT TRIED: the compiler refuses another edit", unread[0]
@@ -132,6 +134,8 @@ def verdict(edit, crate, said):
         return edit.name, "NOT TRIED", last
     refused = [found[0] for found in answers if found[2]]
     errors = [found[0] for found in PLACE.finditer(said) if edit.alone or any(place.has(*found.groups()) for place in edit.functions)]
+    if any("it calls" in found[0] for found in answers) and all(WAITS in line for line in errors):
+        return None
     gone = [line for line in errors if NAMES.search(line)]
     if gone and not any(FALSE in line for line in errors):
         return edit.name, "refused only because a proof names what the edit took away", gone[0]
@@ -139,7 +143,7 @@ def verdict(edit, crate, said):
 
 
 def tried(crate, edits, room):
-    """Tries edits together, in a copy of the crate, and returns their verdicts."""
+    """Tries edits together, in a copy of the crate, and then those again whose proof waits; returns their verdicts."""
     with tempfile.TemporaryDirectory(dir=room) as copy:
         for part in ("src", "specs", "proofs"):
             if (crate / part).is_dir():
@@ -156,7 +160,11 @@ def tried(crate, edits, room):
     log = prove.LOGS / "wrong" / f"{crate.name}-{edits[0].name}"
     log.parent.mkdir(parents=True, exist_ok=True)
     log.write_text("".join(f"{edit.name}: {', '.join(place.name for place in edit.functions)}\n" for edit in edits) + said)
-    return [verdict(edit, crate, said) for edit in edits]
+    found = [verdict(edit, crate, said) for edit in edits]
+    again = [edit for edit, known in zip(edits, found) if not known]
+    if again == edits:
+        return [(edit.name, "NOT TRIED: what it calls isn't proved", said.rstrip().split("\n")[-1]) for edit in edits]
+    return [known for known in found if known] + (tried(crate, again, room) if again else [])
 
 
 def main(words):
