@@ -160,6 +160,15 @@ def gate(program):
     return outcomes if outcomes[0][1] else [*outcomes, (*timed("wrong bodies", lambda: wrong_bodies.main([])), [], [])]
 
 
+def all_parts(program, with_gate, kinds):
+    """The gate, if it is asked for, and kinds of tests: their outcomes."""
+    outcomes = gate(program) if with_gate else []
+    if not program.exists():
+        return [*outcomes, (0, 1, [f"no program {program}"], [])]
+    waits = any(kind.waits for kind in kinds) and kinds[0] is not KINDS[0]
+    return outcomes + timed("kinds of tests", lambda: side_by_side([*KINDS[:waits], *kinds], program))
+
+
 def cannot_start():
     """Whether the gate can't start here, which is said."""
     if STRICT and not_here():
@@ -183,12 +192,7 @@ def main():
     if arguments.gate and cannot_start():
         print("0 passed, 1 failed")
         return 1
-    outcomes = gate(program) if arguments.gate else []
-    if program.exists():
-        waits = any(kind.waits for kind in kinds) and kinds[0] is not KINDS[0]
-        outcomes += timed("kinds of tests", lambda: side_by_side([*KINDS[:waits], *kinds], program))
-    else:
-        outcomes.append((0, 1, [f"no program {program}"], []))
+    outcomes = timed("all", lambda: all_parts(program, arguments.gate, kinds))
     passed, failed = (sum(it[place] for it in outcomes) for place in (0, 1))
     wrong, without = ([line for it in outcomes for line in it[place]] for place in (2, 3))
     for line in (*wrong, *(["left out here:"] if without else []), *told_left_out(without)):
