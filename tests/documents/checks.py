@@ -292,17 +292,17 @@ def code_of(path):
 
 
 def refusals():
-    """The places where code says that memory ran out without a refused growth: `OutOfMemory` and `AllocError` as values, outside the conversions
-    from `Refused` and the edges of the program and of the library, where a text couldn't be written; fields of type `Refused`; and a `Refused`
-    that another module than `memory` makes."""
-    edges = {"crx_base/src/memory.rt": 2, "crx_program/src/refusal.rt": 1, "rnxcmp_c/src/answer.rt": 1}
+    """The places where code says that memory ran out without a refused growth: `OutOfMemory` and `AllocError` as values, outside the declaration,
+    the conversions from `Refused` and the edges of the program and of the library, where a text couldn't be written; fields of type `Refused`;
+    and a `Refused` that another module than `memory` makes."""
+    edges = {"crx_base/src/fault.rt": 1, "crx_base/src/memory.rt": 2, "crx_program/src/refusal.rt": 1, "rnxcmp_c/src/answer.rt": 1}
     types = r"Result<[^{;]*?\bAllocError>|From<AllocError>|(?::|->|for) AllocError\b"
     wrong = []
     for path in sorted((TOP / "crates").glob("*/src/**/*.rt")):
         name, code = str(path.relative_to(TOP / "crates")), code_of(path)
         if name.split("/")[0] in ("crx_tests", "crx_laws", "crx_devices"):
             continue
-        values = len(re.findall(r"::OutOfMemory\b(?! =>| \}| \|)", code)) + len(re.findall(r"\bAllocError\b", re.sub(types, "", code)))
+        values = len(re.findall(r"\bOutOfMemory\b(?! =>)", code)) + len(re.findall(r"\bAllocError\b", re.sub(types, "", code)))
         wrong += [] if values == edges.get(name, 0) else [f"{name}: {values} values that say that memory ran out"]
         held = re.findall(r"\b(?:struct|enum) (\w+)[^{;]*\{[^}]*\bRefused\b|\bstruct (\w+)[^{;]*\([^;]*\bRefused\b", code)
         wrong += [f"{name}: {''.join(it)} holds a Refused" for it in held]
