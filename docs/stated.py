@@ -40,8 +40,8 @@ STATED = {
     "docs/ARCHIVES.md": ("plants TOOL_BUGS bugs in the tool",),
     "docs/GUARANTEES.md": (
         "stops after INPUT_LIMIT bytes", "has at most INPUT_LIMIT",
-        "Some USUAL_MEMORY MB over usual files, and some GREATEST_MEMORY MB at the limits", "at most PRINTED_ENDED times as many bytes",
-        "row of PRINTED_ENDED bytes",
+        "About USUAL_MEMORY MB over usual files, and about GREATEST_MEMORY MB at the limits", "At most PRINTED_ENDED times as many bytes",
+        "row of PRINTED_ENDED bytes", "While READY_LIMIT bytes wait", "stops when READY_LIMIT wait", "At most WAITING_MEMORY MB of each",
     ),
     "docs/LIBRARY.md": (
         "at most PRINTED_ENDED times as long as its input", "over that has some GREATEST_MEMORY MB", "parts of at most READY_LIMIT bytes",
