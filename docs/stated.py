@@ -32,8 +32,8 @@ STATED = {
         "takes some USUAL_MEMORY MB of memory", "at most INPUT_LIMIT bytes", "over which HAND_PROOFS proofs are written",
     ),
     "docs/FORMATS.md": (
-        "content of more than LINE_LIMIT bytes is fault 1", "| a content of more than LINE_LIMIT bytes |", "input of more than INPUT_LIMIT bytes",
-        "after the first INPUT_LIMIT |", "1 to TYPES_LIMIT (bound: profile)", "(0 to SATELLITES_LIMIT)", "1 to DIGITS_LIMIT digits",
+        "content of more than LINE_LIMIT bytes is fault 1", "input of more than INPUT_LIMIT bytes", "1 to TYPES_LIMIT (bound: profile)",
+        "(0 to SATELLITES_LIMIT)", "1 to DIGITS_LIMIT digits",
         "one digit from 0 to ORDER_LIMIT", "with the order WRITTEN_ORDER;", "orders from 0 to ORDER_LIMIT",
     ),
     "docs/DECISIONS.md": ("`-e` is from 1 to EVERY.", "less than READY_LIMIT bytes, and then", "bytes?** Those are READY_LIMIT bytes"),
@@ -281,6 +281,14 @@ def for_use(text):
     return text
 
 
+def for_formats(text):
+    """The page of the formats with the words of each fault in its table, and a row for a fault that has none."""
+    head, title, table = text.partition("| Code | Text | Definition |\n|---|---|---|\n")
+    rows = dict(re.findall(r"^\| (\d+) \| `[^`]*` (\|.*)$", table.partition("\n\n")[0], re.M))
+    made = "\n".join(f"| {number} | `{words}` {rows.get(str(number), '| |')}" for number, words in faults().items())
+    return head + title + made + table[table.index("\n\n"):] if title else text
+
+
 def for_manual(text):
     """The manual page with the options of each subcommand, and a paragraph for an option that has none, as in the page of use."""
     for tool in HELP:
@@ -299,6 +307,7 @@ def for_manual(text):
 
 # What else a script writes into a text.
 LISTED = {
+    "docs/FORMATS.md": for_formats,
     "docs/USE.md": for_use,
     "packaging/man/rnxcmp.1": for_manual,
     "packaging/completions/rnxcmp.bash": for_bash,
