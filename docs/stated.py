@@ -281,14 +281,6 @@ def for_use(text):
     return text
 
 
-def for_formats(text):
-    """The page of the formats with the words of each fault in its table, and a row for a fault that has none."""
-    head, title, table = text.partition("| Code | Text | Definition |\n|---|---|---|\n")
-    rows = dict(re.findall(r"^\| (\d+) \| `[^`]*` (\|.*)$", table.partition("\n\n")[0], re.M))
-    made = "\n".join(f"| {number} | `{words}` {rows.get(str(number), '| |')}" for number, words in faults().items())
-    return head + title + made + table[table.index("\n\n"):] if title else text
-
-
 def for_manual(text):
     """The manual page with the options of each subcommand, and a paragraph for an option that has none, as in the page of use."""
     for tool in HELP:
@@ -307,7 +299,6 @@ def for_manual(text):
 
 # What else a script writes into a text.
 LISTED = {
-    "docs/FORMATS.md": for_formats,
     "docs/USE.md": for_use,
     "packaging/man/rnxcmp.1": for_manual,
     "packaging/completions/rnxcmp.bash": for_bash,

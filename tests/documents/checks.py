@@ -246,7 +246,7 @@ def figures():
 
 def faults_listed():
     """Whether docs/FORMATS.md lists the faults as they are."""
-    table = dict(re.findall(r"^\| (\d+) \| `([^`]*)` \|", (TOP / "docs/FORMATS.md").read_text(encoding="utf-8").partition("| Code | Text | Definition")[2], re.M))
+    table = dict(re.findall(r"^\| (\d+) \| `([^`]*)` \|", (TOP / "docs/FORMATS.md").read_text(encoding="utf-8").partition("| Code | Text | Where")[2], re.M))
     return [] if table == {str(number): words for number, words in faults().items()} else ["docs/FORMATS.md has another table"]
 
 

@@ -72,7 +72,7 @@ def without_a_test():
     both pages have no sentence; the answers about the library have tests/library."""
     readme, guarantees = ((TOP / page).read_text(encoding="utf-8") for page in ("README.md", "docs/GUARANTEES.md"))
     titles = re.findall(r"^\d+\. \*\*(.*?)\*\*", readme, re.M)
-    titles += re.findall(r"^- \*\*(.*?)\*\*", guarantees.partition("## What does the library promise?")[0], re.M)
+    titles += re.findall(r"^- \*\*(.*?)\*\*", guarantees.partition("## Library")[0], re.M)
     asked = {*sentences.SENTENCES, *sentences.REACHED, *any_writer.ASKED, *damage.ASKED, *damage.EXCEPTIONS["damages"]}
     there = {name for names in ASKED.values() for name in names}
     wrong = [f"no question asks: {title}" for title in titles if title not in ASKED]
