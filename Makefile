@@ -20,9 +20,8 @@
 #             texts made of them, 2,000 runs that signals end, and 100,000 texts of any writer (tests/laws; about ten minutes on 4 cores)
 # make cluster-test runs the recipes for several machines over 200 files, with Slurm and sshd on this one (tests/cluster; 11 minutes)
 # make debian11-test tries what make dist made in a root of Debian 11, in out/debian11 (tests/debian11)
-# make docs   writes what one reads to know what is claimed, from the sources, into out/docs (docs/READING.md): DEFINITIONS, with the
-#             definitions that the promises stand on, CONTRACTS, with each public function's clauses, and PROOFS, with where each thing is
-#             proved, as Markdown and HTML
+# make docs   makes pages from the sources in out/docs (docs/READING.md), as HTML: DEFINITIONS, with the definitions that the promises rest on,
+#             CONTRACTS, with each public function's clauses, PROOFS, with the place of each proof, and GUARANTEES with links to its clauses
 # make numbers puts the limits and other numbers of the sources into the texts that state them, and writes what is listed: faults, options
 #             (completions, page of use, manual), cases
 # make install PREFIX=/usr/local

@@ -1,7 +1,7 @@
-"""The two forms of a page that scripts make: Markdown, and HTML that needs no other file.
+"""Pages in HTML that need no other file.
 
-A page is a list of parts. Words have `code`, *emphasis* and [links](page#place) as in Markdown; a link's page has no ending. A name in a code block is a
-link in HTML; in Markdown, which has none in code, the names stand in a line before it."""
+A page is a list of parts. Words have `code`, *emphasis*, **strong words** and [links](page#place) as in Markdown; a link's page has no ending. Each name
+in a code block is a link, and each clause of a contract has a place of its own. `parts_of` makes the parts of a page that is written in Markdown."""
 
 import html
 import re
@@ -12,6 +12,8 @@ from sources import TOKEN
 Heading = namedtuple("Heading", "level place text")
 Words = namedtuple("Words", "text")
 Rows = namedtuple("Rows", "head rows")
+List = namedtuple("List", "kind items")
+Drawn = namedtuple("Drawn", "text")  # a picture, or lines as they are
 # `place` is what links to it name; `target` gives the page and place of a name in the text, or None
 Code = namedtuple("Code", "place caption text target")
 
@@ -24,29 +26,9 @@ pre:target, :target + pre { outline: 2px solid #e0a000; }
 """
 
 
-def linked(target, ending):
+def linked(target):
     page, place = target
-    return f"{page}{ending if page else ''}#{place}"
-
-
-# ---- Markdown
-
-
-def markdown_of(part, title):
-    if isinstance(part, Heading):
-        return f'<a id="{part.place}"></a>\n\n{"#" * part.level} {part.text}\n'
-    if isinstance(part, Words):
-        return re.sub(r"\]\((\w+)#", r"](\1.md#", part.text) + "\n"
-    if isinstance(part, Rows):
-        return "\n".join(["| " + " | ".join(row) + " |" for row in (part.head, ["---"] * len(part.head), *part.rows)]) + "\n"
-    found = {name: part.target(name) for name in TOKEN.findall(part.text) if name}
-    named = ", ".join(f"[{name}]({linked(target, '.md')})" for name, target in found.items() if target and target != ("", part.place))
-    head = f'<a id="{part.place}"></a>' if part.place else ""
-    return f"{head}{part.caption}{': ' + named if named else ''}\n\n```\n{part.text}\n```\n"
-
-
-def markdown(title, parts):
-    return f"# {title}\n\n" + "\n".join(markdown_of(part, title) for part in parts)
+    return f"{page}{'.html' if page else ''}{'#' if place else ''}{place}"
 
 
 # ---- HTML
@@ -65,14 +47,16 @@ def replaced(pattern, made, text):
     return "".join(out) + escaped(text[at:])
 
 
-MARKED = re.compile(r"\[([^\]]*)\]\((\w*)#(\S*?)\)|`([^`]*)`|\*([^*]*)\*")
+MARKED = re.compile(r"\[([^\]]*)\]\((\w*)#(\S*?)\)|`([^`]*)`|\*\*([^*]*)\*\*|\*([^*]*)\*")
 
 
 def html_words(text):
     def marked(it):
-        words, page, place, code, stressed = it.groups()
+        words, page, place, code, strong, stressed = it.groups()
         if words is not None:
-            return f'<a href="{linked((page, place), ".html")}">{html_words(words)}</a>'
+            return f'<a href="{linked((page, place))}">{html_words(words)}</a>'
+        if strong is not None:
+            return f"<strong>{html_words(strong)}</strong>"
         return f"<em>{escaped(stressed)}</em>" if code is None else f"<code>{escaped(code)}</code>"
 
     return replaced(MARKED, marked, text)
@@ -85,10 +69,16 @@ def html_code(part):
         if target == ("", part.place):
             return f"<b>{text}</b>"
         if target:
-            return f'<a href="{linked(target, ".html")}">{text}</a>'
+            return f'<a href="{linked(target)}">{text}</a>'
         return f"<i>{text}</i>" if text.startswith(("--", "//")) else text
 
-    return replaced(TOKEN, token, part.text)
+    def clause(it):
+        place = f"{part.place}.{it[2]}"
+        return it[0] if place in seen else seen.add(place) or f'{it[1]}<span id="{place}">{it[2]}</span>{it[3]}'
+
+    seen = set() if part.place else None
+    text = replaced(TOKEN, token, part.text)
+    return re.sub(r"^(\s*ensures\*? )(\w+)( \{)", clause, text, flags=re.M) if part.place else text
 
 
 def html_of(part):
@@ -96,6 +86,10 @@ def html_of(part):
         return f'<h{part.level} id="{part.place}">{html_words(part.text)}</h{part.level}>'
     if isinstance(part, Words):
         return f"<p>{html_words(part.text)}</p>"
+    if isinstance(part, List):
+        return f"<{part.kind}>\n" + "\n".join(f"<li>{html_words(item)}</li>" for item in part.items) + f"\n</{part.kind}>"
+    if isinstance(part, Drawn):
+        return part.text
     if isinstance(part, Rows):
         rows = "".join("<tr>" + "".join(f"<td>{html_words(cell)}</td>" for cell in row) + "</tr>\n" for row in part.rows)
         return f"<table>\n<tr>{''.join(f'<th>{html_words(cell)}</th>' for cell in part.head)}</tr>\n{rows}</table>"
@@ -106,3 +100,39 @@ def html_of(part):
 def html_page(title, parts):
     head = f'<!DOCTYPE html>\n<html lang="en">\n<head>\n<meta charset="utf-8">\n<title>rnxcmp: {title}</title>\n<style>{STYLE}</style>\n</head>\n<body>\n'
     return head + f"<h1>{title}</h1>\n" + "\n".join(html_of(part) for part in parts) + "\n</body>\n</html>\n"
+
+
+# ---- pages that are written in Markdown
+
+
+def place_of(title):
+    """The name by which links know a heading, as forges make it."""
+    return re.sub(r"[^\w -]", "", title.lower()).replace(" ", "-")
+
+
+def parts_of(path, made, cited):
+    """The parts of a page after its title. Links to other pages than those that are `made` lose their target; `cited` puts links into the words."""
+    def link(it):
+        name, _, place = it[2].partition("#")
+        page = name.removesuffix(".md")
+        return f"[{it[1]}]({page}#{place})" if not name or page in made else it[1]
+
+    def words(lines):
+        return cited(re.sub(r"(?<!!)\[([^\]]*)\]\(([^)\s]*)\)", link, re.sub(r"\s+", " ", " ".join(line.strip() for line in lines))))
+
+    for block in re.split(r"\n{2,}", path.read_text(encoding="utf-8").partition("\n")[2].strip("\n")):
+        lines = block.split("\n")
+        if heading := re.match(r"(#+) (.*)", block):
+            yield Heading(len(heading[1]), place_of(heading[2]), heading[2])
+        elif picture := re.match(r"!\[[^\]]*\]\(([^)]*)\)", block):
+            yield Drawn((path.parent / picture[1]).read_text(encoding="utf-8"))
+        elif block.startswith(("    ", "```")):
+            yield Drawn("<pre>" + escaped("\n".join(line.removeprefix("    ") for line in lines if not line.startswith("```"))) + "</pre>")
+        elif block.startswith("|"):
+            rows = [[cited(re.sub(r"\[([^\]]*)\]\(([^)\s]*)\)", link, cell.strip())) for cell in line.strip("|").split(" |")] for line in lines]
+            yield Rows(rows[0], rows[2:])
+        elif re.match(r"- |\d+\. ", block):
+            items = re.split(r"\n(?:- |\d+\. )", "\n" + block)[1:]
+            yield List("ul" if block.startswith("-") else "ol", [words(item.split("\n")) for item in items])
+        else:
+            yield Words(words(lines))

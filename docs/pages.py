@@ -1,19 +1,19 @@
 #!/usr/bin/env python3
-"""Writes the pages that are made from the sources, each as Markdown and as HTML that needs no other file:
+"""Writes the pages that are made from the sources, as HTML that needs no other file:
 
     docs/pages.py FOLDER
 
-DEFINITIONS has the definitions that the promises stand on, in chapters, from the top down; CONTRACTS has each public function with its
-clauses; PROOFS where each thing is proved. READING.md, which says how to read them, is put beside them.
+DEFINITIONS has the definitions that the promises rest on, in chapters, from the top down; CONTRACTS has each public function with its
+clauses; PROOFS where each thing is proved. GUARANTEES, in which the name of each clause is a link to it, READING and FORMATS are put beside them.
 """
 
-import shutil
+import re
 import sys
 from pathlib import Path
 
 import proved
 from chapters import CHAPTERS, Book, is_definition, lines_of
-from markup import Code, Heading, Rows, Words, html_page, markdown
+from markup import Code, Heading, Rows, Words, html_page, parts_of
 from sources import CRATES, TOP, crate_of, crates, fault_names, public_functions
 
 
@@ -84,9 +84,9 @@ def definitions(book, places):
     trusted = book.trusted()
     *some, last = (f"*{chapter.title}*" for chapter in CHAPTERS if chapter.own)
     yield Words(
-        "The definitions that the promises stand on: what one has to read, and believe, to know what is claimed. Each chapter begins with"
+        "The definitions that the promises rest on: whoever believes them knows the claims. Each chapter begins with"
         " clauses of public calls, then come the definitions that they name and those below, from the top down, each once: after those"
-        " that use it. READING.md explains the words of the subject and the notation. `docs/pages.py` made this page from the sources.")
+        " that use it. [READING](READING#) explains the notation. `docs/pages.py` made this page from the sources.")
     yield Words(
         f"In all, {count(len(trusted), 'definition')}, in {count(lines_of(trusted), 'line')}, stand in the folders `crates/*/specs/meaning`."
         f" The chapters {', '.join(some)} and {last} have others too. The standard library's definitions and those of ported crates aren't"
@@ -108,7 +108,7 @@ def contracts(places):
     yield Words(
         "Each public function with the first sentence of its documentation, its signature and its clauses. `requires` is what a caller has"
         " to meet, `ensures` what the call promises. A law is a function with an empty body, whose contract speaks of the definitions"
-        " alone. Where a method has no clause of its own, the clauses of its trait hold. READING.md explains the notation, and"
+        " alone. Where a method has no clause of its own, the clauses of its trait hold. [READING](READING#) explains the notation, and"
         " [the page of definitions](DEFINITIONS#losslessness) has what the promises of whole runs stand on. `docs/pages.py` made this page"
         " from the sources.")
     for crate in crates():
@@ -122,8 +122,43 @@ def contracts(places):
                 inside = file.relative_to(CRATES / crate / "src")
                 yield Heading(3, f"{crate}.{'.'.join(inside.with_suffix('').parts)}", f"`{inside}`")
             words = f"`{function.name}`" + (f": {function.words}." if function.words else "")
-            place = f"{crate}.{'.'.join(function.path.relative_to(CRATES / crate / 'src').with_suffix('').parts)}.{function.name.replace('::', '.')}"
-            yield Code(place, words, without_indent(function.text), places.target(function.path, "DEFINITIONS"))
+            yield Code(place_of(function), words, without_indent(function.text), places.target(function.path, "DEFINITIONS"))
+
+
+def place_of(function):
+    """Where the page of contracts has a function."""
+    crate = crate_of(function.path)
+    inside = function.path.relative_to(CRATES / crate / "src").with_suffix("").parts
+    return ".".join((crate, *inside, *function.name.split("::")))
+
+
+# ---- the pages that are written by hand
+
+CITED = re.compile(r"\(([^()]*`: `[^()]*|laws? `[^()]*)\)")  # functions with their clauses, or laws
+
+
+def cited_in(book):
+    """What puts links into the words of a page: each function, clause and law that it cites in parentheses is a link to its contract."""
+    functions = {}
+    for function in book.functions.values():
+        for name in {function.name, function.name.rpartition("::")[2]}:
+            functions.setdefault(name, []).append(function)
+
+    def part(text):
+        names, mark, clauses = text.partition("`: `")
+        called = [it for name in re.findall(r"`([\w:]+)`?", names + "`") for it in functions.get(name, ())]
+
+        def function(it):
+            return f"[`{it[1]}`](CONTRACTS#{place_of(functions[it[1]][0])})" if it[1] in functions else it[0]
+
+        def clause(it):
+            has = next((function for function in called if it[1] in (clause.name for clause in function.clauses)), None)
+            return f"[`{it[1]}`](CONTRACTS#{place_of(has)}.{it[1]})" if has else it[0]
+
+        linked = re.sub(r"`([\w:]+)`", function, names + ("`" if mark else ""))
+        return linked + (": " + re.sub(r"`(\w+)`", clause, "`" + clauses) if mark else "")
+
+    return lambda words: CITED.sub(lambda it: "(" + ";".join(map(part, it[1].split(";"))) + ")", words)
 
 
 def main(folder):
@@ -133,16 +168,15 @@ def main(folder):
         raise ValueError("definitions outside the folders meaning: " + ", ".join(where(item) for item in outside))
     places = Places(book)
     folder.mkdir(parents=True, exist_ok=True)
-    pages = (
-        ("DEFINITIONS", "Definitions", definitions(book, places)),
-        ("CONTRACTS", "Contracts", contracts(places)),
-        ("PROOFS", "Proofs", proved.parts(fault_names())),
-    )
-    for name, title, parts in pages:
-        parts = list(parts)
-        (folder / f"{name}.md").write_text(markdown(title, parts), encoding="utf-8")
-        (folder / f"{name}.html").write_text(html_page(title, parts), encoding="utf-8")
-    shutil.copyfile(TOP / "docs/READING.md", folder / "READING.md")
+    pages = {
+        "DEFINITIONS": definitions(book, places),
+        "CONTRACTS": contracts(places),
+        "PROOFS": proved.parts(fault_names()),
+    }
+    written = ("GUARANTEES", "READING", "FORMATS")
+    pages |= {name: parts_of(TOP / f"docs/{name}.md", {*pages, *written}, cited_in(book)) for name in written}
+    for name, parts in pages.items():
+        (folder / f"{name}.html").write_text(html_page(name.capitalize(), parts), encoding="utf-8")
 
 
 if __name__ == "__main__":

@@ -17,7 +17,7 @@ from functools import cache
 from importlib import util
 from pathlib import Path
 
-from chapters import Book, is_definition
+from chapters import Book, is_definition, lines_of
 from sources import fault_names
 
 TOP = Path(__file__).resolve().parents[1]
@@ -43,6 +43,7 @@ STATED = {
         "About USUAL_MEMORY MB over usual files, and about GREATEST_MEMORY MB at the limits", "At most PRINTED_ENDED times as many bytes",
         "row of PRINTED_ENDED bytes", "While READY_LIMIT bytes wait", "stops when READY_LIMIT wait", "At most WAITING_MEMORY MB of each",
     ),
+    "docs/READING.md": ("first: FIRST_DEFINITIONS definitions in FIRST_LINES lines",),
     "docs/LIBRARY.md": (
         "at most PRINTED_ENDED times as long as its input", "over that has some GREATEST_MEMORY MB", "parts of at most READY_LIMIT bytes",
         "plants LIBRARY_BUGS bugs in the C",
@@ -91,8 +92,8 @@ def limits():
 @cache
 def numbers():
     """The limits by their names, and what follows from them: the longest line of an epoch with its LF, and the most MB of a text that a handle
-    keeps. NO_FAULT is the first number that no fault has, EVERY the greatest N of -e. Then come how many definitions one has to believe, and how
-    many for the first promise; the proofs that are written by hand; the lines of C of the library; the bugs that tests plant; and the greatest
+    keeps. NO_FAULT is the first number that no fault has, EVERY the greatest N of -e. Then come how many definitions one has to believe, how
+    many for the first promise and in how many lines; the proofs that are written by hand; the lines of C of the library; the bugs that tests plant; and the greatest
     memory of the program over a usual file and at the limits, in MB, by the table of bench/README.md."""
     found = limits()
     command = (TOP / "crates/crx_command/src/command.rt").read_text(encoding="utf-8")
@@ -110,6 +111,7 @@ def numbers():
         "EVERY": int(re.search(r"range\(1\.\.=([\d_]+)\)", command)[1]),
         "DEFINITIONS": len(trusted),
         "FIRST_DEFINITIONS": sum(map(is_definition, book.contents[0].items)),
+        "FIRST_LINES": lines_of(book.contents[0].items),
         "HAND_PROOFS": sum(1 for _ in (TOP / "crates").glob("*/proofs/**/Proof.antt")),
         "C_LINES": sum(len(path.read_text(encoding="utf-8").splitlines()) for path in (TOP / "library").glob("*.c")),
         "TOOL_BUGS": sum(1 for _ in (TOP / "tests/mutants/files").rglob("*.edit")),

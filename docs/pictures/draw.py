@@ -8,6 +8,7 @@ A line of a text is a word, names and numbers, and after `|` the texts that are 
 
     grid WIDTH HEIGHT                      how wide a column of boxes is, and how high a row
     box NAME COLUMN ROW SPAN | TEXT | ..   a box over SPAN columns, with a line for each text; a text in `` is code
+    trusted NAME COLUMN ROW SPAN | ..      the same in another colour: it is trusted, not proved
     crates                                 a box for each crate of crates.txt at the top of the repository, in the row of its
                                            layer, and an arrow to each crate that it stands on (not where another one leads there)
     crate NAME COLUMN | TEXT | ..          in which column that box stands, and its texts
@@ -50,14 +51,13 @@ class Picture:
     def text(self, x, y, words, kind="", anchor="start"):
         self.drawn.append(f'<text x="{x:g}" y="{y:g}" class="{kind}" text-anchor="{anchor}">{escape(words)}</text>')
 
-    def box(self, name, column, row, span, texts):
+    def box(self, name, column, row, span, texts, kind="box"):
         width, height = self.grid
         x, y, w, h = 20 + column * width, 20 + row * height, span * width - 30, 16 + 18 * len(texts)
-        self.drawn.append(f'<rect x="{x:g}" y="{y:g}" width="{w:g}" height="{h}" rx="5" class="box"/>')
+        self.drawn.append(f'<rect x="{x:g}" y="{y:g}" width="{w:g}" height="{h}" rx="5" class="{kind}"/>')
         for index, words in enumerate(texts):
             code = words.startswith("`")
-            kind = "code" if code else "" if index else "head"
-            self.text(x + w / 2, y + 21 + 18 * index, words.strip("`"), kind, "middle")
+            self.text(x + w / 2, y + 21 + 18 * index, words.strip("`"), "code" if code else "" if index else "head", "middle")
         self.places[name] = (x, y, w, h)
         self.reach(x + w, y + h)
 
@@ -74,6 +74,11 @@ class Picture:
         """An arrow past the boxes that stand between two of one column, on their left."""
         (x, y, _, h), (a, b, _, d) = self.places[start], self.places[end]
         self.drawn.append(f'<path d="M{x:g} {y + h / 2:g}H{x - 12:g}V{b + d / 2:g}H{a - 1:g}" class="arrow"/>')
+
+    def corner(self, start, end):
+        """An arrow from the side of a box to the top of another, past the boxes below the first one."""
+        (x, y, _, h), (a, b, c, _) = self.places[start], self.places[end]
+        self.drawn.append(f'<path d="M{x:g} {y + h / 2:g}H{a + c / 2:g}V{b - 1:g}" class="arrow"/>')
 
     def type(self, row, kind, words):
         """A line of a file: its parts are framed, and its words stand at their columns."""
@@ -105,15 +110,16 @@ class Picture:
         under = {name: set(others).union(*(below[o] for o in others)) for name, others in below.items()}
         if missing := [name for name in below if name not in self.crates]:
             raise SystemExit(f"docs/pictures/layers.txt has no line for {', '.join(missing)}")
-        highest = max(layer.values())
+        highest, places = max(layer.values()), {(self.crates[name][0], layer[name]) for name in below}
         for name in sorted(below, key=lambda name: layer[name]):
             column, texts = self.crates[name]
             self.box(name, column, highest - layer[name], 1, [name, *texts])
         for name, others in below.items():
             for other in others:
                 if not any(other in under[between] for between in others if between != other):
-                    same = self.crates[name][0] == self.crates[other][0] and layer[name] - layer[other] > 1
-                    (self.elbow if same else self.arrow)(name, other)
+                    column, far = self.crates[name][0], layer[name] - layer[other] > 1
+                    way = self.elbow if column == self.crates[other][0] else self.corner if (column, layer[name] - 1) in places else self.arrow
+                    (way if far else self.arrow)(name, other)
 
     def charts(self):
         """The bars of all panels, below the names of the series."""
@@ -140,6 +146,8 @@ class Picture:
             self.grid = (int(words[1]), int(words[2]))
         elif words[0] == "box":
             self.box(words[1], float(words[2]), float(words[3]), int(words[4]), [text.strip() for text in texts])
+        elif words[0] == "trusted":
+            self.box(words[1], float(words[2]), float(words[3]), int(words[4]), [text.strip() for text in texts], "part")
         elif words[0] == "crate":
             self.crates[words[1]] = (float(words[2]), [text.strip() for text in texts])
         elif words[0] == "crates":

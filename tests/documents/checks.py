@@ -9,6 +9,7 @@ import sys
 import tempfile
 from collections import Counter
 from functools import cache
+from html import unescape
 from pathlib import Path
 
 TOP = Path(__file__).resolve().parents[2]
@@ -43,14 +44,15 @@ def made_pages():
         if run.returncode or run.stderr:
             return [run.stdout + run.stderr]
         texts = {path.name: path.read_text(encoding="utf-8") for path in sorted(Path(folder).iterdir())}
-    wrong = [] if len(texts) == 7 else [f"pages {', '.join(texts)}"]
+    wrong = [] if len(texts) == 6 else [f"pages {', '.join(texts)}"]
     places = {name: re.findall(r'id="([^"]*)"', text) for name, text in texts.items()}
     for name, text in texts.items():
-        links = re.findall(r'href="([\w.]*)#([^"]*)"' if name.endswith(".html") else r"\]\(([\w.]*)#([^)]*)\)", text)
-        wrong += [f"{name}: a link to {page or name}#{place}" for page, place in sorted(set(links)) if place not in places[page or name]]
+        links = set(re.findall(r'href="([\w.]*)#?([^"]*)"', text))
+        wrong += [f"{name}: a link to {page or name}#{place}" for page, place in sorted(links) if place not in ["", *places[page or name]]]
         wrong += [f"{name}: {place} is there twice" for place in sorted(set(places[name])) if places[name].count(place) > 1]
-    wrong += [f"{it.path.name}: {it.name} isn't there" for it in book().shown if f"\n{it.text}\n" not in texts["DEFINITIONS.md"]]
-    there = Counter(texts["DEFINITIONS.md"].split("\n"))
+    shown = unescape(re.sub(r"<[^>]*>", "", texts["DEFINITIONS.html"]))
+    wrong += [f"{it.path.name}: {it.name} isn't there" for it in book().shown if f"\n{it.text}\n" not in shown]
+    there = Counter(shown.split("\n"))
     for path in sorted((TOP / "crates").glob("*/specs/meaning/**/*.antt")):
         equations = re.sub(r"^(?:--|use |pub use |pub mod |module |infix).*\n", "", path.read_text(encoding="utf-8"), flags=re.M).split("\n")
         there.subtract(equations)

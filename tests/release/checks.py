@@ -32,7 +32,7 @@ SECONDS = 600  # in which each step is to end, on a busy machine too
 INTERPRETER = 3  # what says in a program's table that it needs the system's loader
 FILES = ("bin/rnxcmp", "bin/RNX2CRX", "bin/crx2rnx", "share/man/man1/rnxcmp.1")
 DOCUMENTS = ["LIBRARY.md", "examples/compact.c", "NOTICES", "LGPL-2.1.txt", "CHANGELOG.md", "USE.md", "ARCHIVES.md", "GUARANTEES.md"]
-PAGES = ["READING.md", "DEFINITIONS.md", "DEFINITIONS.html", "CONTRACTS.md", "CONTRACTS.html"]  # those of make docs
+PAGES = ["READING.html", "DEFINITIONS.html", "CONTRACTS.html", "GUARANTEES.html"]  # those of make docs
 
 
 def lacking(program):
