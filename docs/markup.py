@@ -129,7 +129,7 @@ def parts_of(path, made, cited):
         elif block.startswith(("    ", "```")):
             yield Drawn("<pre>" + escaped("\n".join(line.removeprefix("    ") for line in lines if not line.startswith("```"))) + "</pre>")
         elif block.startswith("|"):
-            rows = [[cited(re.sub(r"\[([^\]]*)\]\(([^)\s]*)\)", link, cell.strip())) for cell in line.strip("|").split(" |")] for line in lines]
+            rows = [[cited(re.sub(r"\[([^\]]*)\]\(([^)\s]*)\)", link, cell.strip())) for cell in line.strip("|").replace("\\|", "\x01").split(" |")] for line in lines]
             yield Rows(rows[0], rows[2:])
         elif re.match(r"- |\d+\. ", block):
             items = re.split(r"\n(?:- |\d+\. )", "\n" + block)[1:]
