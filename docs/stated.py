@@ -36,7 +36,7 @@ STATED = {
         "(0 to SATELLITES_LIMIT)", "1 to DIGITS_LIMIT digits",
         "one digit from 0 to ORDER_LIMIT", "with the order WRITTEN_ORDER;", "orders from 0 to ORDER_LIMIT",
     ),
-    "docs/DECISIONS.md": ("`-e` is from 1 to EVERY.", "less than READY_LIMIT bytes, and then", "bytes?** Those are READY_LIMIT bytes"),
+    "docs/DECISIONS.md": ("is fed while READY_LIMIT bytes wait",),
     "docs/ARCHIVES.md": ("plants TOOL_BUGS bugs in the tool",),
     "docs/GUARANTEES.md": (
         "stops after INPUT_LIMIT bytes", "has at most INPUT_LIMIT",
