@@ -1,9 +1,9 @@
 #!/usr/bin/env python3
 """Puts the numbers of the sources into the texts that state them: the limits, and how many definitions one has to believe; and what is
-listed: the faults in the manual page, the options in it, in the page of use and in the completions, the tables of `explain` in the page of use, the
-cases in the page of the tests. Who
-changes a limit, or adds a fault, an option or a case, runs `make numbers`; none of these texts needs a hand for it. A page says a limit's
-number only where this script puts it; code and tests cite the limit by its name.
+listed: the faults in the manual page and in the page of formats, the table of `explain` in the page of errors, the options in the manual page, in
+the page of use and in the completions, and the cases in the page of the tests. If you change a limit, or add a fault, an option or a case, run
+`make numbers`; none of these texts needs a hand for it. A page says a limit's number only if this script writes it; code and tests cite the
+limit by its name.
 
     docs/stated.py           writes them
     docs/stated.py --check   says which text has another number, and ends with status 1 then
@@ -28,8 +28,8 @@ HELP = {"rnx2crx": "help_of_a_compaction", "crx2rnx": "help_of_an_expansion", "c
 # Texts that have one of these numbers: the file, and phrases with the name in place of the number.
 STATED = {
     "README.md": (
-        "In the library C_LINES lines of C", "the DEFINITIONS definitions of what RINEX", "on FIRST_DEFINITIONS definitions",
-        "takes some USUAL_MEMORY MB of memory", "at most INPUT_LIMIT bytes", "over which HAND_PROOFS proofs are written",
+        "In the library C_LINES lines of C", "the DEFINITIONS definitions of RINEX", "on FIRST_DEFINITIONS definitions",
+        "takes about USUAL_MEMORY MB of memory", "at most INPUT_LIMIT bytes", "over which HAND_PROOFS proofs are written",
     ),
     "docs/FORMATS.md": (
         "content of more than LINE_LIMIT bytes is fault 1", "input of more than INPUT_LIMIT bytes", "1 to TYPES_LIMIT (bound: profile)",
@@ -253,28 +253,62 @@ def tools_with():
 
 
 @cache
-def explained():
-    """The tables of `explain`, each under its first line, as the package has them."""
+def causes():
+    """The module of the package that has the tables of `explain`."""
     spec = util.spec_from_file_location("causes", TOP / "python/rnxcmp/_causes.py")
     module = util.module_from_spec(spec)
     spec.loader.exec_module(module)
-    errors = [[(str(code), row.expected, "; ".join(row.causes), row.remedy) for code, row in table.items()] for table in (module.ERRORS, module.COMPACT_ERRORS)]
+    return module
+
+
+def is_skipped(code):
+    """Whether `-s` skips a fault with this code."""
+    one, first, last = re.search(r"code == (\d+) \|\| \((\d+) <= code && code <= (\d+)\)", (SOURCES / "fault.rt").read_text(encoding="utf-8")).groups()
+    return code == int(one) or int(first) <= code <= int(last)
+
+
+def linked(text):
+    """A text of `explain` with a link in place of a page's name."""
+    return re.sub(r"docs/(\w+)\.md", r"[\1](\1.md)", text)
+
+
+def of_code(code):
+    """The section of a code, as `explain` has it."""
+    lines = [f"## Code {code}", "", f"`{faults()[code]}`" + (", skipped by `-s`" if is_skipped(code) else ""), ""]
+    if entry := causes().ERRORS.get(code):
+        lines += [f"- expected: {linked(entry.expected)}", f"- likely: {'; '.join(entry.causes)}", f"- to do: {entry.remedy}"]
+    if entry := causes().COMPACT_ERRORS.get(code):
+        lines += [f"- in compact text: {entry.expected}", f"- likely there: {'; '.join(entry.causes)}"]
+    return "\n".join([*lines, ""])
+
+
+def for_errors(text):
+    """The page of errors with a section for each code, and the tables of `explain`."""
+    (again,) = {entry.remedy for entry in causes().COMPACT_ERRORS.values()}
+    text = re.sub(r"(?<=In compact text )the remedy of codes .*", lambda m: f"the remedy of codes {min(causes().COMPACT_ERRORS)} to {max(causes().COMPACT_ERRORS)} is: {again}.", text)
+    text = re.sub(r"(?:^## Code \d+\n(?:(?!## ).*\n)*)+", lambda m: "\n".join(map(of_code, faults())) + "\n", text, count=1, flags=re.M)
     tables = {
-        "| Code | Expected | Likely causes | To do |": errors[0],
-        "| Code, in an epoch of compact text | Expected | Likely causes | To do |": errors[1],
-        "| The first bytes tell | To do |": [(sign.cause.format("V"), sign.remedy) for sign in module.SIGNS],
-        "| Why a line isn't standard | Its standard form |": [*(row[1:] for row in module.REASONS), module.OTHER_REASON],
+        "| The first bytes tell | To do |": [(sign.cause.format("V"), sign.remedy) for sign in causes().SIGNS],
+        "| The line | Its standard form |": [*(row[1:] for row in causes().REASONS), causes().OTHER_REASON],
     }
-    return {title: "\n".join([title, "|" + "---|" * (title.count("|") - 1), *("| " + " | ".join(row) + " |" for row in rows)]) for title, rows in tables.items()}
+    for title, rows in tables.items():
+        table = "\n".join([title, "|---|---|", *("| " + " | ".join(row) + " |" for row in rows)])
+        text = re.sub(rf"^{re.escape(title)}\n(?:\|.*\n)*", lambda m, table=table: f"{table}\n", text, flags=re.M)
+    return text
+
+
+def for_formats(text):
+    """The page of formats with the words of each fault."""
+    words = {str(number): it for number, it in faults().items()}
+    before, title, table = text.partition("\n| Code | Text | Where")
+    return before + title + re.sub(r"^\| (?:\[)?(\d+)\b([^|]*)\| `[^`]*` \|", lambda m: f"| {m[0][2:].split(' |')[0]} | `{words.get(m[1], '')}` |", table, flags=re.M)
 
 
 def for_use(text):
-    """The page of use with the tables of `explain`, the options of each subcommand, and a row for an option that has none: what help says, which a hand may change."""
+    """The page of use with the options of each subcommand, and a row for an option that has none: the words of its help, which a hand may change."""
     for tool in HELP:
         words = "".join(f" [{option.with_value()}]" for option, tools in tools_with().items() if tool in tools)
         text = re.sub(rf"^(    rnxcmp {tool}).*(?= \[-\] \[FILE\]$)", lambda m, words=words: m[1] + words, text, flags=re.M)
-    for title, table in explained().items():
-        text = re.sub(rf"^{re.escape(title)}\n(?:\|.*\n)*", lambda m, table=table: f"{table}\n", text, flags=re.M)
     for option, tools in tools_with().items():
         if f"| `{option.with_value()}` |" not in text:
             named = ", ".join(f"`{tool}`" for tool in tools)
@@ -302,6 +336,8 @@ def for_manual(text):
 # What else a script writes into a text.
 LISTED = {
     "docs/USE.md": for_use,
+    "docs/ERRORS.md": for_errors,
+    "docs/FORMATS.md": for_formats,
     "packaging/man/rnxcmp.1": for_manual,
     "packaging/completions/rnxcmp.bash": for_bash,
     "packaging/completions/_rnxcmp": for_zsh,

@@ -24,8 +24,11 @@ rm "$doc/NOTICES" "$doc/LICENSE-MIT"
 { # the changes of this version, and those since, in the form that Debian's tools read
     printf 'rnxcmp (%s) stable; urgency=medium\n\n' "$debian"
     case $version in *-dev) newest=Unreleased ;; *) newest=$version ;; esac
-    awk -v newest="$newest" '/^## / { past = found; found = found || $2 == newest } !past && /^- / { sub(/^- /, "  * "); print }' \
-        "$doc/CHANGELOG.md" | fold -s -w 70 | sed 's/^[^ ]/    &/; s/ *$//'
+    awk -v newest="$newest" '/^## / { past = found; found = found || $2 == newest }
+        past { next } # an item may have several lines
+        /^- / { sub(/^- /, "  * "); printf "%s%s", end, $0; end = "\n"; next }
+        /^  [^ ]/ { sub(/^ /, ""); printf "%s", $0 }
+        END { print "" }' "$doc/CHANGELOG.md" | fold -s -w 70 | sed 's/^[^ ]/    &/; s/ *$//'
     printf '\n -- %s  %s\n' "$maintainer" "$(date -u -R -d "@$SOURCE_DATE_EPOCH")"
 } | gzip -9n > "$doc/changelog.gz"
 rm "$doc/CHANGELOG.md"

@@ -35,14 +35,11 @@ mkdir -p "$to"
 work=$(mktemp -d "$to/work.XXXXXX")
 trap 'rm -rf "$work"' EXIT
 
-# documents MACHINE FOLDER: what share/doc/rnxcmp has of a machine beside what packaging/install.sh puts there
+# documents MACHINE FOLDER: the documents of a machine that packaging/install_pages.sh doesn't have
 documents() {
-    mkdir -p "$2/examples" "$2/conformance"
-    cp -r "$work/pages/." "$2"
-    install -m 644 "$top/docs/LIBRARY.md" "$2"
+    mkdir -p "$2/docs" "$2/conformance"
+    cp -r "$work/pages/." "$2/docs"
     [ "$1" = windows ] || install -m 644 "$top/packaging/LGPL-2.1.txt" "$2" # of glibc
-    install -m 644 "$top"/examples/compact.* "$top/examples/stream.c" "$2/examples"
-    install -m 755 "$top/examples/availability.py" "$2/examples"
     install -m 644 "$top"/conformance/*.md "$top"/conformance/*.json "$2/conformance" # the suite for other programs
     install -m 755 "$top"/conformance/*.py "$2/conformance"
 }
@@ -73,10 +70,7 @@ windows() {
         install -m 755 "$built/rnxcmp.exe" "$root/bin/$name.exe"
     done
     "$top/packaging/install_library.sh" "$root" "$built/library"
-    for name in LICENSE-MIT LICENSE-APACHE CHANGELOG.md docs/USE.md docs/GUARANTEES.md docs/FORMATS.md; do
-        install -m 644 "$top/$name" "$doc"
-    done
-    install -m 644 "$NOTICES" "$doc"
+    "$top/packaging/install_pages.sh" "$doc"
     documents windows "$doc"
     parts windows "$root" "$doc/parts.spdx.json"
     "$top/packaging/zipped.py" "$root" "$to/$1.zip"
@@ -103,7 +97,7 @@ wheel() {
 
 "$top/docs/pages.py" "$work/pages"
 sed "s/^\(rattle  *\)build  */\1$(rt version)  /" "$top/NOTICES" > "$work/NOTICES"
-export NOTICES="$work/NOTICES" # which packaging/install.sh and python/build_wheel.py take
+export NOTICES="$work/NOTICES" # which packaging/install_pages.sh and python/build_wheel.py take
 for machine; do
     case $machine in
     x86-64-v2)

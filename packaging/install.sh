@@ -1,11 +1,11 @@
 #!/bin/sh
-# Puts the program, its other names, the tool for whole files, the library for C, the manual pages, the completions and the notices below a
-# folder:
+# Puts the program, its other names, the tool for whole files, the library for C, the manual pages, the completions, the notices and the pages
+# below a folder:
 #     packaging/install.sh FOLDER PROGRAM LIBRARY [ZSH]
-# LIBRARY is the folder that library/build.sh made; where the shared library isn't in it, rnxcmp-file, which is Python over it, is left out,
-# and a message says so. ZSH is where below FOLDER zsh looks for completions, if not in share/zsh/site-functions. The lower-case names are
-# further copies. NOTICES may be set to the file of that name. Each file is put in place by itself, so that where the file system takes both spellings of a name for one file the second
-# copy takes the place of the first, with the same content.
+# LIBRARY is the folder that library/build.sh made. If it has no shared library, rnxcmp-file, which is Python over it, is left out, and a
+# message says so. ZSH is the folder below FOLDER in which zsh looks for completions, if not share/zsh/site-functions. The lower-case names
+# are further copies. If the file system takes both spellings of a name for one file, the second copy replaces the first, with the same
+# content.
 set -eu
 prefix=$1
 program=$2
@@ -16,7 +16,7 @@ here=$(dirname "$0")
 version=$(cat "$here/../VERSION")
 [ -x "$program" ] || { printf 'no program %s: run make first\n' "$("$here/quoted.sh" "$program")" >&2; exit 1; }
 install -d "$prefix/bin" "$prefix/share/man/man1" "$prefix/share/bash-completion/completions" "$prefix/$zsh" \
-    "$prefix/share/fish/vendor_completions.d" "$prefix/share/doc/rnxcmp"
+    "$prefix/share/fish/vendor_completions.d"
 page() { # page SOURCE NAME: a manual page, with the version in it
     sed "s/@VERSION@/$version/" "$here/man/$1.1" > "$prefix/share/man/man1/$2.1"
     chmod 644 "$prefix/share/man/man1/$2.1"
@@ -49,10 +49,4 @@ for name in rnxcmp RNX2CRX CRX2RNX rnx2crx crx2rnx rnxcmp-file; do
     install -m 644 "$here/completions/rnxcmp.fish" "$prefix/share/fish/vendor_completions.d/$name.fish"
 done
 install -m 644 "$here/completions/_rnxcmp" "$prefix/$zsh/_rnxcmp"
-install -m 644 "${NOTICES:-$here/../NOTICES}" "$here"/../LICENSE-* "$here/../CHANGELOG.md" "$prefix/share/doc/rnxcmp"
-for name in USE FILES ARCHIVES PLANNING GUARANTEES FORMATS; do
-    install -m 644 "$here/../docs/$name.md" "$prefix/share/doc/rnxcmp"
-done
-install -m 644 "$here/../docs/archive.png" "$prefix/share/doc/rnxcmp"
-install -d "$prefix/share/doc/rnxcmp/examples"
-install -m 755 "$here/../examples/archive_page.py" "$prefix/share/doc/rnxcmp/examples"
+"$here/install_pages.sh" "$prefix/share/doc/rnxcmp"

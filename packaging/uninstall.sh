@@ -15,7 +15,8 @@ done
     rm -f "$prefix/$name"
 done
 rm -rf "$prefix/lib/rnxcmp/rnxcmp/__pycache__"
-for folder in lib/rnxcmp/rnxcmp lib/rnxcmp lib/cmake/rnxcmp share/doc/rnxcmp/examples share/doc/rnxcmp; do
+doc=share/doc/rnxcmp
+for folder in lib/rnxcmp/rnxcmp lib/rnxcmp lib/cmake/rnxcmp $doc/examples $doc/docs/pictures $doc/docs $doc/bench $doc/conformance $doc; do
     [ ! -d "$prefix/$folder" ] || rmdir "$prefix/$folder" 2> /dev/null ||
         printf '%s has other files, and stays\n' "$("$here/quoted.sh" "$prefix/$folder")" >&2
 done

@@ -1,6 +1,6 @@
 """The tables of `explain`: the likely causes of each error, and those that a file's first bytes tell.
 
-They are plain data, from which docs/USE.md gets its own (`make numbers`). An error's words are in crates/crx_base/src/fault.rt.
+They are plain data, from which docs/ERRORS.md is made (`make numbers`). An error's words are in crates/crx_base/src/fault.rt.
 """
 
 import re
@@ -63,13 +63,13 @@ _BLANK = "a blank of this line is lost or too many"
 COMPACT_ERRORS: Dict[int, Entry] = {
     10: Entry("an epoch line that begins with `>`", ("the epoch line that begins with `>` is lost or damaged", "a line is too many"), _CONTINUE),
     11: Entry("an epoch line, or its difference from the last one", (_EARLIER, _WRONG), _CONTINUE),
-    12: Entry("a clock's code, such as `3&123` or `-45`, or an empty line", (_EARLIER, _WRONG), _CONTINUE),
+    12: Entry("a coded clock offset, such as `3&123` or `-45`, or an empty line", (_EARLIER, _WRONG), _CONTINUE),
     13: Entry("identifiers: the letter of a system that has types, and a number of two digits", (_EARLIER, _WRONG), _CONTINUE),
     14: Entry("identifiers that differ from each other", (_EARLIER, _WRONG), _CONTINUE),
-    15: Entry("in each cell a code, such as `3&123` or `-45`, or none", (_WRONG, _EARLIER), _CONTINUE),
-    16: Entry("a code that begins an arc, such as `3&123`, because the cell has no earlier value", (_EARLIER, _BLANK), _CONTINUE),
-    17: Entry("a code whose value fits its columns", ("a code of this cell is damaged, here or earlier", _EARLIER), _CONTINUE),
-    18: Entry("after the last code a mark for each indicator that changes", (_BLANK, _EARLIER), _CONTINUE),
+    15: Entry("in each cell a coded value, such as `3&123` or `-45`, or none", (_WRONG, _EARLIER), _CONTINUE),
+    16: Entry("a coded value that begins an arc, such as `3&123`, because the cell has no earlier value", (_EARLIER, _BLANK), _CONTINUE),
+    17: Entry("a coded value that fits its columns", ("a coded value of this cell is damaged, here or earlier", _EARLIER), _CONTINUE),
+    18: Entry("after the last coded value a mark for each indicator that changes", (_BLANK, _EARLIER), _CONTINUE),
     19: Entry("the next line of this epoch or event", ("a line is lost", "the count of the epoch line is damaged"), _CONTINUE),
 }
 

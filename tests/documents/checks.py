@@ -20,6 +20,7 @@ from checking import PACKAGES  # noqa: E402
 from sources import crates, fault_names, functions_in, public_functions  # noqa: E402
 from stated import WRITTEN, faults, typed_in, wrong_in  # noqa: E402
 
+MADE = ("DEFINITIONS.html", "CONTRACTS.html", "PROOFS.html", "READING.html")  # by `make docs`
 CRATE_PAGES = tuple(f"crates/{crate}/README.md" for crate in crates())
 PAGES = ("README.md", "CONTRIBUTING.md", "tests/README.md", "bench/README.md", "samples/README.md") + CRATE_PAGES + tuple(
     str(path.relative_to(TOP)) for path in sorted((TOP / "docs").glob("*.md")))
@@ -58,6 +59,38 @@ def made_pages():
         there.subtract(equations)
         wrong += [f"{path.relative_to(TOP)}: no chapter has {line}" for line in equations if line and there[line] < 0]
     return wrong + [f"{it.path.relative_to(TOP)}: {it.name} is outside the folders meaning" for it in book().outside()]
+
+
+def prose(path):
+    """A page without its code."""
+    return re.sub(r"^```.*?^```|^ {4}.*$|`[^`\n]*`", "", path.read_text(encoding="utf-8"), flags=re.M | re.S)
+
+
+@cache
+def places(path):
+    """The places of a page to which links lead: its headings, as forges name them, and its ids."""
+    heads = re.findall(r"^#+ (.*)$", re.sub(r"^```.*?^```", "", path.read_text(encoding="utf-8"), flags=re.M | re.S), re.M)
+    names = [re.sub(r"[^\w\- ]", "", re.sub(r"\]\([^)]*\)", "", head)).strip().lower().replace(" ", "-") for head in heads]
+    return {*names, *re.findall(r'\bid="([^"]*)"', path.read_text(encoding="utf-8"))}
+
+
+def links(page, top=TOP):
+    """The relative links of a page that lead nowhere; the pages that `make docs` makes have a check of their own."""
+    wrong, path = [], top / page
+    for target in re.findall(r"\]\(([^()\s]+)\)", prose(path)):
+        name, _, place = target.partition("#")
+        to = path.parent / name if name else path
+        if not re.match(r"\w+:", target) and to.name not in MADE and (not to.exists() or (place and place not in places(to.resolve()))):
+            wrong.append(f"{page}: a link to {target}")
+    return wrong
+
+
+def installed_links():
+    """The links that lead nowhere in the pages of a release."""
+    with tempfile.TemporaryDirectory() as folder:
+        run = subprocess.run([TOP / "packaging/install_pages.sh", folder], capture_output=True, text=True, timeout=60)
+        pages = sorted(path.relative_to(folder) for path in Path(folder).rglob("*.md"))
+        return [run.stderr] * bool(run.returncode) + [wrong for page in pages for wrong in links(page, Path(folder))]
 
 
 def chapters():
@@ -344,6 +377,9 @@ def checks(program):
         yield f"{page}: files", lambda page=page: files_named(page)
         yield f"{page}: targets", lambda page=page: targets_named(page)
         yield f"{page}: numbers typed by hand", lambda page=page: typed_in(page)
+    for path in sorted(TOP.glob("*.md")) + sorted(TOP.glob("[!o.]*/**/*.md")):
+        yield f"{path.relative_to(TOP)}: links", lambda page=path.relative_to(TOP): links(page)
+    yield "pages of a release: links", installed_links
     for page in CRATE_PAGES:
         yield f"{page}: modules", lambda page=page: modules_named(page)
     words = sources()

@@ -211,13 +211,13 @@ def start(program):
 
 
 def tables(program):
-    """Each code has its row, with two or three causes if it is one of a line; docs/USE.md names what is accepted though it may be damage."""
+    """Each code has its row, with two or three causes if it is one of a line; docs/ERRORS.md names the damage that gives a valid file."""
     package()
     from rnxcmp._causes import COMPACT_ERRORS, ERRORS
 
-    use = " ".join((TOP / "docs/USE.md").read_text(encoding="utf-8").split())
+    page = " ".join((TOP / "docs/ERRORS.md").read_text(encoding="utf-8").split())
     said = ("two satellite lines", "count of types", "an epoch twice", "a block twice", "between epochs")
-    wrong = [f"docs/USE.md doesn't name: {one}" for one in said if one not in use.partition("Accepted, though it may be damage")[2]]
+    wrong = [f"docs/ERRORS.md doesn't name: {one}" for one in said if one not in page.partition("Damage that can't be seen")[2]]
     wrong += [] if {*ERRORS, *COMPACT_ERRORS} == {*range(1, 23)} and {*COMPACT_ERRORS} == {*range(10, 20)} else ["a code has no row, or one too many"]
     rows = [(code, row) for table in (ERRORS, COMPACT_ERRORS) for code, row in table.items() if code < 20 and code != 2]
     return wrong + [f"code {code} has {len(row.causes)} causes" for code, row in rows if not 2 <= len(row.causes) <= 3 or not row.expected or not row.remedy]

@@ -57,14 +57,14 @@ def is_python(lines):
 
 def installing():
     """The lines that install a release for one user, of docs/USE.md; and those of README.md's chapter that don't build it."""
-    lines = blocks(section("docs/USE.md", "Install a release"))[0]
-    more = [line for block in blocks(section("README.md", "Get it")) if not is_python(block) for line in block]
+    lines = blocks(section("docs/USE.md", "Install"))[0]
+    more = [line for block in blocks(section("README.md", "Install")) if not is_python(block) for line in block]
     return lines, [line for line in more if not re.match(r"(make|git|cd|pip|pipx|rt) ?", line)]
 
 
 def using():
     """The lines of README.md's chapter on use: for a shell, and for Python."""
-    found = blocks(section("README.md", "Use it"))
+    found = blocks(section("README.md", "Usage"))
     shell = [line for block in found if not is_python(block) for line in block]
     return shell, [block for block in found if is_python(block)]
 

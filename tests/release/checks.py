@@ -1,6 +1,7 @@
 """What `make dist` makes: the same bytes twice, packages that unpack into an empty folder, a static program that works there, a library that
 compilers find; and the version, which stands in VERSION alone (see tests/run.py)."""
 
+import gzip
 import json
 import os
 import re
@@ -31,8 +32,8 @@ DEBIAN = VERSION.replace("-", "~")  # as Debian writes it
 SECONDS = 600  # in which each step is to end, on a busy machine too
 INTERPRETER = 3  # what says in a program's table that it needs the system's loader
 FILES = ("bin/rnxcmp", "bin/RNX2CRX", "bin/crx2rnx", "share/man/man1/rnxcmp.1")
-DOCUMENTS = ["LIBRARY.md", "examples/compact.c", "NOTICES", "LGPL-2.1.txt", "CHANGELOG.md", "USE.md", "ARCHIVES.md", "GUARANTEES.md"]
-PAGES = ["READING.html", "DEFINITIONS.html", "CONTRACTS.html", "GUARANTEES.html"]  # those of make docs
+DOCUMENTS = ["README.md", "docs/USE.md", "docs/pictures/epoch.svg", "examples/compact.c", "NOTICES", "LGPL-2.1.txt", "CHANGELOG.md"]
+PAGES = ["docs/DEFINITIONS.html", "docs/CONTRACTS.html"]  # those of make docs
 
 
 def lacking(program):
@@ -176,6 +177,13 @@ def check_static(folder):
     return [] if run.returncode == 0 else [line for line in lines if not line.endswith("... ok")][:20] or [run.stderr[-300:]]
 
 
+def check_changes(text):
+    """The package's list of changes has each item of CHANGELOG.md's newest version, whole."""
+    newest = (TOP / "CHANGELOG.md").read_text().partition("\n## ")[2].partition("\n## ")[0]
+    items = [" ".join(item.split()) for item in re.findall(r"^- (.*(?:\n  .*)*)", newest, re.M)]
+    return [f"the package's changelog lacks: {item}" for item in items if item not in " ".join(text.split())] or ([] if items else ["no changes"])
+
+
 def check_package(made_in, folder):
     package = made_in / f"rnxcmp_{DEBIAN}_amd64.deb"
     subprocess.run(["dpkg-deb", "-x", package, folder], check=True, timeout=SECONDS)
@@ -187,14 +195,15 @@ def check_package(made_in, folder):
     files = {str(path.relative_to(folder)) for path in (folder / "usr").rglob("*") if path.is_file() and not path.is_symlink()}
     wrong += [] if sums.returncode == 0 and named == files else [f"md5sums: {sums.stdout}{sums.stderr}, {sorted(named ^ files)}"]
     wrong += check_sums(folder, folder / "usr/share/doc/rnxcmp")
-    return wrong + check_unpacked(folder / "usr", ["copyright", "LICENSE-APACHE", "changelog.gz", *PAGES])
+    wrong += check_changes(gzip.decompress((folder / "usr/share/doc/rnxcmp/changelog.gz").read_bytes()).decode())
+    return wrong + check_unpacked(folder / "usr", ["copyright", "LICENSE-APACHE", *PAGES])
 
 
 def check_printed(made_in, folder):
     """The commands of docs/USE.md that install a release, as they stand there, in a folder that holds it; the manual is then found too."""
     shutil.copytree(made_in, folder)
     page = (TOP / "docs/USE.md").read_text()
-    lines = re.findall(r"^    (.*)$", page[page.index("## Install a release") : page.index("## Arguments")], re.M)
+    lines = re.findall(r"^    (.*)$", page[page.index("## Install") : page.index("## Machines")], re.M)
     more = [f"command -v {name}" for name in ("rnxcmp", "rnxcmp-file", "RNX2CRX", "crx2rnx")]
     more += [f"man -w {name}" for name in ("rnxcmp", "rnxcmp-file", "CRX2RNX")] if shutil.which("man") else []
     run = subprocess.run(["sh", "-ec", "\n".join([*lines, *more])], cwd=folder, capture_output=True, text=True, timeout=SECONDS)

@@ -27,7 +27,7 @@ spec.loader.exec_module(of_machines)
 NOT_KNOWN = 3  # the status where what a check needs isn't there
 # The files that are looked at by each check, beside all, without a bug.
 SCRIPTS = ("quoted.sh", "install.sh", "uninstall.sh", "machine.sh", "dist.sh")
-PACKED = ("dist.sh", "deb.sh", "parts.py", "zipped.py", "install_library.sh", "machine.sh", "build_windows.sh")
+PACKED = ("dist.sh", "deb.sh", "parts.py", "zipped.py", "install_library.sh", "install_pages.sh", "machine.sh", "build_windows.sh")
 OF_WINDOWS = ("zipped.py", "build_windows.sh")  # of those
 LINKED = {"aarch64": ("os.c", "archive.sh", "build.sh"), "windows": ("windows.c", "archive.sh", "build_windows.sh")}
 release.PROVED, release.MACHINES = made / "crates/rnxcmp_c/out/librnxcmp_c.a", made / "out/machines"
