@@ -1,5 +1,5 @@
 #!/usr/bin/env python3
-"""What an archive's files take: the figures of docs/PLANNING.md.
+"""What an archive's files take: the figures of docs/ARCHIVES.md, "Planning".
 
     bench/planning.py PROGRAM FOLDER [--files 10000] [--rounds 1] [--ways rnx2crx file-rnx2crx ..]
 

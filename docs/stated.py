@@ -45,14 +45,9 @@ STATED = {
     ),
     "docs/READING.md": ("first: FIRST_DEFINITIONS definitions in FIRST_LINES lines",),
     "docs/LIBRARY.md": (
-        "at most PRINTED_ENDED times as long as its input", "over that has some GREATEST_MEMORY MB", "parts of at most READY_LIMIT bytes",
-        "plants LIBRARY_BUGS bugs in the C",
+        "at most PRINTED_ENDED times as long as its input", "program needs about GREATEST_MEMORY MB", "parts of at most READY_LIMIT bytes",
+        "While READY_LIMIT bytes are ready", "find bugs, LIBRARY_BUGS were planted",
     ),
-    "docs/CALLS.md": (
-        "if the input has at most INPUT_LIMIT bytes and memory", "While READY_LIMIT bytes are ready", "goes on and READY_LIMIT are ready",
-        "is less than READY_LIMIT bytes", "bytes wait, WAITING_MEMORY MB",
-    ),
-    "docs/PLANNING.md": ("has some USUAL_MEMORY MB over usual files", "has some GREATEST_MEMORY MB (bench"),
     "docs/USE.md": ("N is from 1 to EVERY", "at most DATE_LIMIT bytes"),
     "packaging/man/rnxcmp.1": (
         "at most DATE_LIMIT bytes", "Limits: LINE_LIMIT bytes a line", "INPUT_LIMIT bytes of input", "TYPES_LIMIT types of a system",

@@ -385,7 +385,7 @@ def checks(program):
     words = sources()
     for page in CRATE_PAGES:
         yield f"{page}: calls", lambda page=page: calls_shown(page, words)
-    for page in ("docs/DESIGN.md", "docs/DECISIONS.md", "docs/FORMATS.md", "docs/GUARANTEES.md", "docs/CALLS.md") + CRATE_PAGES:
+    for page in ("docs/DESIGN.md", "docs/DECISIONS.md", "docs/FORMATS.md", "docs/GUARANTEES.md") + CRATE_PAGES:
         if (TOP / page).exists():
             yield f"{page}: names", lambda page=page: names_named(page, words)
     for page in ("README.md", "docs/GUARANTEES.md"):

@@ -9,87 +9,86 @@ use clap::{Arg, ArgAction, Command, value_parser};
 use std::alloc::{AllocError, Global};
 
 // The version is that of the file VERSION; tests/release compares.
-const ABOUT: &str = "rnxcmp 2.0.0-dev: compacts, expands and checks RINEX 3.0x observation files";
+const ABOUT: &str = "rnxcmp 2.0.0-dev: compress, expand and check RINEX 3.0x observation files";
 
 const HELP: &str = "\
-What goes in and out:
-  rnx2crx  a RINEX 3.0x observation file becomes Compact RINEX 3.0 (Hatanaka)
-  crx2rnx  Compact RINEX 3.0 becomes a RINEX 3.0x observation file
-  check    a RINEX 3.0x observation file is reported on in six lines
+Input is FILE, or standard input without one. Output goes to a file named after
+FILE, or with `-` or without FILE to standard output:
+  rnx2crx  .rnx to .crx, .24o to .24d (any year; capitals stay capitals)
+  crx2rnx  .crx to .rnx, .24d to .24o
+  other names: rnxcmp rnx2crx - site.obs > site.crx
 
-Names: without a file name standard input is read, and without one or with `-`
-standard output is written. Else the output file is named after the input file:
-  .rnx <-> .crx   .RNX <-> .CRX   .24o <-> .24d   .24O <-> .24D   (any year)
+Nothing is overwritten without -f, and no input is ever deleted. For many files
+at once, packed or not, see rnxcmp-file --help.
 
-Whole folders: see rnxcmp-file --help.
+RINEX 2 and 4, Compact RINEX 1.0 and navigation files are refused.
 
-Messages go to standard error, one line each:
+Errors and warnings go to standard error, one line each:
   ERROR line 7 code 18: bad indicator
+`rnxcmp-file explain FILE` shows the field and the likely causes.
 
-Exit status: 0 all went well; 1 an error ended the run, or the words or files
-aren't right; 2 there were warnings (-s), or the file isn't standard (check);
-126, 127 the program can't be started (127 too where the processor is older than
-x86-64-v2); 137 it was killed, as where a job has too little memory.
+Exit status:
+  0  success; check: the file comes back byte for byte
+  1  error
+  2  -s skipped epochs; check: valid, but won't come back byte for byte
 
 Examples:
+  rnxcmp check abcd0010.24o              # will it come back unchanged?
   rnxcmp rnx2crx abcd0010.24o            # writes abcd0010.24d
-  rnxcmp crx2rnx - abcd0010.24d | less   # shows it
+  rnxcmp crx2rnx - abcd0010.24d | less
   gzip -dc a.crx.gz | rnxcmp crx2rnx > a.rnx";
 
-const RNX2CRX_ABOUT: &str = "Compacts a RINEX 3.0x observation file";
+const RNX2CRX_ABOUT: &str = "Compress RINEX 3.0x to Compact RINEX 3.0";
 
 const RNX2CRX_HELP: &str = "\
-In: a RINEX 3.0x observation file. Out: Compact RINEX 3.0.
-Without FILE standard input is read. Without FILE, or with `-`, standard output
-is written; else the output is FILE with another ending: .rnx becomes .crx, .RNX
-.CRX, .24o .24d and .24O .24D (any year). A file that exists is overwritten only
-with -f.
+Reads FILE, or standard input without one. Writes a file named after FILE (.rnx
+becomes .crx and .24o .24d, any year; capitals stay capitals), or with `-` or
+without FILE standard output.
 
-Exit status: 0 all went well; 1 an error ended the run (what was written stays);
-2 epochs were skipped with warnings (-s).
+-e N limits the loss if the output gets damaged: crx2rnx -s then drops the
+damaged epoch and those up to the next full one (conditions: GUARANTEES.md).
+
+Exit status: 0 success; 1 error (the output so far is kept); 2 epochs were
+skipped (-s).
 
 Examples:
   rnxcmp rnx2crx abcd0010.24o            # writes abcd0010.24d
   rnxcmp rnx2crx -s -e 120 - a.rnx > a.crx
   rnxcmp rnx2crx --date '01-Jan-24 00:00' < a.rnx > a.crx";
 
-const CRX2RNX_ABOUT: &str = "Expands Compact RINEX 3.0";
+const CRX2RNX_ABOUT: &str = "Expand Compact RINEX 3.0 to RINEX 3.0x";
 
 const CRX2RNX_HELP: &str = "\
-In: Compact RINEX 3.0. Out: the RINEX 3.0x observation file that it stands for.
-Without FILE standard input is read. Without FILE, or with `-`, standard output
-is written; else the output is FILE with another ending: .crx becomes .rnx, .CRX
-.RNX, .24d .24o and .24D .24O (any year). A file that exists is overwritten only
-with -f.
+Reads FILE, or standard input without one. Writes a file named after FILE (.crx
+becomes .rnx and .24d .24o, any year; capitals stay capitals), or with `-` or
+without FILE standard output.
 
-Exit status: 0 all went well; 1 an error ended the run (what was written stays);
-2 epochs were skipped with warnings (-s).
+Exit status: 0 success; 1 error (the output so far is kept); 2 epochs were
+skipped (-s).
 
 Examples:
   rnxcmp crx2rnx abcd0010.24d            # writes abcd0010.24o
   gzip -dc a.crx.gz | rnxcmp crx2rnx -s > a.rnx";
 
-const CHECK_ABOUT: &str = "Reports on a RINEX 3.0x observation file";
+const CHECK_ABOUT: &str = "Tell whether a RINEX 3.0x file comes back byte for byte";
 
 const CHECK_HELP: &str = "\
-In: a RINEX 3.0x observation file, FILE or else standard input. Out, on standard
-output, six lines: format, systems with their counts of types, epochs, events,
-observations, and standard `yes` or `no` with the number of the first line that
-isn't. A standard file comes back byte for byte when it is compacted and
-expanded.
-`-` has no effect.
+Reads FILE, or standard input without one, and prints six lines: format, systems
+with their counts of observation types, epochs, events, observations, and
+`standard yes` or `standard no` with the first line that won't come back as it
+is when the file is compressed and expanded.
 
-Exit status: 0 standard; 1 an error, no report; 2 accepted, but not standard.
+Exit status: 0 standard; 1 error, no report; 2 valid, but not standard.
 
 Examples:
   rnxcmp check abcd0010.24o
   rnxcmp crx2rnx - abcd0010.24d | rnxcmp check";
 
-const OBSERVATION_FILE: &str = "At most one observation file, and `-`, in any order";
+const OBSERVATION_FILE: &str = "One RINEX file; `-` writes to standard output";
 
-const COMPACT_FILE: &str = "At most one compact file, and `-`, in any order";
+const COMPACT_FILE: &str = "One Compact RINEX file; `-` writes to standard output";
 
-const CHECKED_FILE: &str = "At most one observation file, and `-`, which changes nothing";
+const CHECKED_FILE: &str = "One RINEX file; `-` changes nothing";
 
 /// Returns the option `-e N`.
 fn every_option<'a>(alloc: Global) -> Arg<'a>
@@ -99,17 +98,16 @@ fn every_option<'a>(alloc: Global) -> Arg<'a>
         .short('e')
         .value_name("N")
         .value_parser(value_parser!(u32).range(1..=1_000_000))
-        .help("Start everything anew at every N epochs, at most 1000000")
+        .help("Store every N-th epoch in full, at most 1000000")
 }
 
 /// Returns the option `--date TEXT`.
 fn date_option<'a>(alloc: Global) -> Arg<'a>
     ensures { HasRule result date_rule }
 {
-    Arg::new(alloc, "date")
-        .long("date")
-        .value_name("TEXT")
-        .help("The date in line 2, at most 20 bytes [default: now]")
+    Arg::new(alloc, "date").long("date").value_name("TEXT").help(
+        "The date in line 2, at most 20 bytes [default: now, in UTC]",
+    )
 }
 
 /// Returns the argument for `-` and a file's name, in any order.
@@ -146,18 +144,8 @@ fn with_flags<'a>(alloc: Global, command: Command<'a>) -> Result<Command<'a>, Al
         (flag_rule (codes "skip") 115)) (flag_rule (codes "force") 102)) }
 {
     command
-        .arg(flag(
-            alloc,
-            "skip",
-            's',
-            "Warn about strange epochs and skip them",
-        ))?
-        .arg(flag(
-            alloc,
-            "force",
-            'f',
-            "Overwrite the output file where it exists",
-        ))
+        .arg(flag(alloc, "skip", 's', "Skip bad epochs, with warnings"))?
+        .arg(flag(alloc, "force", 'f', "Overwrite the output file"))
 }
 
 /// Returns the subcommand `rnx2crx`, or `AllocError`.
