@@ -37,7 +37,7 @@ STATED = {
         "one digit from 0 to ORDER_LIMIT", "with the order WRITTEN_ORDER;", "orders from 0 to ORDER_LIMIT",
     ),
     "docs/DECISIONS.md": ("is fed while READY_LIMIT bytes wait",),
-    "docs/ARCHIVES.md": ("plants TOOL_BUGS bugs in the tool",),
+    "docs/FILES.md": ("find bugs, TOOL_BUGS were planted in the tool",),
     "docs/GUARANTEES.md": (
         "stops after INPUT_LIMIT bytes", "has at most INPUT_LIMIT",
         "About USUAL_MEMORY MB over usual files, and about GREATEST_MEMORY MB at the limits", "At most PRINTED_ENDED times as many bytes",

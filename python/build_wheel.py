@@ -4,14 +4,16 @@
     build_wheel.py LIBRARY FOLDER [--program PROGRAM] [--tag TAG]
 
 LIBRARY is the folder that library/build.sh or build_windows.sh made, PROGRAM the static program, which goes into the wheel with its other
-names, and TAG the platform, manylinux2014_x86_64 where none is given. The same sources make the same bytes: entries stand in one order,
-with the time of SOURCE_DATE_EPOCH, or 1980. It asks for nothing but Python's standard library.
+names, and TAG the platform, by default manylinux2014_x86_64. The same sources make the same bytes: entries are in one order, with the time
+of SOURCE_DATE_EPOCH, or 1980. ADDRESS is the folder of these pages on the web, with a slash at its end. It needs only Python's standard
+library.
 """
 
 import argparse
 import base64
 import hashlib
 import os
+import re
 import sys
 import time
 import zipfile
@@ -24,6 +26,13 @@ SYSTEMS = {WINDOWS: "Microsoft :: Windows", "": "POSIX :: Linux"}
 LICENCES = ("LICENSE-MIT", "LICENSE-APACHE", "NOTICES")
 
 
+def description():
+    """README, with links that work on a page of an index: below ADDRESS, or none if that isn't set."""
+    address = os.environ.get("ADDRESS", "")
+    text = (HERE.parent / "README.md").read_text(encoding="utf-8")
+    return re.sub(r"\[([^]]*)\]\((?!\w+:)([^)]*)\)", rf"[\1]({address}\2)" if address else r"\1", text)
+
+
 def metadata(version, tag):
     """The fields, and README as the description."""
     files = "".join(f"License-File: {name}\n" for name in LICENCES)
@@ -34,7 +43,7 @@ def metadata(version, tag):
         "Summary: RINEX 3.0x observation files and Compact RINEX 3.0 (Hatanaka's format), over a proved library\n"
         f"License-Expression: MIT OR Apache-2.0\n{files}Requires-Python: >=3.8\n"
         f"Classifier: Operating System :: {system}\nClassifier: Typing :: Typed\n"
-        f"Description-Content-Type: text/markdown\n\n{(HERE.parent / 'README.md').read_text()}"
+        f"Description-Content-Type: text/markdown\n\n{description()}"
     )
 
 

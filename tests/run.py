@@ -64,7 +64,7 @@ KINDS = (
     Kind("instruction", "instructions"),
     Kind("document", "documents"),
     Kind("case", "cases"),
-    Kind("command", "commands", True, 38),
+    Kind("command", "commands", True, 43),
     Kind("example", "examples", True),
     Kind("fault", "faults"),
     Kind("argument", "arguments"),

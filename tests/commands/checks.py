@@ -9,7 +9,9 @@ import os
 import re
 import shutil
 import subprocess
+import sys
 import tempfile
+import textwrap
 from pathlib import Path
 
 from checking import install, missing_tools
@@ -76,11 +78,11 @@ def make_files(program, folder, place):
     compact = subprocess.run([program, "rnx2crx", SAMPLE.name, "-"], cwd=SAMPLE.parent, capture_output=True, check=True).stdout
     (folder / "samples").mkdir()
     shutil.copy(SAMPLE, folder / "samples")
-    for name in ("abcd0010.24o", "a.rnx", "archive/efgh0010.24o", "archive/sub/efgh0020.24o"):
+    for name in ("abcd0010.24o", "a.rnx", "site.obs", "archive/efgh0010.24o", "archive/sub/efgh0020.24o"):
         (folder / name).parent.mkdir(parents=True, exist_ok=True)
         shutil.copy(SAMPLE, folder / name)
     (folder / "a.crx.gz").write_bytes(gzip.compress(compact))
-    if place in ("crx2rnx --help", "check --help"):
+    if place in ("crx2rnx --help", "check --help", "pages"):
         (folder / "abcd0010.24d").write_bytes(compact)
     if place == "crx2rnx --help":
         (folder / "abcd0010.24o").unlink()
@@ -90,6 +92,20 @@ def commands_of_readme():
     """The indented lines that begin with a program's name, but those of `make`; a `#` begins a comment for the shell too."""
     blocks = re.findall(r"^    (?!make\b)((?:rnxcmp|gzip|find|set) .*)$", (TOP / "README.md").read_text(), re.M)
     return [line for line in blocks]
+
+
+def commands_of_pages():
+    """The pipes and redirections in sentences of the pages."""
+    text = " ".join("".join((TOP / page).read_text() for page in ("README.md", "docs/USE.md")).split())
+    return sorted(set(re.findall(r"`(rnxcmp [^`]*[>|][^`]*)`", text)))
+
+
+def check_python(prefix, folder, page):
+    """The first lines of Python that a page shows run."""
+    block = re.search(r"^    import rnxcmp\n(?:    .*\n)+", (TOP / page).read_text(), re.M)[0]
+    words = [sys.executable, "-c", textwrap.dedent(block)]
+    run = subprocess.run(words, cwd=folder, env={**os.environ, "PYTHONPATH": str(prefix / "lib/rnxcmp")}, capture_output=True, text=True, timeout=60)
+    return [] if run.returncode == 0 and run.stdout and not run.stderr else [f"{run}"]
 
 
 def commands_of_manual():
@@ -274,8 +290,8 @@ def checks(program):
         yield "install", lambda: failed
         if failed:
             return
-        places = [("README", commands_of_readme()), ("manual", commands_of_manual()), ("--help", commands_of_help(program, []))]
-        places += [(f"{word} --help", commands_of_help(program, [word])) for word in ("rnx2crx", "crx2rnx", "check")]
+        places = [("README", commands_of_readme()), ("pages", commands_of_pages()), ("manual", commands_of_manual())]
+        places += [("--help", commands_of_help(program, [])), *((f"{word} --help", commands_of_help(program, [word])) for word in ("rnx2crx", "crx2rnx", "check"))]
         for place, commands in places:
             folder = top / place.replace(" ", "_")
             folder.mkdir()
@@ -283,6 +299,8 @@ def checks(program):
             yield f"{place}: there are examples", lambda: [] if commands else ["none"]
             for command in commands:
                 yield f"{place}: {command}", lambda: run_command(folder, prefix / "bin", command)
+        for page in ("README.md", "docs/LIBRARY.md"):
+            yield f"{page}: lines of Python", lambda: check_python(prefix, top / "README", page)
         folder = top / "installed"
         folder.mkdir()
         yield "installed: the other names", lambda: check_installed(prefix, folder)

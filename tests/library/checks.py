@@ -348,14 +348,16 @@ def check_wheel(b):
 
 
 def check_wheel_fields(b):
-    """The wheel names its licence, and has the texts of it and README."""
+    """The wheel names its licence, and has the texts of it, and README without links to files that an index doesn't have."""
     with zipfile.ZipFile(wheel_in(b, "fields")) as wheel:
         names = {name.partition(".dist-info/")[2]: wheel.read(name) for name in wheel.namelist()}
     fields, readme = names["METADATA"].decode().split("\n\n", 1)
     files = re.findall("^License-File: (.*)$", fields, re.M)
     wrong = [] if "\nLicense-Expression: MIT OR Apache-2.0\n" in fields and "LICENSE-MIT" in files and "LICENSE-APACHE" in files else [fields]
     wrong += [f"{name} isn't there" for name in files if names.get(f"licenses/{name}") != (TOP / name).read_bytes()]
-    return wrong + ([] if readme == (TOP / "README.md").read_text() else ["the description isn't README"])
+    links = re.findall(r"\]\((?!https?:)", readme)
+    words, wanted = ([word for word in re.split(r"[^\w`]+", re.sub(r"\]\([^)]*\)", "", text)) if word] for text in (readme, (TOP / "README.md").read_text()))
+    return wrong + ([] if words == wanted and not links else ["the description isn't README", *links])
 
 
 def check_from_sources(b, python):
