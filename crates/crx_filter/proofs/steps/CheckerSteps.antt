@@ -23,6 +23,7 @@ use Rattle.crx_filter.specs.DirectionParts.{ComesAfter, brings_nothing, state_by
 use Rattle.crx_filter.specs.LineByLine.{Quiet as LineQuiet}
 use Rattle.crx_filter.specs.{RinexReaders.RefusesRinexLine, Stages.is_ended}
 use Rattle.crx_filter.specs.{Totals.{totals_held, HasPrinted}, meaning.Directions.fault_so_far}
+use Rattle.crx_filter.specs.declared.report.TheConstants.{REPORT_LINES}
 use Rattle.crx_filter.specs.meaning.Standard.{Findings, report_lines}
 use Rattle.crx_header.specs.{Identifiers.has_identifier, meaning.Satellites.is_identifier}
 use Rattle.std.proofs.{Math.Bool.not-not, lemmas.{List.drop_all, Slice.Eq.bytes_eq-Decides}}
@@ -251,7 +252,8 @@ module _ (made : Made ObservationEpoch OpenEpoch) (before after : RinexReader) (
   step-counted noted fresh = grind (arith, common_steps, step-begun, none-named)
 
 -- all lines of a report have been lent if and only if none is pending
-pub all-out : (handed_out : ℕ) (found : Findings) → drop handed_out (report_lines found) ≡ [] → 6 ≤ handed_out
+pub all-out : (handed_out : ℕ) (found : Findings) → drop handed_out (report_lines found) ≡ []
+    → REPORT_LINES ≤ handed_out
 all-out handed_out found none =
     omega (arith, length-drop handed_out (report_lines found), ap length none)
 
