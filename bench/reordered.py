@@ -2,7 +2,7 @@
 """Makes a RINEX 3.05 observation file of many satellites, which stand in another order in every epoch, and writes it to
 standard output or a named file.
 
-There are 110 satellites of each of seven systems, and few types each.  Their values are smooth, so that the arcs of a
+There are 110 satellites of each system, and few types each.  Their values are smooth, so that the arcs of a
 compact file go on.  The file is standard.  --order says in which order the satellites stand: `same` in every epoch,
 `reversed` turns the order around from epoch to epoch, and `shuffled` draws it anew.
 
@@ -14,8 +14,12 @@ Examples:
 import argparse
 import random
 import sys
+from pathlib import Path
 
-LETTERS = "GREJCIS"
+sys.path.insert(0, str(Path(__file__).resolve().parents[1] / "docs"))
+from stated import spelled  # noqa: E402
+
+LETTERS = spelled()[0]
 ENDINGS = ["%02d" % k for k in range(100)] + ["%2d" % k for k in range(10)]
 NAMES = ["C1C", "L1C", "D1C", "S1C"]
 LIMIT = len(LETTERS) * len(ENDINGS)

@@ -15,6 +15,7 @@ import textwrap
 from dataclasses import dataclass
 from functools import cache
 from importlib import util
+from math import prod
 from pathlib import Path
 
 from chapters import Book, is_definition, lines_of
@@ -64,6 +65,8 @@ STATED = {
         "int(found.every) <= EVERY)", "of -e is from 1 to EVERY", "len(text) <= DATE_LIMIT and", "bad date: at most DATE_LIMIT characters",
     ),
     "crates/crx_laws/src/sizes.rt": ("at most PRINTED_ENDED times as long as its input", "most_for_a_byte ≡ PRINTED_ENDED }"),
+    "crates/crx_compact/src/satellites.rt": ("The IDENTIFIERS possible identifiers",),
+    "bench/README.md": ("all IDENTIFIERS satellites",),
     "tests/library/promises.c": ("rnxcmp_words(0)[0] == 0 && rnxcmp_words(NO_FAULT)[0]",),
     "crates/crx_command/src/command.rt": ("at most EVERY", "at most DATE_LIMIT bytes"),
 }
@@ -85,6 +88,13 @@ def limits():
 
 
 @cache
+def spelled():
+    """The letters of the systems, by the definition, and the characters that the first and the second digit of an identifier may be."""
+    letters = (TOP / "crates/crx_header/specs/meaning/ObservationTypes.antt").read_text(encoding="utf-8")
+    return re.search(r'codes "([A-Z]+)"', letters)[1], "0123456789 ", "0123456789"
+
+
+@cache
 def numbers():
     """The limits by their names, and what follows from them: the longest line of an epoch with its LF, and the most MB of a text that a handle
     keeps. NO_FAULT is the first number that no fault has, EVERY the greatest N of -e. Then come how many definitions one has to believe, how
@@ -102,6 +112,7 @@ def numbers():
         "INPUT_LIMIT": f"2^{found['INPUT_LIMIT'].bit_length() - 1}",
         "PRINTED_ENDED": found["NAME_WIDTH"] + found["CELL_WIDTH"] * found["TYPES_LIMIT"] + 1,
         "WAITING_MEMORY": f"{waiting / 1e6:.1f}",
+        "IDENTIFIERS": prod(map(len, spelled())),
         "NO_FAULT": len(faults()) + 1,
         "EVERY": int(re.search(r"range\(1\.\.=([\d_]+)\)", command)[1]),
         "DEFINITIONS": len(trusted),

@@ -18,7 +18,7 @@ import proved  # noqa: E402
 from chapters import CHAPTERS, Book, is_definition, is_ported, top_down  # noqa: E402
 from checking import PACKAGES  # noqa: E402
 from sources import crates, fault_names, functions_in, public_functions  # noqa: E402
-from stated import WRITTEN, faults, typed_in, wrong_in  # noqa: E402
+from stated import WRITTEN, faults, spelled, typed_in, wrong_in  # noqa: E402
 
 MADE = ("DEFINITIONS.html", "CONTRACTS.html", "PROOFS.html", "READING.html")  # by `make docs`
 CRATE_PAGES = tuple(f"crates/{crate}/README.md" for crate in crates())
@@ -346,6 +346,16 @@ def refusals():
     return wrong
 
 
+def systems():
+    """Whether at most four files have the letters of the systems typed in, and docs/FORMATS.md names each of them."""
+    letters = spelled()[0]
+    files = [path for folder, kind in (("crates", "rt"), ("crates", "antt"), ("tests", "py"), ("bench", "py"), ("docs", "py"), ("python", "py"))
+             for path in (TOP / folder).rglob(f"*.{kind}") if letters in path.read_text(encoding="utf-8")]
+    paragraphs = (TOP / "docs/FORMATS.md").read_text(encoding="utf-8").split("\n\n")
+    wrong = [] if any("".join(re.findall(r"`([A-Z])`", it)) == letters for it in paragraphs) else ["no paragraph of docs/FORMATS.md has them in order"]
+    return wrong + ([] if len(files) < 4 else [f"typed in docs/FORMATS.md, {', '.join(str(it.relative_to(TOP)) for it in files)}"])
+
+
 def packages():
     """Whether the command of CONTRIBUTING.md installs the packages that the tests use."""
     command = re.search(r"^    apt-get install --no-install-recommends (.*)$", (TOP / "CONTRIBUTING.md").read_text(encoding="utf-8"), re.M)
@@ -361,6 +371,7 @@ def checks(program):
     yield "clauses of the sources", clauses_found
     yield "clauses of public functions", clauses_without_names
     yield "chapters", chapters
+    yield "letters of the systems", systems
     yield "docs/pictures", pictures
     yield "docs/pictures/epoch.txt", lambda: example(program)
     yield "docs/pictures/damage.txt", lambda: damage_drawn(program)

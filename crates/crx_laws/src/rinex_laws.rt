@@ -4,7 +4,7 @@ ghost use Rattle.std.specs.Prelude.{◌≡◌, ◌≤◌, ◌+◌, ◌∷◌, []
 ghost use Rattle.std.specs.Prelude.{Result};
 ghost use Rattle.crx_base.specs.declared.fault.Fault.{Fault};
 ghost use Rattle.crx_base.specs.meaning.AsRead.{ReadLine};
-ghost use Rattle.crx_header.specs.meaning.ObservationTypes.{Count};
+ghost use Rattle.crx_header.specs.meaning.ObservationTypes.{Count, system_letters};
 ghost use Rattle.crx_header.specs.ObservationTypes.{AreCounts};
 ghost use Rattle.crx_rinex.specs.meaning.Observations.{Epoch};
 ghost use Rattle.crx_rinex.specs.meaning.Epochs.{IsWholeEpoch};
@@ -59,9 +59,9 @@ pub fn epochs_are_whole()
         → IsWholeEpoch types epoch × (count ≡ length epoch.rows + 1) }
 {}
 
-/// Types are of at most seven systems.
+/// Types are of at most the systems that have a letter.
 pub fn few_systems()
-    ensures law { (types : List Count) → AreCounts types → length types ≤ 7 }
+    ensures law { (types : List Count) → AreCounts types → length types ≤ length system_letters }
 {}
 
 /// An epoch of two satellites is open after its first two lines, whole with the third, and cut off by another epoch
