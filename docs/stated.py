@@ -47,7 +47,7 @@ STATED = {
     "docs/READING.md": ("first: FIRST_DEFINITIONS definitions in FIRST_LINES lines",),
     "docs/LIBRARY.md": (
         "at most PRINTED_ENDED times as long as its input", "program needs about GREATEST_MEMORY MB", "parts of at most READY_LIMIT bytes",
-        "While READY_LIMIT bytes are ready", "find bugs, LIBRARY_BUGS were planted",
+        "While READY_LIMIT bytes are ready", "find bugs, LIBRARY_BUGS were planted", "all IDENTIFIERS satellites",
     ),
     "docs/USE.md": ("N is from 1 to EVERY", "at most DATE_LIMIT bytes"),
     "packaging/man/rnxcmp.1": (
