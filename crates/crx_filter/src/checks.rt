@@ -10,8 +10,7 @@ ghost use Rattle.crx_filter.specs.meaning.Standard.{checked};
 use crate::checking::{Checking, no_options};
 use crate::engine::LineEngine;
 use crx_lines::{LineReader, Sink, Source};
-use crx_runs::run::run;
-use crx_runs::start::start;
+use crx_runs::finish::finish_without_memory;
 use crx_runs::{Outcome, Run};
 use std::alloc::Global;
 
@@ -42,7 +41,7 @@ pub fn check<R: Source, W: Sink, M: Sink>(
         Ok(engine) => match LineReader::open(alloc) {
             Ok(input) => {
                 let mut begun = Run::over(engine, input);
-                let Outcome { status, fault } = run(&mut begun, reader, writer, messages);
+                let Outcome { status, fault } = begun.run(reader, writer, messages);
                 // If no fault has ended the run, the status says whether the file is standard.
                 let status = match (fault, begun.engine().not_standard()) {
                     (None, None) => 0,
@@ -51,20 +50,8 @@ pub fn check<R: Source, W: Sink, M: Sink>(
                 };
                 Outcome { status, fault }
             }
-            Err(refused) => start::<LineEngine<Checking>, R, W, M>(
-                alloc,
-                Err(refused),
-                reader,
-                writer,
-                messages,
-            ),
+            Err(refused) => finish_without_memory(writer, messages, refused),
         },
-        Err(refused) => start::<LineEngine<Checking>, R, W, M>(
-            alloc,
-            Err(refused),
-            reader,
-            writer,
-            messages,
-        ),
+        Err(refused) => finish_without_memory(writer, messages, refused),
     }
 }

@@ -72,12 +72,12 @@ pub(crate) fn finish<W: Sink, M: Sink>(
 }
 
 /// Finishes a run that was refused memory before its first line, with `OutOfMemory` at line 0.
-pub(crate) fn finish_without_memory<W: Sink, M: Sink>(
+pub fn finish_without_memory<W: Sink, M: Sink>(
     writer: &mut W,
     messages: &mut M,
     refused: Refused,
 ) -> Outcome
-    ensures { Finishes
+    ensures finished { Finishes
         (span W.Sink writer.old writer.new)
         (span M.Sink messages.old messages.new)
         0 false (Some (Halt.Fault (record { line = 0; fault = Fault.OutOfMemory }))) result.status result.fault }

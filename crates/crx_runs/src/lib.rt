@@ -2,12 +2,11 @@
 #![tactic(auto)]
 
 pub mod engine;
-mod finish;
+pub mod finish;
 pub mod message;
 pub mod one_line;
 pub mod outcome;
 mod ready_lines;
-pub mod run;
 pub mod start;
 pub mod stepwise;
 pub mod until_failure;

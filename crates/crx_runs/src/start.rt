@@ -11,7 +11,6 @@ ghost use Rattle.crx_runs.specs.meaning.Spans.{reader_span};
 use crate::engine::Engine;
 use crate::finish::finish_without_memory;
 use crate::outcome::Outcome;
-use crate::run::run;
 use crate::stepwise::Run;
 use crx_base::Refused;
 use crx_lines::{LineReader, Sink, Source};
@@ -37,7 +36,7 @@ pub fn start<E: Engine + Drop, R: Source, W: Sink, M: Sink>(
 {
     match engine {
         Ok(engine) => match LineReader::open(alloc) {
-            Ok(input) => run(&mut Run::over(engine, input), reader, writer, messages),
+            Ok(input) => Run::over(engine, input).run(reader, writer, messages),
             Err(refused) => finish_without_memory(writer, messages, refused),
         },
         Err(refused) => finish_without_memory(writer, messages, refused),

@@ -1,19 +1,24 @@
 //! A run, step by step.
 
-ghost use Rattle.std.specs.Prelude.{◌≡◌, ◌⊎◌, ◌≤◌, [], IfOk, None, Some, Result, Bool, true, false};
+ghost use Rattle.std.specs.Prelude.{◌≡◌, ◌⊎◌, ◌≤◌, ℕ, List, [], IfOk, None, Some, Result, Bool, true, false};
 ghost use Rattle.crx_base.specs.declared.limits.TheConstants.{INPUT_LIMIT};
-ghost use Rattle.crx_base.specs.meaning.Lines.{InputLine, is_long};
+ghost use Rattle.crx_base.specs.meaning.Lines.{InputLine, is_long, lines_of};
 ghost use Rattle.crx_lines.specs.Readers.{reading};
 ghost use Rattle.crx_lines.specs.Reading.{line_number, line_shown};
-ghost use Rattle.crx_runs.specs.Endings.{FlushFailed, WorkEnds};
+ghost use Rattle.crx_runs.specs.Endings.{FlushFailed};
 ghost use Rattle.crx_runs.specs.Engines.{IsNextLine};
+ghost use Rattle.crx_runs.specs.Lawful.{IsLawful};
 ghost use Rattle.crx_runs.specs.Running.{CanStep, IsEndKept, RunGoesOn, RunHasStepped, step_answer, stepped};
+ghost use Rattle.crx_runs.specs.Runs.{result_by};
 ghost use Rattle.crx_runs.specs.Taking.{EndWarns, HoldsAnswer, TakesNext, KeepsOrder, WasAnswered};
 ghost use Rattle.crx_runs.specs.declared.one_line.Halt.{Halt};
+ghost use Rattle.crx_runs.specs.meaning.Runs.{RunsAs};
 ghost use Rattle.crx_runs.specs.meaning.Spans.{TookAll, reader_span, span};
 
 use crate::engine::Engine;
+use crate::finish::finish;
 use crate::one_line::{Halt, carry_out_answer, feed_line, take_end, take_line, take_overlong};
+use crate::outcome::Outcome;
 use crx_base::Fault;
 use crx_lines::phase::Phase;
 use crx_lines::{Line, LineReader, Sink, Source};
@@ -33,8 +38,8 @@ pub enum StepOutcome {
 }
 
 /// A run between two lines of its input: its engine, the reader of lines, and why the run ended.
-/// [`run`](crate::run::run) calls the steps, then takes the end of the input, flushes, and reports the fault; other
-/// callers of `Run` do that themselves.
+/// [`Run::run`] takes all steps and the end of the input, flushes, and reports the fault; a caller of [`Run::step`]
+/// does that itself.
 #[derive(Drop)]
 pub struct Run<E> {
     engine: E,
@@ -116,7 +121,7 @@ impl<E: Engine + Drop> Run<E> {
 
     /// Returns a run before the first line of `input`.
     pub fn over(engine: E, input: LineReader) -> Run<E>
-        ensures begun { result ≡ record { engine = engine; input = input; ended = None } }
+        ensures value { result ≡ record { engine = engine; input = input; ended = None } }
     {
         Run {
             engine,
@@ -261,49 +266,45 @@ impl<E: Engine + Drop> Run<E> {
         take_end(&mut self.engine, writer, messages)
     }
 
-    /// Takes all lines of the input and its end, unless the run ends before, which [`Run::ended`] says. Returns whether
-    /// a warning was reported.
+    /// Takes the run from before its first line to its end: reads the lines of the input, writes the output, reports
+    /// the warnings, and finishes. The run stays with the caller, who may ask its engine.
     #[inline(never)]
-    pub(crate) fn take_all<R: Source, W: Sink, M: Sink>(
+    pub fn run<R: Source, W: Sink, M: Sink>(
         &mut self,
         reader: &mut R,
         writer: &mut W,
         messages: &mut M,
-    ) -> bool
+    ) -> Outcome
         requires drained { E.ready self.old.engine ≡ [] }
         requires shown { E.shows self.old.engine [] [] }
+        requires lawful { IsLawful (E.filter self.old.engine) }
         requires first { reading self.old.input ≡ record { rest = []; passed = 0; number = 0; phase = Phase.Open } }
         requires going { self.old.ended ≡ None }
-        requires nothing { (E.filter self.old.engine).so_far [] ≡ record { output = []; warnings = []; fault = None } }
-        ensures { WorkEnds (E.filter self.old.engine) (E.has_ended self.new.engine)
-            (reader_span R.Source reader.old reader.new)
-            (span W.Sink writer.old writer.new)
-            (span M.Sink messages.old messages.new)
-            (reading self.new.input) (reading self.new.input).number result self.new.ended }
+        ensures runs { (given : List ℕ)
+            × R.gave reader.old given reader.new × RunsAs (result_by (E.filter self.old.engine)) (E.filter self.old.engine)
+            (reader_span R.Source reader.old reader.new) given
+            (span W.Sink writer.old writer.new) (span M.Sink messages.old messages.new) result.status result.fault
+            × (result.fault ≡ None → E.has_ended self.new.engine (lines_of given)) }
     {
         let mut warned = false;
         'lines: loop {
             match self.step(reader, writer, messages) {
                 StepOutcome::Taken => {}
                 StepOutcome::Warned => warned = true,
-                StepOutcome::Stopped => return warned,
+                StepOutcome::Stopped => {
+                    return finish(writer, messages, self.input.number(), warned, self.ended);
+                }
                 StepOutcome::AtEnd => {
+                    let last = self.input.number();
                     return match take_end(&mut self.engine, writer, messages) {
-                        Ok(warning) => warned | warning,
+                        Ok(warning) => finish(writer, messages, last, warned | warning, None),
                         Err(halt) => {
                             self.ended = Some(halt);
-                            warned
+                            finish(writer, messages, last, warned, self.ended)
                         }
                     };
                 }
             }
         }
-    }
-
-    /// Returns the number of the last line that was read, 0 before the first.
-    pub(crate) fn number(&self) -> u64
-        ensures value { result ≡ (reading self.now.input).number }
-    {
-        self.input.number()
     }
 }

@@ -26,7 +26,7 @@ returns-in-Err-open-clause-runs g c =
     let ran = runs-nothing filter lawful (reader_span g.R.Source r r)
     (span-joins g.W.Sink g.met.W.Sink.took_both) (span-joins g.M.Sink g.met.M.Sink.took_both) (λ lines. ⊤)
     c.finish_without_memory.result.status c.finish_without_memory.result.fault (g.met.R.Source.gave_none r) refl
-    (g.met.W.Sink.took_none _, refl) (g.met.M.Sink.took_none _, refl) c.finish_without_memory.ensures in
+    (g.met.W.Sink.took_none _, refl) (g.met.M.Sink.took_none _, refl) c.finish_without_memory.ensures.finished in
     (ran.0, ran.1, ran.2)
 
 pub returns-in-Err : goal.returns-in-Err
@@ -36,7 +36,7 @@ returns-in-Err g c = record {
       let ran = runs-nothing filter lawful (reader_span g.R.Source r r)
       (span-joins g.W.Sink g.met.W.Sink.took_both) (span-joins g.M.Sink g.met.M.Sink.took_both) (λ lines. ⊤)
       c.finish_without_memory-in-Err.result.status c.finish_without_memory-in-Err.result.fault (g.met.R.Source.gave_none r) refl
-      (g.met.W.Sink.took_none _, refl) (g.met.M.Sink.took_none _, refl) c.finish_without_memory-in-Err.ensures in
+      (g.met.W.Sink.took_none _, refl) (g.met.M.Sink.took_none _, refl) c.finish_without_memory-in-Err.ensures.finished in
       (ran.0, ran.1, ran.2);
   memory = grind (arith, common_steps, after-error, stays-fault);
 }

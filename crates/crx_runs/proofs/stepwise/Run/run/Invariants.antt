@@ -3,7 +3,7 @@ use Rattle.crx_base.specs.{declared.limits.TheConstants.INPUT_LIMIT, meaning.Lin
 use Rattle.crx_lines.specs.Readers.{reading}
 use Rattle.crx_runs.specs.{Running.{IsWithinLimit, IsRunning}, meaning.{Results.are_some, Spans.reader_span}}
 use Rattle.crx_runs.specs.meaning.Spans.{span}
-use Rattle.crx_runs.proofs.stepwise.Run.take_all.Given as goal
+use Rattle.crx_runs.proofs.stepwise.Run.run.Given as goal
 
 abbrev pub invariant-lines : goal.invariant-lines
 invariant-lines g l = ((lines : List InputLine) × g.E.Engine.shows l.self.engine lines [] × IsRunning (reader_span
