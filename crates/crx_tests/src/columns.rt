@@ -27,7 +27,7 @@ fn types_of(alloc: Global, line: &[u8]) -> Result<Owned<Types>, Fault> {
 }
 
 fn no_columns(alloc: Global) -> Owned<Columns>
-    ensures { result.value.state ≡ Idle None }
+    ensures { result.value ≡ Idle None }
 {
     Owned::of(Columns::new(alloc))
 }
