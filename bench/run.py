@@ -182,11 +182,12 @@ def table(title, peers, rows):
 
 
 def put(title, shown_table):
-    """Puts a table into README.md, in place of that of the same title."""
+    """Puts a table into README.md in place of one that has the same title, if there is one."""
     page = HERE / "README.md"
     text = page.read_text(encoding="utf-8")
-    begin = text.index(f"| {title} |")
-    page.write_text(text[:begin] + shown_table + text[text.index("\n\n", begin):], encoding="utf-8")
+    begin = text.find(f"| {title} |")
+    if begin >= 0:
+        page.write_text(text[:begin] + shown_table + text[text.index("\n\n", begin):], encoding="utf-8")
 
 
 def main():
