@@ -13,13 +13,13 @@ import re
 import sys
 import textwrap
 from dataclasses import dataclass
-from functools import cache
+from functools import cache, partial
 from importlib import util
 from math import prod
 from pathlib import Path
 
 from chapters import Book, is_definition, lines_of
-from sources import fault_names
+from sources import crates, fault_names
 
 TOP = Path(__file__).resolve().parents[1]
 SOURCES = TOP / "crates/crx_base/src"
@@ -323,6 +323,19 @@ def for_use(text):
     return text
 
 
+def subject_of(path):
+    """The first words of the comment of a module, up to the first mark after them."""
+    words = " ".join(line[3:].strip() for line in path.read_text(encoding="utf-8").split("\n") if line.startswith("//!"))
+    return re.sub(r"\[(`[^`]*`)\]", r"\1", re.match(r"(?:[^.:;,(]|\.(?=\d))*", words)[0].strip())
+
+
+def for_crate(crate, text):
+    """The page of a crate with its modules."""
+    paths = [path for path in sorted((TOP / f"crates/{crate}/src").glob("*.rt")) if path.stem not in ("lib", "main")]
+    rows = [f"| `{path.stem}` | {subject_of(path)} |\n" for path in paths]
+    return re.sub(r"^\| Module \| Subject \|\n\|---\|---\|\n(?:\|.*\n)*", lambda m: "| Module | Subject |\n|---|---|\n" + "".join(rows), text, flags=re.M)
+
+
 def for_manual(text):
     """The manual page with the options of each subcommand, and a paragraph for an option that has none, as in the page of use."""
     for tool in HELP:
@@ -341,6 +354,7 @@ def for_manual(text):
 
 # What else a script writes into a text.
 LISTED = {
+    **{f"crates/{crate}/README.md": partial(for_crate, crate) for crate in crates()},
     "docs/USE.md": for_use,
     "docs/ERRORS.md": for_errors,
     "docs/FORMATS.md": for_formats,

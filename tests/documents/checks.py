@@ -194,10 +194,10 @@ def calls_shown(page, words):
 
 
 def modules_named(page):
-    """The modules of a crate's src that its page has no row for, the rows of modules that are gone, and the files of specs and proofs that the
-    page names and no crate has."""
+    """The modules of a crate's src that the table of its page has no row for, the rows of modules that are gone, and the files of specs and proofs
+    that the page names and no crate has."""
     text = (TOP / page).read_text(encoding="utf-8") if (TOP / page).exists() else ""
-    there = {path.stem for path in (TOP / page).parent.glob("src/*.rt")} - {"lib", "main"}
+    there = {path.stem for path in (TOP / page).parent.glob("src/*.rt")} - {"lib", "main"} if "| Module |" in text else set()
     rows = set(re.findall(r"^\| `(\w+)` \| \S", text, re.M))
     files = re.findall(r"`((?:src|specs|proofs)/[\w/.*]+)`", text)
     wrong = [f"{page} has no row of {it}" for it in sorted(there - rows)] + [f"{page}: there is no module {it}" for it in sorted(rows - there)]
