@@ -32,28 +32,28 @@ OF_ENGINES = ("AnyEngine", "IsOf", "ready_of", "engine_filter", "shows_of")
 CHAPTERS = (
     Chapter(
         "Losslessness",
-        "A file that a check passes comes back byte for byte, from what a compaction wrote of it. `compacted`, `expanded` and `checked` are what"
-        " the three calls write, report and answer for a whole input; here they need not be known.",
+        "A file that a check passes comes back byte for byte, from the output of a compaction. `compacted`, `expanded` and `checked` are the output,"
+        " messages, status and fault of the three calls for a whole input; here they need not be known.",
         (("crx_filter::check", "lossless written"), ("crx_filter::compact", "written"), ("crx_filter::expand", "lossless written")),
         RESULTS,
         25,
     ),
     Chapter(
         "What compact text is",
-        "The lines of a RINEX file and those of its compact text, both printed from the same units, and that each becomes the other.",
+        "The lines of a RINEX file and the lines of its compact text, both printed from the same units, and that each becomes the other.",
         (("crx_laws::units_and_text", "*"),),
         RESULTS + ("MakeAFile",),
         80,
     ),
     Chapter(
         "Which units make a file",
-        "The order of units, and what each has to be. A file is standard exactly where it is the RINEX text of such units.",
+        "The order of units, and the form of each. A file is standard if and only if it is the RINEX text of such units.",
         (("crx_filter::MakeAFile", ""), ("crx_laws::standard_files_are_units", "*")),
         ("IsStandard",),
     ),
     Chapter(
         "Any writer, and no other",
-        "Which texts are compact text of a file, whoever wrote them: by what stands in their lines, and by no reader. These are expanded to that"
+        "Which texts are compact text of a file, whoever wrote them, by the content of their lines and not by a reader. These are expanded to that"
         " file, and no other text is accepted.",
         (
             ("crx_filter::expand", "any_writer no_other"),
@@ -70,16 +70,16 @@ CHAPTERS = (
     ),
     Chapter(
         "Bad input",
-        "How any input is read: places, faults and skipping; what is written and reported for it; what comes back of a file that isn't"
-        " standard, and which files are written; and what damage costs.",
+        "How any input is read: places, faults and skipping; its output and messages; the normal form of a file that isn't standard; which files"
+        " are written; and the cost of damage.",
         (("crx_filter::compact", "*"), ("crx_filter::expand", "*"), ("crx_filter::check", "*")),
         DEVICES,
     ),
     Chapter(
         "Laws of the results",
-        "What follows of `compacted` and `expanded` alone: whatever text is expanded, standard files come of it; files with the same normal"
-        " form have the same compact text; no line is lost in silence; a check tells of a compaction; a cut is noticed; blocks are short;"
-        " again changes nothing; hours make a day; blocks of compact text stand alone; and how much output a byte of it can make.",
+        "Consequences of only `compacted` and `expanded`: an expansion writes standard files, whatever the text; files with the same normal form"
+        " have the same compact text; no line is lost silently; a check tells of a compaction; a cut is noticed; blocks are short;"
+        " doing it again changes nothing; hours make a day; blocks of compact text expand alone; and the most output of a byte.",
         (
             ("crx_laws::what_passes_comes_back", "*"),
             ("crx_laws::what_was_compacted_comes_back", "*"),
@@ -100,16 +100,16 @@ CHAPTERS = (
         ),
         own=True,
     ),
-    Chapter("Devices", "What readers and writers are.", tuple((f"crx_lines::{name}", "") for name in DEVICES)),
+    Chapter("Devices", "Readers and writers.", tuple((f"crx_lines::{name}", "") for name in DEVICES)),
     Chapter(
         "In time",
-        "How a run goes on from line to line: before a step reads more it has written the output and the warnings of all lines so far.",
+        "A run from line to line: before a step reads more, it has written the output and the warnings of all lines so far.",
         (("crx_runs::Run::step", "stepped goes handed_on"), ("crx_lines::reads_may_wait", "*"), ("rnxcmp::run_streams", "waits")),
         own=True,
     ),
     Chapter(
         "Arguments",
-        "Which run, help or refusal the arguments of the program mean, what the program then does, and which text it shows if it runs no filter.",
+        "Which run, help or refusal the arguments of the program mean, its actions then, and the text that it shows if it runs no filter.",
         (
             ("rnxcmp::run_streams", "*"),
             ("crx_program::run", "*"),
@@ -132,15 +132,15 @@ CHAPTERS = (
     ),
     Chapter(
         "The library for C",
-        "What its calls over whole inputs answer, and what stands in the caller's memory after them.",
+        "The results of its calls over whole inputs, and the caller's memory after them.",
         tuple((f"rnxcmp_c::rnxcmp_c_{call}", "*") for call in ("compact", "expand", "check")),
     ),
     Chapter(
         "What a handle promises",
-        "How a run stands after each call, by all that was fed and taken, by what the handle keeps, and by what the call answered; that it"
-        " answers as a call over the whole input; and that what the lines make comes first in its result. `HandleStands` only links a call"
-        " to the next one, and need not be read. The next chapter has that, `ByItsPast` and its two kin, which say that it holds before the"
-        " call, `has_ended` and `run_state`, and which texts a handle keeps.",
+        "The state of a run after each call, by all bytes that were fed and taken, by the texts that the handle keeps, and by the call's result;"
+        " that it returns the same as a call over the whole input; and that the texts of the lines so far come first in its result."
+        " `HandleStands` only links a call to the next one, and need not be read. The next chapter has it, with `ByItsPast` and its two kin,"
+        " `has_ended`, `run_state`, and the texts that a handle keeps.",
         tuple((f"rnxcmp_c::rnxcmp_c_{call}", clauses) for call, clauses in OF_CALLS)
         + tuple((f"rnxcmp_c::{law}", "*") for law in ("a_handle_answers_as_a_call", "what_lines_make_comes_first")),
         RESULTS + FILTERS + OF_HANDLES,
@@ -148,14 +148,14 @@ CHAPTERS = (
     ),
     Chapter(
         "Handles",
-        "What a run that goes on from call to call answers. The state of the engine in a handle has the next chapter.",
+        "The results of a run that continues from call to call. The next chapter has the state of the engine in a handle.",
         tuple((f"rnxcmp_c::rnxcmp_c_{call}", "*") for call in ("open_compact", "open_expand", "open_check", "feed", "end", "take", "close")),
         OF_ENGINES,
         own=True,
     ),
     Chapter(
         "The engine in a handle",
-        "What is held between two calls, which a C program has to leave as it is.",
+        "The state between two calls, which a C program must not change.",
         tuple((f"rnxcmp_c::{name}", "") for name in OF_ENGINES),
         own=True,
     ),
