@@ -120,8 +120,11 @@ def parts_of(path, made, cited):
     def words(lines):
         return cited(re.sub(r"(?<!!)\[([^\]]*)\]\(([^)\s]*)\)", link, re.sub(r"\s+", " ", " ".join(line.strip() for line in lines))))
 
-    for block in re.split(r"\n{2,}", path.read_text(encoding="utf-8").partition("\n")[2].strip("\n")):
-        lines = block.split("\n")
+    def cells(line):
+        return [words([cell.replace("\0", "|")]) for cell in line.strip("|").replace("\\|", "\0").split(" |")]
+
+    for block in re.findall(r"^```\n[\s\S]*?^```$|(?:^(?!```)[^\n]+\n?)+", path.read_text(encoding="utf-8").partition("\n")[2], re.M):
+        lines = block.rstrip("\n").split("\n")
         if heading := re.match(r"(#+) (.*)", block):
             yield Heading(len(heading[1]), place_of(heading[2]), heading[2])
         elif picture := re.match(r"!\[[^\]]*\]\(([^)]*)\)", block):
@@ -129,7 +132,7 @@ def parts_of(path, made, cited):
         elif block.startswith(("    ", "```")):
             yield Drawn("<pre>" + escaped("\n".join(line.removeprefix("    ") for line in lines if not line.startswith("```"))) + "</pre>")
         elif block.startswith("|"):
-            rows = [[cited(re.sub(r"\[([^\]]*)\]\(([^)\s]*)\)", link, cell.strip())) for cell in line.strip("|").replace("\\|", "\x01").split(" |")] for line in lines]
+            rows = list(map(cells, lines))
             yield Rows(rows[0], rows[2:])
         elif re.match(r"- |\d+\. ", block):
             items = re.split(r"\n(?:- |\d+\. )", "\n" + block)[1:]
