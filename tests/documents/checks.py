@@ -3,6 +3,7 @@ those that their script would make today, the picture of an epoch is what the pr
 that a document names is there, the page of each crate has its modules, and the limits, faults and options of the program are those that texts
 beside it have (see tests/run.py)."""
 
+import gzip
 import re
 import subprocess
 import sys
@@ -247,6 +248,14 @@ def example(program):
     return wrong + ([] if ran(program, made, "crx2rnx")[0] == rinex else ["they don't come back"])
 
 
+def sizes(program):
+    """Whether a day file shrinks to an eighth with gzip, and to a third by gzip only, as README.md says."""
+    day = subprocess.run([TOP / "bench/generate.py", "--megabytes", "2", "--interval", "30"], capture_output=True, check=True, timeout=60).stdout
+    compact = subprocess.run([program, "rnx2crx"], input=day, capture_output=True, check=True, timeout=60).stdout
+    shares = [len(gzip.compress(text, 6)) / len(day) for text in (compact, day)]
+    return [] if abs(shares[0] - 1 / 8) < 0.015 and abs(shares[1] - 1 / 3) < 0.04 else [f"the shares are {shares}"]
+
+
 def damage_drawn(program):
     """Whether the compact text of docs/pictures/damage.txt is what the program makes, but for the byte in a frame, and comes back as it is shown."""
     source = (TOP / "docs/pictures/damage.txt").read_text(encoding="utf-8")
@@ -374,6 +383,7 @@ def checks(program):
     yield "letters of the systems", systems
     yield "docs/pictures", pictures
     yield "docs/pictures/epoch.txt", lambda: example(program)
+    yield "README.md: sizes", lambda: sizes(program)
     yield "docs/pictures/damage.txt", lambda: damage_drawn(program)
     yield "docs/pictures/speed.txt", figures
     yield "README.md: the promise that it shows", promise_shown
