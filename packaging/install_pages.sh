@@ -13,8 +13,10 @@ for name in USE ERRORS FILES ARCHIVES LIBRARY FORMATS GUARANTEES READING; do
 done
 install -m 644 "$top/docs/archive.png" "$folder/docs"
 install -m 644 "$top"/docs/pictures/*.svg "$folder/docs/pictures"
-install -m 644 "$top"/examples/*.[cf]* "$folder/examples"
-install -m 755 "$top"/examples/*.py "$folder/examples"
+install -m 644 "$top"/examples/compact.* "$top/examples/stream.c" "$folder/examples"
+for name in archive_page availability parallel; do
+    install -m 755 "$top/examples/$name.py" "$folder/examples"
+done
 for name in bench conformance; do
     install -m 644 "$top/$name/README.md" "$folder/$name"
 done
