@@ -4,7 +4,8 @@ ghost use Rattle.rnxcmp_c.specs.meaning.Answers.{rooms};
 ghost use Rattle.rnxcmp_c.specs.Collecting.{AnswersRun, TakeEnough};
 
 use crate::answer::{
-    Answer, NO_ROOM, OUTPUT_LIMIT, answer_without_texts, failed, line_and_code, no_memory_at, place,
+    Answer, NO_ROOM, OUTPUT_LIMIT, answer_of_fault, answer_without_texts, line_and_code,
+    no_memory_at, place,
 };
 use crate::devices::Counted;
 use crx_runs::Outcome;
