@@ -107,8 +107,8 @@ def rounds(edits):
         left = later
 
 
-def words_of(crate, edits):
-    """Returns the command that checks the functions that edits change, or the whole crate."""
+def words_of(crate, edits, kept):
+    """Returns the command that checks the functions that edits change, or the whole crate, over the proofs that a folder keeps."""
     crates = {name: (kind, uses) for name, kind, uses in re.findall(r"^(\w+) ?(\w*): *(.*)$", (prove.TOP / "crates.txt").read_text(), re.M)}
     kind, uses = crates[crate.name]
     root = next(path for path in ("src/main.rt", "src/lib.rt") if (crate / path).exists())
@@ -117,7 +117,7 @@ def words_of(crate, edits):
     for name in ("std", *uses.split()):
         words += ["--extern", f"{name}={(PROVED if name in crates else KIT / 'rlibs') / name}.rlib"]
     words += ["-L", f"dependency={KIT}/rlibs", "-L", f"dependency={PROVED}", "--logic-built", KIT / "logic_built"]
-    words += ["--antt-project", KIT / "rattle/logic/antt-project.json"]
+    words += ["--antt-project", KIT / "rattle/logic/antt-project.json", "--incremental", kept]
     for name in sorted({place.name for edit in edits for place in edit.functions if not edit.alone}):
         words += ["--only", name]
     return [str(word) for word in words]
@@ -142,7 +142,7 @@ def verdict(edit, crate, said):
     return edit.name, "" if refused else "NOT REFUSED", (refused or [last])[0]
 
 
-def tried(crate, edits, room):
+def tried(crate, edits, room, kept):
     """Tries edits together, in a copy of the crate, and then those again whose proof waits; returns their verdicts."""
     with tempfile.TemporaryDirectory(dir=room) as copy:
         for part in ("src", "specs", "proofs"):
@@ -152,7 +152,7 @@ def tried(crate, edits, room):
             place = Path(copy) / file
             place.write_text(place.read_text().replace(old, new))
         how = {"stdin": subprocess.DEVNULL, "stdout": subprocess.PIPE, "stderr": subprocess.STDOUT, "text": True, "errors": "replace"}
-        with subprocess.Popen(words_of(crate, edits), cwd=copy, env={**os.environ, "TMPDIR": copy}, **how) as process:
+        with subprocess.Popen(words_of(crate, edits, kept), cwd=copy, env={**os.environ, "TMPDIR": copy}, **how) as process:
             running.add(process)
             if stopping.is_set():
                 process.kill()
@@ -164,7 +164,13 @@ def tried(crate, edits, room):
     again = [edit for edit, known in zip(edits, found) if not known]
     if again == edits:
         return [(edit.name, "NOT TRIED: what it calls isn't proved", said.rstrip().split("\n")[-1]) for edit in edits]
-    return [known for known in found if known] + (tried(crate, again, room) if again else [])
+    return [known for known in found if known] + (tried(crate, again, room, kept) if again else [])
+
+
+def tried_in_rounds(crate, edits, room):
+    """Tries a crate's edits, each round over the proofs of unchanged functions that the rounds before it kept; returns their verdicts."""
+    with tempfile.TemporaryDirectory(dir=prove.LOGS.parent) as kept:
+        return [found for some in rounds(edits) for found in tried(crate, some, room, kept)]
 
 
 def main(words):
@@ -182,9 +188,9 @@ def main(words):
                             edits.append(read(path, crate))
                         except (ValueError, OSError) as error:
                             found.append((path.stem, "NO EDIT", str(error)))
-                work.append((crate.name, found, [pool.submit(tried, crate, some, room) for some in rounds(edits)]))
-            for crate, found, some in work:
-                found += [each for job in some for each in job.result()]
+                work.append((crate.name, found, pool.submit(tried_in_rounds, crate, edits, room)))
+            for crate, found, job in work:
+                found += job.result()
                 good = sum(not what for _, what, _ in found)
                 passed, failed = passed + good, failed + len(found) - good
                 if found:
