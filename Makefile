@@ -1,29 +1,19 @@
 # make        proves and builds the program (crates.mk), compacts the sample with it, expands that again and compares,
 #             and shows what was written
 # make test   runs the gate: proofs (from nothing, but for what a gate has passed on this machine), wrong bodies, the program's stored
-#             run, and tests; then the built program over whole texts, as a process, by the recipes of docs/ARCHIVES.md, and by the
-#             commands in print; with STRICT=1 in the environment it fails if a test was left out
-# make quick  proves what changed of the program, and of other crates that were proved here, and runs the tests of the built program:
+#             run, and all tests but the slow ones
+# make test T=tests/test_streams.py K='verified and gzip'
+#             runs tests of the program that make built: of files, folders or cases (T), and those with these words in their names (K);
+#             PEER='RNX2CRX -;CRX2RNX -' asks conformance of two more commands, FILES= adds files to random ones
+# make test SLOW=1 runs the slow tests too; with STRICT=1 a test is a failure that this machine lacks something for, SEED= begins random ones
+# make quick  proves what changed of the program, and of other crates that were proved here, and runs all tests but the slow ones:
 #             without the tests in Rattle and without wrong bodies (what the prover prints goes into out/logs)
 # make proofs proves all crates, but for their tests in Rattle
-# make memory-test runs the program that make built with each growth of memory refused in turn (tests/memory)
-# make memory-random-test does the same over 500 random files (seven minutes on two busy cores)
-# make instruction-counts
-#             stores anew how many instructions the program that make built takes over three inputs, of which tests/instructions allows a tenth
-#             more or less
-# make archive-test runs each recipe of docs/ARCHIVES.md over 200 files, some of them bad, with kills and full disks (tests/archives)
-# make files-test tries rnxcmp-file for longer (tests/files/run.py): disks of all kinds, power cuts, signals, failing calls (as root)
-# make explain-test explains 20,000 damaged files and 2,000 cut ones, and opens 2,000 with CRs (tests/explain)
-# make conformance PEER='RNX2CRX -;CRX2RNX -'
-#             runs the suite for other programs (conformance) over this one and over the two commands; out/conformance has the report
-# make laws-test asks the sentences of README.md and docs/GUARANTEES.md of the program that make built: on 300,000 damaged texts, 5,000 files and
-#             texts made of them, 2,000 runs that signals end, and 100,000 texts of any writer (tests/laws; about ten minutes on 4 cores)
-# make cluster-test runs the recipes for several machines over 200 files, with Slurm and sshd on this one (tests/cluster; 11 minutes)
-# make debian11-test tries what make dist made in a root of Debian 11, in out/debian11 (tests/debian11)
 # make docs   makes pages from the sources in out/docs (docs/READING.md), as HTML: DEFINITIONS, with the definitions that the promises rest on,
 #             CONTRACTS, with each public function's clauses, PROOFS, with the place of each proof, and GUARANTEES with links to its clauses
 # make numbers puts the limits and other numbers of the sources into the texts that state them, and writes what is listed: faults, options
-#             (completions, page of use, manual), cases
+#             (completions, page of use, manual)
+# make cases  writes conformance/cases.json from tests/cases and the worked examples of docs/FORMATS.md
 # make install PREFIX=/usr/local
 #             puts the program that make built, its manual pages, completions and other names in place, and the tool for whole files,
 #             for which it builds the library where that isn't built
@@ -33,23 +23,10 @@
 # make help   shows this list
 # make library
 #             proves and builds the library for C, C++ and Fortran, into out/library (docs/LIBRARY.md)
-# make library-fuzz INPUTS=100000
-#             compares so many random and damaged inputs through C, with AddressSanitizer, with the built program (two minutes on 4 cores)
-# make library-large
-#             compares a file of a gigabyte through C with the built program, and measures handles that are fed as much (ten minutes, and
-#             5 GB of memory)
-# make mutants-test
-#             plants bugs in copies of the files, one at a time, and shows what sees each (tests/mutants; half an hour);
-#             those of a release need what make machines-test needs, and what it proved
 # make python makes the package for Python, with the program and the library, into out/python
 # make dist TARGETS='x86-64-v2 x86-64 aarch64 windows'
 #             proves and builds the program and the library for these machines (for x86-64-v2 alone where none is named) and makes a release
 #             of them, in out/dist: archives, Debian packages, wheels, the sources, and SHA256SUMS, signed where KEY= names a key of gpg
-# make machines-test FILES=
-#             does that for all machines, and tries each beside the program that make built, by qemu and Wine, over the sample, damaged copies
-#             of it, and the files that are named (tests/machines)
-# make roots-test
-#             runs the lines of README.md in roots of other systems with what make dist made (tests/machines/roots.py; as root)
 
 SAMPLE := samples/station.rnx
 COMPACT := out/station.crx
@@ -68,7 +45,8 @@ JOBS := $(shell awk -v jobs="$$(nproc)" '/^MemTotal/ { n = int($$2 / 2e6); print
 # What crates.mk makes, all at once; if a proof fails, its errors are the last lines that are printed.
 made = @+tests/prove.py made $(MAKE) --no-print-directory $(if $(findstring jobserver,$(MAKEFLAGS)),,-j$(JOBS)) $(1)
 
-.PHONY: all proofs test quick memory-test memory-random-test instruction-counts archive-test files-test explain-test conformance laws-test cluster-test debian11-test docs numbers install dist
+.PHONY: all proofs test quick docs numbers cases install dist uninstall help clean library python
+export FILES PEER SEED SLOW STRICT
 
 all:
 	$(call made,$(PROGRAM))
@@ -89,46 +67,11 @@ proofs:
 	$(call made,$(PROGRAM) $(LIBRARIES:%=out/proved/%.made) $(ARCHIVE))
 
 test:
-	@tests/run.py $(PROGRAM) --gate
+	@tests/runner.py $(if $(T)$(K),$(T) $(if $(K),-k '$(K)'),--gate)
 
 quick:
 	$(call made,$(PROGRAM) $(filter $(wildcard out/proved/*.made),$(LIBRARIES:%=out/proved/%.made)) $(wildcard $(ARCHIVE)))
-	@tests/run.py $(PROGRAM)
-
-memory-test:
-	tests/memory/run.py $(PROGRAM)
-	tests/memory/places.py $(PROGRAM)
-
-memory-random-test:
-	tests/memory/at_random.py $(PROGRAM)
-
-instruction-counts:
-	tests/instructions/count.py $(PROGRAM)
-
-archive-test:
-	tests/archives/many.py $(PROGRAM)
-
-files-test:
-	tests/files/run.py $(PROGRAM)
-
-explain-test:
-	tests/explain/run.py $(PROGRAM)
-
-conformance:
-	PEER='$(PEER)' tests/run.py $(PROGRAM) --only conformance
-
-laws-test:
-	tests/laws/damage.py $(PROGRAM)
-	tests/laws/sentences.py $(PROGRAM)
-	tests/laws/any_writer.py $(PROGRAM)
-
-cluster-test:
-	tests/cluster/run.py $(PROGRAM)
-
-DEBIAN11 ?= out/debian11
-
-debian11-test:
-	tests/debian11/run.py out/dist $(DEBIAN11)
+	@tests/runner.py
 
 docs:
 	docs/pages.py out/docs
@@ -136,6 +79,9 @@ docs:
 # the limits and other numbers of the sources, in the texts that state them
 numbers:
 	docs/stated.py
+
+cases:
+	tests/collect.py > conformance/cases.json
 
 install:
 	@[ -f out/library/librnxcmp.so.2 ] || $(MAKE) --no-print-directory library || echo "the library isn't built"
@@ -152,24 +98,9 @@ help:
 clean:
 	rm -rf out crates/*/out
 
-.PHONY: uninstall help clean library library-fuzz library-large mutants-test python machines-test roots-test
-
-INPUTS := 100000
-
 library:
 	$(call made,$(ARCHIVE))
 	library/build.sh $(ARCHIVE) out/library
-
-library-fuzz:
-	python3 tests/library/checks.py $(PROGRAM) --random $(INPUTS)
-
-library-large:
-	python3 tests/library/large.py $(PROGRAM)
-
-MUTANTS := $(dir $(wildcard tests/mutants/*/check.py))
-
-mutants-test:
-	python3 tests/mutants/run.py $(PROGRAM) $(MUTANTS)
 
 python:
 	@packaging/compilers.sh x86-64-v2
@@ -183,11 +114,3 @@ dist:
 	$(call made,$(TARGETS:%=machine-%))
 	KEY='$(KEY)' packaging/dist.sh out/dist out/machines $(TARGETS)
 	@cat out/dist/SHA256SUMS
-
-machines-test:
-	@packaging/compilers.sh $(MACHINES) musl
-	$(call made,$(PROGRAM) $(MACHINES:%=machine-%))
-	tests/machines/run.py $(PROGRAM) --files $(FILES)
-
-roots-test:
-	tests/machines/roots.py out/dist out/roots

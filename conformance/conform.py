@@ -2,15 +2,16 @@
 """Runs any two programs that compact and expand RINEX 3 over cases, and writes what differs into a report that can be sent.
 
     conform.py --compact 'RNX2CRX -' --expand 'CRX2RNX -' cases.json
-    generate.py --seed 1 --count 300 > random.json && conform.py --compact .. --expand .. cases.json random.json
+    texts.py --seed 1 --count 300 > random.json && conform.py --compact .. --expand .. cases.json random.json
     conform.py --compact .. --expand .. --files FOLDER       # somebody's own files, RINEX and Compact RINEX
 
-Each command reads standard input and writes standard output. What is compacted is judged by what it expands to, by the reader in this file,
-and by nothing else: two writers may write other compact text for the same file. A difference is of one of seven kinds: `text` (copied
+Each command reads standard input and writes standard output. What is compacted is judged by what it expands to, by the reader in relation.py, and
+by nothing else: two writers may write other compact text for the same file. A difference is of one of seven kinds: `text` (copied
 text, identifiers, indicators), `values`, `clock`, `events`, `refusals` (what is refused, and where), `statuses` and `failures` (the command
 didn't start, didn't end in time, or crashed). A case may rest on a choice of this project's profile of the formats; another program's
 difference there is listed, and not counted (--profile counts it), unless it is a failure.
-docs/FORMATS.md has the rules. This file needs Python 3.8 and nothing else. The status is 0 where nothing differs, else 1.
+docs/FORMATS.md has the rules. This needs Python 3.8, relation.py and texts.py (beside this file, or in tests/) and nothing else. The status is 0 if
+nothing differs, else 1.
 """
 
 import argparse
@@ -23,6 +24,10 @@ import sys
 from concurrent.futures import ThreadPoolExecutor
 from pathlib import Path
 from typing import Dict, Iterator, List, NamedTuple, Optional, Tuple
+
+sys.path.insert(1, str(Path(__file__).resolve().parents[1] / "tests"))
+from relation import NoSuchText, Relation, contents, label, normal_form, rinex_lines  # noqa: E402
+from texts import rinex  # noqa: E402
 
 KINDS = ("text", "values", "clock", "events", "refusals", "statuses", "failures")
 # What this project's profile chooses where the formats leave a choice. README.md has the same table.
@@ -41,203 +46,6 @@ CHOICES = {
     "damage": "compact text that is damaged is refused where its rules are broken",
     "skipping": "with -s an epoch with a fault is dropped, and a warning says so; the status is 2",
 }
-
-
-class Malformed(Exception):
-    """A text breaks the rules of its format at a line."""
-
-
-# ---- RINEX
-
-
-def contents(data: bytes) -> List[bytes]:
-    """The contents of lines: each without its LF and one CR before it."""
-    pieces = data.split(b"\n")
-    if not pieces[-1]:
-        pieces.pop()
-    return [piece[:-1] if piece.endswith(b"\r") else piece for piece in pieces]
-
-
-def label(line: bytes) -> bytes:
-    return line[60:80].rstrip(b" ")
-
-
-def declare(types: Dict[bytes, int], line: bytes) -> bool:
-    """Takes a line into account where it declares types of a system; whether its label is that of types."""
-    if label(line) != b"SYS / # / OBS TYPES":
-        return False
-    if line[:1] != b" ":
-        types[line[:1]] = int(line[3:6])
-    return True
-
-
-def is_event(line: bytes) -> bool:
-    return line[:1] == b">" and b"2" <= line[31:32] <= b"6"
-
-
-def count_in(line: bytes) -> int:
-    return int(line[32:35].strip(b" ") or b"0")
-
-
-def printed(number: Optional[int], decimals: int, width: int) -> bytes:
-    """A number in its columns, and stars where it is too wide for them; a missing one is blanks."""
-    if number is None:
-        return b" " * width
-    whole, part = divmod(abs(number), 10**decimals)
-    text = f"{'-' if number < 0 else ''}{whole}.{part:0{decimals}d}".rjust(width)
-    return (text if len(text) == width else "*" * width).encode()
-
-
-def number_in(text: bytes, decimals: int) -> Optional[int]:
-    """A number in its columns, without its point; nothing for blanks."""
-    if not text.strip(b" "):
-        return None
-    found = re.fullmatch(rb" *(-?)([0-9]*)\.([0-9]{%d})" % decimals, text)
-    if not found:
-        raise Malformed(f"no number: {text!r}")
-    return int(found[1] + (found[2] or b"0") + found[3])
-
-
-Line = Tuple[str, bytes, int]  # what a line is (`header`, `event`, `record`, `epoch`, `satellite`), its content, and its number of types
-
-
-def rinex_lines(lines: List[bytes], types: Dict[bytes, int]) -> Iterator[Line]:
-    """What each line of RINEX is."""
-    at, in_header = 0, True
-    while at < len(lines):
-        line = lines[at]
-        at += 1
-        if in_header:
-            declare(types, line)
-            in_header = label(line) != b"END OF HEADER"
-            yield "header", line, 0
-        elif is_event(line):
-            yield "event", line, 0
-            for record in lines[at : at + count_in(line)]:
-                if line[31:32] != b"6":
-                    declare(types, record)
-                yield "record", record, 0
-            at += count_in(line)
-        else:
-            yield "epoch", line, 0
-            count = count_in(line) if line[32:35].strip(b" ").isdigit() else 0
-            for row in lines[at : at + count]:
-                yield "satellite", row, types.get(row[:1], 0)
-            at += count
-
-
-def normal_line(what: str, line: bytes, count: int) -> bytes:
-    """A line as it comes back: numbers in one form, and no blanks at the end of an epoch's lines."""
-    if what == "epoch":
-        return (line[:41].ljust(41) + printed(number_in(line[41:56].ljust(15), 12), 12, 15)).rstrip(b" ")
-    if what == "satellite":
-        cells = [line[3 + 16 * k : 19 + 16 * k].ljust(16) for k in range(count)]
-        return (line[:3] + b"".join(printed(number_in(cell[:14], 3), 3, 14) + cell[14:] for cell in cells)).rstrip(b" ")
-    return line
-
-
-def normal_form(data: bytes) -> bytes:
-    """A RINEX text as it comes back."""
-    return b"".join(normal_line(*line) + b"\n" for line in rinex_lines(contents(data), {}))
-
-
-# ---- Compact RINEX 3.0, as it is read
-
-
-class Arc:
-    """The values of a cell since a start: its latest differences, one of each order."""
-
-    def __init__(self, order: int, first: int) -> None:
-        self.order, self.latest = order, [first]
-
-    def add(self, number: int) -> None:
-        at = min(len(self.latest), self.order)
-        self.latest[at:] = [number]
-        for k in range(at, 0, -1):
-            self.latest[k - 1] += self.latest[k]
-
-
-class Reader:
-    """Expands compact text by its definition."""
-
-    def __init__(self) -> None:
-        self.types: Dict[bytes, int] = {}
-        self.text: Optional[bytes] = None
-        self.arcs: Dict[object, Arc] = {}
-        self.marks: Dict[bytes, bytes] = {}
-
-    def expand(self, data: bytes) -> bytes:
-        lines = contents(data)
-        if len(lines) < 2 or label(lines[0]) != b"CRINEX VERS   / TYPE" or lines[0][:20].strip(b" ") != b"3.0" or label(lines[1]) != b"CRINEX PROG / DATE":
-            raise Malformed("the first lines aren't those of Compact RINEX 3.0")
-        return b"".join(line + b"\n" for line in self._rinex(lines))
-
-    def _rinex(self, lines: List[bytes]) -> Iterator[bytes]:
-        at, in_header = 2, True
-        while at < len(lines):
-            line = lines[at]
-            at += 1
-            if in_header:
-                declare(self.types, line)
-                in_header = label(line) != b"END OF HEADER"
-                yield line
-            elif is_event(line):
-                records = lines[at : at + count_in(line)]
-                at += len(records)
-                if any([declare(self.types, record) for record in records]) and line[31:32] != b"6":
-                    self.text = None
-                yield from (line, *records)
-            else:
-                names = self._names(line)
-                if at + 1 + len(names) > len(lines):
-                    raise Malformed(f"line {at}: the text ends inside an epoch")
-                yield from self._epoch(names, lines[at : at + 1 + len(names)])
-                at += 1 + len(names)
-
-    def _names(self, line: bytes) -> List[bytes]:
-        """Takes an epoch line into account, and gives the satellites."""
-        if line[:1] == b">":
-            self.text, self.arcs, self.marks = b"", {}, {}
-        if self.text is None:
-            raise Malformed(f"nothing is known before this line: {line!r}")
-        self.text = self._overlaid(self.text, line)
-        try:
-            names = [self.text[41 + 3 * k : 44 + 3 * k] for k in range(count_in(self.text))]
-        except ValueError:
-            raise Malformed(f"no count of satellites: {self.text!r}") from None
-        self.arcs = {key: arc for key, arc in self.arcs.items() if key == "clock" or key[0] in names}  # type: ignore[index]
-        self.marks = {name: marks for name, marks in self.marks.items() if name in names}
-        return names
-
-    @staticmethod
-    def _overlaid(old: bytes, marks: bytes) -> bytes:
-        length = max(len(old), len(marks))
-        return bytes(one if mark == 32 else 32 if mark == 38 else mark for one, mark in zip(old.ljust(length), marks.ljust(length)))
-
-    def _value(self, key: object, code: bytes) -> Optional[int]:
-        """The value of a cell by its next code."""
-        if not code:
-            self.arcs.pop(key, None)
-            return None
-        try:
-            if code[1:2] == b"&":
-                self.arcs[key] = Arc(int(code[:1]), int(code[2:]))
-            else:
-                self.arcs[key].add(int(code))
-        except (ValueError, KeyError):
-            raise Malformed(f"no code, or no arc: {code!r}") from None
-        return self.arcs[key].latest[0]
-
-    def _epoch(self, names: List[bytes], lines: List[bytes]) -> Iterator[bytes]:
-        assert self.text is not None
-        clock = printed(self._value("clock", lines[0].rstrip(b" ")), 12, 15)
-        yield (self.text[:41].ljust(41) + clock).rstrip(b" ")
-        for name, line in zip(names, lines[1:]):
-            count = self.types.get(name[:1], 0)
-            *codes, marks = (line.split(b" ", count) + [b""] * (count + 1))[: count + 1]
-            self.marks[name] = self._overlaid(self.marks.get(name, b""), marks).ljust(2 * count)
-            cells = (printed(self._value((name, k), code), 3, 14) + self.marks[name][2 * k : 2 * k + 2] for k, code in enumerate(codes))
-            yield (name + b"".join(cells)).rstrip(b" ")
 
 
 # ---- what differs
@@ -278,7 +86,7 @@ def differences(wanted: bytes, got: bytes) -> List[Difference]:
     if wanted == got:
         return []
     lines = [contents(text) for text in (wanted, got)]
-    roles = [[what for what, _, _ in rinex_lines(some, {})] for some in lines]
+    roles = [[what for what, _, _ in rinex_lines(some)] for some in lines]
     found: List[Difference] = []
     for tag, i, i_end, j, j_end in difflib.SequenceMatcher(None, lines[0], lines[1], autojunk=False).get_opcodes():
         if tag == "equal":
@@ -345,6 +153,13 @@ def _refusal(case: Dict, answer: Run) -> List[Difference]:
     return []
 
 
+class Judge(Relation):
+    """Reads values that are too wide for their columns too, and so tells which line has them."""
+
+    def fits(self, value, width):
+        return True
+
+
 def _expanded(case: Dict, answer: Run) -> "Tuple[bytes, List[Difference]]":
     """What an output stands for, and why it can't be read."""
     if case["do"] == "expand":
@@ -352,8 +167,8 @@ def _expanded(case: Dict, answer: Run) -> "Tuple[bytes, List[Difference]]":
     if not answer.output and case.get("faults"):
         return b"", []
     try:
-        return Reader().expand(answer.output), []
-    except (Malformed, ValueError) as error:
+        return rinex(Judge().units(answer.output, is_beginning=bool(case.get("faults")))), []
+    except NoSuchText as error:
         return b"", [Difference("text", 0, "Compact RINEX 3.0", str(error))]
 
 
@@ -400,16 +215,16 @@ def shown(path: Path) -> str:
 
 
 def cases_of_files(folder: Path) -> Iterator[Dict]:
-    """Cases of somebody's own files: what they stand for is found by the reader of this file."""
+    """Cases of somebody's own files: what they stand for is found by the reader."""
     for path in sorted(path for path in folder.rglob("*") if path.is_file()):
         data = path.read_bytes()
         first = label(data[:100].split(b"\n")[0].rstrip(b"\r"))
         is_compact = first == b"CRINEX VERS   / TYPE"
         try:
             if not is_compact and first != b"RINEX VERSION / TYPE":
-                raise Malformed("neither RINEX nor Compact RINEX")
-            wanted = Reader().expand(data) if is_compact else normal_form(data)
-        except (Malformed, ValueError, AssertionError) as error:
+                raise NoSuchText("neither RINEX nor Compact RINEX")
+            wanted = rinex(Relation().units(data)) if is_compact else normal_form(data)
+        except (NoSuchText, ValueError) as error:
             print(f"{shown(path)} is left out: {error}", file=sys.stderr)
             continue
         yield {"name": shown(path), "do": "expand" if is_compact else "compact", "input": data.decode("latin-1"), "expands_to": wanted.decode("latin-1")}

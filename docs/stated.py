@@ -1,9 +1,8 @@
 #!/usr/bin/env python3
 """Puts the numbers of the sources into the texts that state them: the limits, and how many definitions one has to believe; and what is
 listed: the faults in the manual page and in the page of formats, the table of `explain` in the page of errors, the options in the manual page, in
-the page of use and in the completions, and the cases in the page of the tests. If you change a limit, or add a fault, an option or a case, run
-`make numbers`; none of these texts needs a hand for it. A page says a limit's number only if this script writes it; code and tests cite the
-limit by its name.
+the page of use and in the completions. If you change a limit, or add a fault or an option, run `make numbers`; none of these texts needs a hand
+for it. A page says a limit's number only if this script writes it; code and tests cite the limit by its name.
 
     docs/stated.py           writes them
     docs/stated.py --check   says which text has another number, and ends with status 1 then
@@ -162,19 +161,6 @@ def with_codes(text):
     """The manual page with its list of codes as the table of faults has it."""
     codes = "Codes: " + ", ".join(f"{number} {words}" for number, words in faults().items()) + "."
     return re.sub(r"^Codes: .*?\.$", textwrap.fill(codes, 79, break_on_hyphens=False), text, flags=re.M | re.S)
-
-
-def with_cases(text):
-    """The page of the tests with each case below its subject: new ones come last."""
-    made = (CASES / "checks.py").read_text(encoding="utf-8")  # which names those that have no file
-
-    def subject(match):
-        there = {path.stem for path in (CASES / match[2]).glob("*.case")}
-        named = [name for name in re.findall(r"`(\w+)`", match[3]) if name in there or re.search(rf"\b{name}\b", made)]
-        names = ", ".join(f"`{name}`" for name in [*named, *sorted(there - {*named})])
-        return textwrap.fill(f"{match[1]} {names}.", 140, subsequent_indent="  ", break_on_hyphens=False)
-
-    return re.sub(r"^(- [^`]*\(`(\w+)`\):)\s+((?:`\w+`(?:,\s+)?)+)\.$", subject, text, flags=re.M)
 
 
 @dataclass(frozen=True)
@@ -362,7 +348,6 @@ LISTED = {
     "packaging/completions/rnxcmp.bash": for_bash,
     "packaging/completions/_rnxcmp": for_zsh,
     "packaging/completions/rnxcmp.fish": for_fish,
-    "tests/README.md": with_cases,
 }
 
 # All texts into which a script writes.

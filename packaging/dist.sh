@@ -40,8 +40,9 @@ documents() {
     mkdir -p "$2/docs" "$2/conformance"
     cp -r "$work/pages/." "$2/docs"
     [ "$1" = windows ] || install -m 644 "$top/packaging/LGPL-2.1.txt" "$2" # of glibc
-    install -m 644 "$top"/conformance/*.md "$top"/conformance/*.json "$2/conformance" # the suite for other programs
-    install -m 755 "$top"/conformance/*.py "$2/conformance"
+    install -m 644 "$top/tests/relation.py" "$2/conformance" # the suite for other programs
+    install -m 755 "$top/conformance/conform.py" "$top/tests/texts.py" "$2/conformance"
+    "$top/tests/collect.py" > "$2/conformance/cases.json"
 }
 
 # parts MACHINE ROOT FILE: the list of parts, with the sum of each file below ROOT

@@ -5,7 +5,7 @@
     tests/prove.py proof NAME WORDS   runs WORDS, which prove a crate, in its folder (crates.mk); the name may go on with `@` and a machine
     tests/prove.py made WORDS         runs WORDS, a `make` of crates, and then shows again what failed
 
-What the prover prints goes into out/logs. tests/run.py uses the same for the gate, whose prints go into out/logs/gate.
+What the prover prints goes into out/logs. tests/runner.py uses the same for the gate, whose prints go into out/logs/gate.
 """
 
 import hashlib

@@ -1,4 +1,4 @@
-"""Each recipe of docs/ARCHIVES.md as it stands there, on files that are made up here, and the script that they call (see tests/run.py).
+"""Each recipe of docs/ARCHIVES.md as it stands there, on files that are made up here, and the script that they call.
 
 The blocks are run one after another in one folder. A block that names a program which the machine lacks is left out.
 """
@@ -12,11 +12,11 @@ import sys
 import tempfile
 from pathlib import Path
 
-from checking import install, missing_tools
+from runner import install, missing_tools, own_mounts
 
 sys.path.insert(0, str(Path(__file__).parent))
 import hostile  # noqa: E402
-import verifying  # noqa: E402
+import many  # noqa: E402
 from recipes import recipes  # noqa: E402
 
 TOP = Path(__file__).resolve().parents[2]
@@ -42,7 +42,7 @@ WANTED = {
     "Do the files come back?": ["the messages say which"],
     "Other programs that read the files": ["the same"],
 }
-ELSEWHERE = ("GNU parallel over several machines",)  # recipes that tests/cluster runs
+ELSEWHERE = ("GNU parallel over several machines",)  # recipes that need other machines
 # what stands after a recipe, and what doesn't
 LEFT = {
     "find and xargs": (["a_MO.crx", "sub/b_MO.crx", "packed_MO.crx.gz", "strange_MO.crx"], ["bad_MO.crx"]),
@@ -51,6 +51,12 @@ LEFT = {
     "A page of the archive": (["../archive.html"], []),
     "A compaction every night": (["a_MO.crx.gz", "sub/b_MO.crx.gz"], ["bad_MO.crx.gz", "strange_MO.crx.gz"]),
 }
+
+
+def of_epochs(count):
+    """A text of so many epochs of one satellite, one each 30 seconds."""
+    texts = (b"> 2024 01 01 %02d %02d %2d.0000000  0  1\nG02  %d.000\n" % (k // 120, k // 2 % 60, k % 2 * 30, 20000000 + k) for k in range(count))
+    return SAMPLE.read_bytes().partition(b"\n>")[0] + b"\n" + b"".join(texts)
 
 
 def make_files(program, folder):
@@ -69,8 +75,9 @@ def make_files(program, folder):
     (archive / "packed_MO.rnx.gz").write_bytes(gzip.compress(good))
     (archive / "strange_MO.rnx").write_bytes(b"\n".join(strange))
     (archive / "bad_MO.rnx").write_bytes(b"not RINEX\n")
-    (archive / "again_MO.rnx").write_bytes(verifying.padded(verifying.of_epochs(130)))
-    (archive / "again_MO.crx.gz").write_bytes(gzip.compress(verifying.compact(program, verifying.of_epochs(65))))
+    (archive / "again_MO.rnx").write_bytes(of_epochs(130).replace(b".000\n", b".000  \n"))
+    compact = subprocess.run([program, "rnx2crx"], input=of_epochs(65), capture_output=True, check=True, timeout=60).stdout
+    (archive / "again_MO.crx.gz").write_bytes(gzip.compress(compact))
     (archive / "padded.24o").write_bytes(b"\n".join(lines[:first] + [line + b"  " for line in lines[first:-1]] + [b""]))
     (archive / "faulty.24o").write_bytes(good + b"\n")
     (archive / "two.24o").write_bytes(good.replace(b"     3.05", b"     2.11", 1))
@@ -187,4 +194,9 @@ def checks(program):
         yield "the next nights", lambda: check_next_nights(work, environment)
         yield "reasons of the night", lambda: check_reasons(work, environment)
         yield "RTKLIB", lambda: check_rtklib(work, environment)
-        yield from verifying.checks(program, tools / "rnxcmp-file")
+
+
+def slow_checks(program):
+    own_mounts()
+    with tempfile.TemporaryDirectory() as name:
+        yield from many.checks(program, Path(name))

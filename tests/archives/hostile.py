@@ -7,9 +7,9 @@ import tempfile
 from concurrent.futures import ThreadPoolExecutor
 from pathlib import Path
 
-from checking import missing_tools
+
 from recipes import recipes
-from verifying import GOOD, OLD
+from runner import SAMPLE, missing_tools
 
 RAN = "ran"  # what each command in a name makes
 COMMANDS = (

@@ -1,16 +1,12 @@
-#!/usr/bin/env python3
-"""Each recipe of docs/ARCHIVES.md over 200 files that are made up here, ten of them bad and one unreadable (`make archive-test`).
-
-    tests/archives/many.py PROGRAM [HEADING..]
+"""Each recipe of docs/ARCHIVES.md over 200 files that are made up here, ten of them bad and one unreadable.
 
 Each recipe is killed in the middle, with all that it started, and begun again, and then once more; it runs on a disk that is too small
 for all outputs, and again on a greater one; and without the bad files. After each run every input is there as it was; each output holds all
 of its input; no half output has an output's name; each bad file is named, the recipe says that files failed exactly where some did, and a
 further run leaves what is done as it is. The recipes run as a user that may not read all files, and what is mounted goes with the test: so only root
-can run all of it. The last line is `N passed, M failed`.
+can run all of it.
 """
 
-import argparse
 import gzip
 import os
 import re
@@ -27,7 +23,7 @@ from pathlib import Path
 HERE = Path(__file__).resolve().parent
 TOP = HERE.parents[1]
 sys.path[:0] = [str(TOP / "tests"), str(HERE)]
-from checking import files_below, install, missing_tools, tally  # noqa: E402
+from runner import files_below, install, missing_tools  # noqa: E402
 from recipes import recipes  # noqa: E402
 
 SAMPLE = (TOP / "samples/station.rnx").read_bytes()
@@ -299,7 +295,7 @@ def check_full(program, tools, files, block, work):
         disk.remove()
 
 
-def checks(program, headings, folder):
+def checks(program, folder):
     failed = install(program, folder)
     yield "installed", lambda: failed
     if failed:
@@ -309,8 +305,6 @@ def checks(program, headings, folder):
     found = {heading: block for heading, block in recipes() if heading in RECIPES}
     yield "all are there", lambda: [] if found.keys() == RECIPES.keys() else [f"recipes: {sorted(found)}"]
     for heading, block in found.items():
-        if headings and heading not in headings:
-            continue
         files = Files(RECIPES[heading])
         lacking = missing_tools(block)
         reason = f"there is no {lacking[0]}" if lacking else None
@@ -320,24 +314,3 @@ def checks(program, headings, folder):
             with tempfile.TemporaryDirectory(dir=folder) as work:
                 yield f"{heading}: {title}", lambda: reason or check(program, tools, files, block, Path(work))
 
-
-def main():
-    parser = argparse.ArgumentParser(description=__doc__, formatter_class=argparse.RawDescriptionHelpFormatter)
-    parser.add_argument("program", type=Path)
-    parser.add_argument("heading", nargs="*")
-    arguments = parser.parse_args()
-    program = arguments.program.resolve()
-    if not program.exists():
-        print(f"no program {program}: run make first")
-        return 1
-    if os.geteuid() == 0 and "MOUNTS" not in os.environ:  # what is mounted is to be seen here alone
-        command = ["unshare", "--mount", sys.executable, __file__, *sys.argv[1:]]
-        os.execvpe(command[0], command, {**os.environ, "MOUNTS": "own"})
-    with tempfile.TemporaryDirectory() as name:
-        passed, failed = tally("recipe", checks(program, arguments.heading, Path(name)))
-    print(f"{passed} passed, {failed} failed")
-    return 1 if failed else 0
-
-
-if __name__ == "__main__":
-    sys.exit(main())

@@ -1,5 +1,5 @@
 """The commands that README.md, the manual page and the help print, run as they are printed, on files that are made up here; and the
-program as `make install` puts it in place (see tests/run.py).
+program as `make install` puts it in place.
 
 The commands of one place are run one after another in one folder, and each has to end well, with nothing on standard error.
 """
@@ -14,7 +14,7 @@ import tempfile
 import textwrap
 from pathlib import Path
 
-from checking import install, missing_tools
+from runner import install, missing_tools
 
 HERE = Path(__file__).resolve().parent
 TOP = HERE.parents[1]

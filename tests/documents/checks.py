@@ -1,7 +1,7 @@
 """The documents against the sources: the pages that `make docs` makes have each definition once and no link to nothing, the pictures are
 those that their script would make today, the picture of an epoch is what the program makes, each clause, name of code, file and make target
 that a document names is there, the page of each crate has its modules, and the limits, faults and options of the program are those that texts
-beside it have (see tests/run.py)."""
+beside it have."""
 
 import gzip
 import re
@@ -17,7 +17,7 @@ TOP = Path(__file__).resolve().parents[2]
 sys.path[:0] = [str(TOP / "docs"), str(TOP / "tests")]
 import proved  # noqa: E402
 from chapters import CHAPTERS, Book, is_definition, is_ported, top_down  # noqa: E402
-from checking import PACKAGES  # noqa: E402
+from runner import PACKAGES  # noqa: E402
 from sources import crates, fault_names, functions_in, public_functions  # noqa: E402
 from stated import WRITTEN, faults, spelled, typed_in, wrong_in  # noqa: E402
 

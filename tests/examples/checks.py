@@ -1,6 +1,5 @@
 """`examples/availability.py` over the sample; `examples/archive_page.py` over four files; and `examples/parallel.py`, which cuts a file of
-compact text into pieces and expands them apart: the same output, messages and status as one run of the program, for pieces of each size
-(see tests/run.py). Its speed on a large file is measured by hand:
+compact text into pieces and expands them apart: the same output, messages and status as one run of the program, for pieces of each size. Its speed on a large file is measured by hand:
 
     bench/generate.py --megabytes 1000 -o big.rnx && PROGRAM rnx2crx -e 100 big.rnx && time examples/parallel.py --program PROGRAM big.crx back.rnx
 """

@@ -1,5 +1,5 @@
-"""`rnxcmp-file explain`, `rnxcmp.explain`, `rnxcmp.open`, and the cause in the messages of rnxcmp-file (see tests/run.py): everyday damage, good
-files, damage at random, speed, and files that can't be read. `make explain-test` does it for 20,000 damaged files.
+"""`rnxcmp-file explain`, `rnxcmp.explain`, `rnxcmp.open`, and the cause in the messages of rnxcmp-file: everyday damage, good
+files, damage at random, speed, and files that can't be read. `SLOW=1` does it for 20,000 damaged files.
 """
 
 import gzip
@@ -16,6 +16,9 @@ sys.path.insert(0, str(HERE))
 import damaged_files  # noqa: E402
 from everyday import OF_COMPACT, OF_RINEX  # noqa: E402
 from explained import ENDINGS, ENVIRONMENT, LIBRARY, TOOL, TOP, compacted, named_by, package, run_tool, sample  # noqa: E402
+
+sys.path.append(str(HERE.parent))
+from runner import SEED  # noqa: E402
 
 
 def of_kind(program, kind, direction, text):
@@ -235,7 +238,13 @@ def checks(program):
         for kind in kinds:
             yield f"{ENDINGS[direction]}: {kind.name}", lambda kind=kind, direction=direction, whole=whole: of_kind(program, kind, direction, whole)
     yield "good files", lambda: good_files(program)
-    yield "damage at random", lambda: damaged_files.run(program, 600, 200, 1).wrong[:20]
+    yield "damage at random", lambda: damaged_files.run(program, 600, 200, SEED).wrong[:20]
     yield "speed", lambda: speed(program)
     for name, check in (("the command", command), ("far lines", far_and_once), ("never raises", never_raises), ("open", opened), ("the start", start), ("the tables", tables)):
         yield name, lambda check=check: check(program)
+
+
+def slow_checks(program):
+    yield "20,000 damaged files", lambda: damaged_files.run(program, 20_000, 2000, SEED).wrong[:20]
+    yield "2,000 files with CRs, opened", lambda: opened(program, 2000)
+    yield "speed, once more", lambda: speed(program, 1)

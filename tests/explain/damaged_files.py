@@ -7,8 +7,8 @@ from dataclasses import dataclass, field
 
 from explained import TOP, compacted, named_by, package, sample
 
-sys.path.insert(0, str(TOP / "conformance"))
-import generate  # noqa: E402
+sys.path.insert(0, str(TOP / "tests"))
+import texts as generate  # noqa: E402
 
 SECONDS = 0.5  # of processor that an explanation may take
 NEAR = b"0123456789 .-&>GRECx\t\x00\xc8"

@@ -5,10 +5,11 @@ import shlex
 import subprocess
 import sys
 from dataclasses import dataclass
-from importlib import util
 from pathlib import Path
 
-CASES = Path(__file__).resolve().parents[1] / "cases"
+sys.path.insert(0, str(Path(__file__).resolve().parents[1]))
+import test_cases as cases  # noqa: E402
+
 DATE = "01-Jan-24 00:00"
 KINDS = ("rnx2crx", "crx2rnx", "check")
 
@@ -57,15 +58,6 @@ def run_program(program, call):
 # ---- tests/cases
 
 
-def case_checks():
-    """The module tests/cases/checks.py."""
-    spec = util.spec_from_file_location("case_checks", CASES / "checks.py")
-    module = util.module_from_spec(spec)
-    sys.modules[spec.name] = module
-    spec.loader.exec_module(module)
-    return module
-
-
 def call_of(words, data):
     """The call that the program's words mean, and the names of files among them."""
     call, names, rest = Call(KINDS.index(words[0]), data), [], iter(words[1:])
@@ -103,25 +95,7 @@ def answers_of(case):
             yield Call(1, case.output, skip), Result(case.expansion, b"", 0)
 
 
-def long_answers(cases, program):
-    """The runs of tests/cases whose texts are made there, with the program's answers."""
-    found, run = {}, cases.run
-
-    def recorded(program, words, data=b"", files=None, piece=None):
-        key = (tuple(words), data)
-        if key not in found:
-            found[key] = run(program, words, data, files)
-        return found[key]
-
-    cases.run = recorded
-    for check in cases.LONG:
-        check(program)
-    for (words, data), answer in found.items():
-        yield call_of(words, data)[0], Result(answer.output, answer.messages, answer.status)
-
-
-def answers_of_cases(program):
+def answers_of_cases():
     """The runs of tests/cases as calls with their answers."""
-    cases = case_checks()
-    found = [answer for path in cases.cases() for answer in answers_of(cases.read_case(path))]
-    return found + list(long_answers(cases, program))
+    every = [*map(cases.read_case, cases.cases()), *cases.long_cases().values()]
+    return [answer for case in every for answer in answers_of(case)]

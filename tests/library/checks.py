@@ -1,16 +1,9 @@
-#!/usr/bin/env python3
-"""The library for C, C++, Python and Fortran, as `make library` and `make python` leave it, beside the built program (see tests/run.py).
-
-    tests/library/checks.py PROGRAM --inputs 10000     tries so many random and damaged inputs, in place of those of the gate
-    tests/library/checks.py PROGRAM --random 100000    tries so many of them through C, and nothing else (make library-fuzz)
-
-Where LIBRARY_TOP is set, the library that stands in out/library of that folder is tested as it is, and none is made.
+"""The library for C, C++, Python and Fortran, as `make library` and `make python` leave it, beside the built program.
 
 Each call over memory is to give what the program writes, reports and answers for the same bytes, in rooms that are as long as the texts,
 longer, one byte shorter, and empty, and nothing beside the rooms may change. quick.py has the checks of single promises.
 """
 
-import argparse
 import os
 import pickle
 import random
@@ -21,23 +14,20 @@ import sys
 import tempfile
 import zipfile
 from concurrent.futures import ThreadPoolExecutor
-from importlib import util
 from pathlib import Path
 
 HERE = Path(__file__).resolve().parent
 TOP = HERE.parents[1]
 sys.path[:0] = [str(HERE), str(TOP / "tests")]
 import quick  # noqa: E402
+from runner import SEED  # noqa: E402
 from answers import KINDS, Call, answers_of_cases, run_program  # noqa: E402
-from checking import tally  # noqa: E402
 from streams_in_time import check_in_time  # noqa: E402
 from inputs import SAMPLE, header_and_epochs, random_call, random_limit, texts_to_damage, widest_compact, widest_header, with_strange_epochs  # noqa: E402
-from lengths import LONGEST, check_each_length, check_instructions, check_many_messages  # noqa: E402
 from servers import COUNTED, FAULT, OUT_OF_MEMORY, OUTPUT_LIMIT, Calls, Handles, built, is_dated, wrong_call, wrong_run  # noqa: E402
 
-MADE = Path(os.environ.get("LIBRARY_TOP", TOP)).resolve()
-LIBRARY = MADE / "out/library"
-PROVED = MADE / "crates/rnxcmp_c/out/librnxcmp_c.a"
+LIBRARY = TOP / "out/library"
+PROVED = TOP / "crates/rnxcmp_c/out/librnxcmp_c.a"
 WHEELS = TOP / "out/python"
 PROGRAM = TOP / "out/machines/x86-64-v2/built/rnxcmp"
 INPUTS = 2000
@@ -96,7 +86,7 @@ def random_rooms(rng, result):
 class Random:
     """Random and damaged inputs through both servers, with random pieces, rooms, limits and refusals of memory."""
 
-    def __init__(self, b, seed=1):
+    def __init__(self, b, seed):
         self.b, self.rng = b, random.Random(seed)
         self.texts = texts_to_damage(b.program)
         self.ends, self.most_held = {}, 0
@@ -155,7 +145,7 @@ def with_both(b, check, most_memory=None, **built_with):
 
 def check_random(b, servers, count, say=False):
     """Random and damaged inputs; a tenth as many with memory that is refused."""
-    plain, refused = Random(b), Random(b, 2)
+    plain, refused = Random(b, SEED), Random(b, SEED + 1)
     wrong = plain.check(servers, count, plain.wrong) + plain.missing(count, (0, FAULT, 2, OUTPUT_LIMIT))
     wrong += refused.check(servers, count // 10, refused.wrong_refused) + refused.missing(count // 10, ("out of memory",))
     wrong += [] if plain.most_held < HELD else [f"a handle held {plain.most_held} bytes"]
@@ -224,9 +214,6 @@ def check_hostile(b, servers):
     return wrong + ([] if times[1] < 40 * max(times[0], 0.05) else [f"takings of 65536 and 64 bytes: {times} seconds"])
 
 
-# ---- lengths
-
-
 def check_limit(b):
     """An input over the limit is refused before any byte of it is read."""
     path, lacking = built(b.work, b.library, "calls", COUNTED)
@@ -234,15 +221,6 @@ def check_limit(b):
         return lacking
     status = subprocess.run([path, "limit"], timeout=100).returncode
     return "there is no such address space" if status == 77 else [f"status {status}"] if status else []
-
-
-def check_long(b):
-    """Lengths of more than 4 GB."""
-    path, lacking = built(b.work, b.library, "long", sanitizers=[])
-    if path is None:
-        return lacking
-    run = subprocess.run([path, SAMPLE], capture_output=True, text=True, timeout=500)
-    return "there is no such address space" if run.returncode == 77 else [run.stdout, f"status {run.returncode}"] if run.returncode else []
 
 
 # ---- what was built
@@ -335,7 +313,7 @@ def python_in(folder, wheels):
 
 def wheel_in(b, name):
     """The path of a wheel that is made anew, as `make python` makes it."""
-    program = ["--program", PROGRAM] if PROGRAM.exists() and MADE == TOP else []
+    program = ["--program", PROGRAM] if PROGRAM.exists() else []
     command = [sys.executable, TOP / "python/build_wheel.py", b.library, b.work / name, *program]
     return Path(subprocess.run(command, capture_output=True, text=True, timeout=60, check=True).stdout.strip())
 
@@ -343,8 +321,8 @@ def wheel_in(b, name):
 def check_wheel(b):
     """The same bytes twice, and those that `make python` left."""
     made = [wheel_in(b, name).read_bytes() for name in ("one", "two")]
-    left = [path.read_bytes() for path in WHEELS.glob("*.whl")] if MADE == TOP else []
-    return [] if made == (left or made[:1]) * 2 else ["the wheels differ"]
+    left = [path.read_bytes() for path in WHEELS.glob("*.whl")]
+    return [] if made == left * 2 else ["the wheels differ"]
 
 
 def check_wheel_fields(b):
@@ -362,8 +340,6 @@ def check_wheel_fields(b):
 
 def check_from_sources(b, python):
     """`pip install ./python`, without a network, and the package as a command."""
-    if MADE != TOP:
-        return "the library is elsewhere"
     folder = b.work / "from_sources"
     pip = [python, "-m", "pip", "install", "--no-index", "--quiet", "--disable-pip-version-check", "--target", folder, TOP / "python"]
     wrong = quick.output_of(pip)
@@ -388,15 +364,6 @@ def check_python_cases(python, answers):
 
 
 # ---- all
-
-
-def check_planted():
-    """Whether each planted bug can be planted."""
-    folder = TOP / "tests/mutants"
-    spec = util.spec_from_file_location("mutants", folder / "run.py")  # `run` is a name of other tests too
-    mutants = util.module_from_spec(spec)
-    spec.loader.exec_module(mutants)
-    return [line for bugs in sorted(folder.iterdir()) if bugs.is_dir() for line in mutants.stale(bugs)]
 
 
 def check_tool(b, python):
@@ -425,23 +392,19 @@ def checks_of_python(b, answers):
         yield "rnxcmp-file, as the wheel installs it", lambda: check_tool(b, python)
 
 
-def checks(program, count=INPUTS):
+def checks(program):
     with tempfile.TemporaryDirectory() as name:
         b = quick.Built(Path(program), TOP, LIBRARY, PROVED, Path(name))
-        answers = answers_of_cases(program)
+        answers = answers_of_cases()
         yield from quick.checks(b, with_python=False)
         yield f"{len(answers)} runs of tests/cases in each room", lambda: quick.served(b, "calls", Calls, quick.check_rooms, answers)
         yield f"{len(answers)} runs of tests/cases through handles", lambda: quick.served(b, "handles", Handles, check_cases_in_pieces, answers)
         yield "the loop of the header", lambda: check_loop(b, answers)
-        yield f"{count} random and damaged inputs, {count // 10} with refusals", lambda: with_both(b, lambda *given: check_random(*given, count))
+        yield f"{INPUTS} random and damaged inputs, {INPUTS // 10} with refusals", lambda: with_both(b, lambda *given: check_random(*given, INPUTS))
         yield "outputs in time", lambda: check_in_time(b)
-        yield f"lines of each length up to {LONGEST}", lambda: with_both(b, check_each_length, sanitizers=[])
-        yield "a megabyte of messages", lambda: with_both(b, check_many_messages)
-        yield "instructions of calls and handles", lambda: check_instructions(b)
         yield "hostile inputs", lambda: with_both(b, check_hostile, 10**9, sanitizers=[])
         yield "a handle over 20,000 lines", lambda: check_growths(b)
         yield "an input over the limit", lambda: check_limit(b)
-        yield "lengths over 4 GB", lambda: check_long(b)
         yield "header", lambda: check_header(b)
         yield "compilers", lambda: check_compilers(b)
         yield "linker, archiver and copier", lambda: check_tools(b)
@@ -449,24 +412,9 @@ def checks(program, count=INPUTS):
             yield f"examples/{example}", lambda: check_example(b, example)
         yield "pkg-config", lambda: check_pkg_config(b)
         yield from checks_of_python(b, answers)
-        yield "planted bugs", check_planted
 
 
-def checks_of_random(program, count):
-    """Random and damaged inputs alone, of a library that was made before."""
+def slow_checks(program):
     with tempfile.TemporaryDirectory() as name:
         b = quick.Built(Path(program), TOP, LIBRARY, PROVED, Path(name))
-        yield f"{count} random and damaged inputs, {count // 10} with refusals", lambda: with_both(b, lambda *given: check_random(*given, count, say=True))
-
-
-if __name__ == "__main__":
-    parser = argparse.ArgumentParser(description=__doc__, formatter_class=argparse.RawDescriptionHelpFormatter)
-    parser.add_argument("program", type=Path)
-    parser.add_argument("--inputs", type=int, default=INPUTS, help=f"how many random and damaged inputs ({INPUTS})")
-    parser.add_argument("--random", type=int, help="so many random and damaged inputs, and nothing else")
-    arguments = parser.parse_args()
-    program = arguments.program.resolve()
-    chosen = checks(program, arguments.inputs) if arguments.random is None else checks_of_random(program, arguments.random)
-    passed, failed = tally("library", chosen)
-    print(f"{passed} passed, {failed} failed")
-    sys.exit(1 if failed else 0)
+        yield "100,000 random and damaged inputs, 10,000 with refusals", lambda: with_both(b, lambda *given: check_random(*given, 100_000, say=True))

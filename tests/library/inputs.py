@@ -5,7 +5,7 @@ from pathlib import Path
 
 sys.path.insert(0, str(Path(__file__).resolve().parents[1]))
 from answers import Call, run_program  # noqa: E402
-from checking import LIMITS, TOP  # noqa: E402
+from runner import LIMITS, TOP  # noqa: E402
 
 SAMPLE = TOP / "samples/station.rnx"
 LINE_LIMIT, MOST_TYPES = LIMITS["LINE_LIMIT"], LIMITS["TYPES_LIMIT"]

@@ -1,16 +1,9 @@
-"""What the library promises, promise by promise, from each language: checks of a second or so each, which tests/mutants runs too.
-
-    tests/library/quick.py PROGRAM TOP LIBRARY PROVED     prints what is wrong, with status 1
-
-TOP holds the sources (include, library, python, examples), LIBRARY is what library/build.sh made of them and of PROVED, the archive of the
-proved code.
-"""
+"""What the library promises, promise by promise, from each language: checks of a second or so each, which tests/mutants runs too."""
 
 import os
 import shutil
 import subprocess
 import sys
-import tempfile
 from dataclasses import dataclass
 from pathlib import Path
 
@@ -18,7 +11,6 @@ HERE = Path(__file__).resolve().parent
 sys.path[:0] = [str(HERE), str(HERE.parent)]
 import layout  # noqa: E402
 from answers import Call, run_program  # noqa: E402
-from checking import tally  # noqa: E402
 from inputs import SAMPLE, sample_calls, with_strange_epochs  # noqa: E402
 from servers import COUNTED, OUT_OF_MEMORY, Calls, Handles, built, check_refusals, titled, wrong_call, wrong_run  # noqa: E402
 
@@ -220,10 +212,6 @@ def check_python(b):
     return output_of([sys.executable, HERE / "calls.py", b.program, SAMPLE], env=python_environment(b))
 
 
-def check_python_held(b):
-    return output_of([sys.executable, HERE / "held.py", SAMPLE], env=python_environment(b))
-
-
 def check_python_refused(b):
     """Memory that is refused under Python."""
     if not shutil.which("gcc"):
@@ -243,16 +231,9 @@ def checks(b, with_python=True):
     yield "threads", lambda: check_threads(b)
     if with_python:
         yield "calls from Python", lambda: check_python(b)
-        yield "what calls from Python hold", lambda: check_python_held(b)
     yield "calls and handles from Fortran", lambda: check_fortran(b)
     yield "samples in each room", lambda: served(b, "calls", Calls, check_rooms, short_answers(b))
     yield "samples through handles", lambda: served(b, "handles", Handles, check_handles, short_answers(b))
     yield "each growth of a call's memory refused", lambda: served(b, "calls", Calls, check_refused_calls, calls_to_refuse(b))
     yield "each growth of a handle's memory refused", lambda: served(b, "handles", Handles, check_refused_handles, calls_to_refuse(b))
     yield "each growth of memory refused under Python", lambda: check_python_refused(b)
-
-
-if __name__ == "__main__":
-    with tempfile.TemporaryDirectory() as name:
-        failed = tally("library", checks(Built(*(Path(word).resolve() for word in sys.argv[1:5]), Path(name))))[1]
-    sys.exit(1 if failed else 0)

@@ -1,68 +1,34 @@
-"""The programs and libraries of a release's machines, beside the program that make built (see tests/run.py): the
-machines whose compiler and emulator are here, as tests/build made them. `make machines-test` asks for all (run.py)."""
+"""The programs and libraries of a release's machines, beside the program that make built: the machines whose compiler and emulator are here, as
+test_build.py made them. In the environment: FILES names files of RINEX 3.0x that are tried beside the sample."""
 
+import os
 import shutil
 import subprocess
 import sys
 import tempfile
-from importlib import util
 from pathlib import Path
 
 HERE = Path(__file__).resolve().parent
-TOP = HERE.parents[1]
-sys.path[:0] = [str(HERE), str(TOP / "tests")]
+TESTS, TOP = HERE.parent, HERE.parents[1]
+sys.path[:0] = [str(HERE), str(TESTS)]
+import roots  # noqa: E402
 from libraries import check_library  # noqa: E402
 from machines import MACHINES, emulator, script  # noqa: E402
 from retargeting import check_retargeting  # noqa: E402
 from same import check_clock, check_files, check_same  # noqa: E402
 
 COMPARISONS = 280  # of which there are to be so many at least
+TEXTS = 60  # random files
+LOST = 3  # runs that may lose their messages under Wine, of some thousand
 
 
-def module_of(kind):
-    """The checks of tests/KIND/checks.py, as a module of its own."""
-    spec = util.spec_from_file_location(f"{kind}_on_machines", TOP / "tests" / kind / "checks.py")
-    module = util.module_from_spec(spec)
-    spec.loader.exec_module(module)
-    return module
-
-
-def once_more(check):
-    """A check under Wine, made again where it fails: of some 6,000 runs on a busy machine two lost what was written to
-    standard error, and none of 2,900 others, half of them of a program that isn't ours. What was wrong the first time is
-    printed, so that a second try is seen."""
-
-    def tried_twice():
-        wrong = check()
-        if wrong and not isinstance(wrong, str):
-            print("made again, under Wine:", *wrong[:6], sep="\n    ")
-            wrong = check()
-        return wrong
-
-    return tried_twice
-
-
-def failing(found):
-    """The names of the checks that fail, with what is wrong."""
-    wrong = []
-    for name, check in found:
-        lines = check()
-        wrong += [f"{name}: {line}" for line in lines[:6]] if not isinstance(lines, str) else []
-    return wrong[:40]
-
-
-def check_cases(machine, command):
-    """tests/cases. The emulator limits the stack where it can, so that its own isn't limited; Wine reads no sockets."""
-    cases = module_of("cases")
-    cases.small_stack = lambda: None
-    if machine.is_windows:
-        cases.PIECES = ()
-    return failing((path.stem, lambda path=path: cases.run_file(command, path)) for path in cases.cases())
-
-
-def check_arguments(command):
-    """tests/arguments, but for those over a clock, which is a library that is put before the program's."""
-    return failing((name, check) for name, check in module_of("arguments").checks(command) if "clock" not in name)
+def check_tests(machine, command, lost):
+    """tests/cases, the arguments, and random files beside the reader of the format. What an emulator can't do isn't asked."""
+    own = {"PROGRAM": str(command), "TEXTS": str(TEXTS), "EMULATED": "1" if machine.emulator else "", "PIECES": "0" if machine.is_windows else ""}
+    own |= {"WINE_LOST": str(lost)} if machine.is_windows else {}
+    words = [sys.executable, *(TESTS / name for name in ("runner.py", "test_cases.py", "test_arguments.py", "test_writers.py"))]
+    done = subprocess.run(words, env={**os.environ, **own}, capture_output=True, text=True, errors="replace")
+    return [] if done.returncode == 0 else [line for line in done.stdout.splitlines() if not line.endswith(" s)") or "FAILED" in line][:60] + [done.stderr[-300:]]
 
 
 def check_many(program, command, files):
@@ -97,28 +63,36 @@ def of_machine(machine, program, files=()):
     """The checks of a machine whose program is made."""
     with emulator(machine) as words, tempfile.TemporaryDirectory() as name:
         path = script(Path(name) / "program", [*words, machine.built / machine.program])
+        lost = Path(name) / "lost"
         if not machine.target:  # it has a program of its own
             yield "same answers", lambda: check_many(program, [path], files)
             yield "same files", lambda: check_files(program, [path], machine.is_windows)
             yield "clock", lambda: check_clock([path])
-            yield "cases", lambda: check_cases(machine, path)
-            yield "arguments", lambda: check_arguments(path)
+            yield "cases, arguments and random files", lambda: check_tests(machine, path, lost)
         if machine.is_windows:
             yield "names in a batch file", lambda: check_batch(machine, words)
         yield "library", lambda: check_library(machine, words, program)
-
-
-def tried(machines, program, files=()):
-    """The checks of machines whose programs are made."""
-    yield "modules for Windows", check_retargeting
-    for machine in machines:
-        if (machine.built / machine.program).exists():
-            for title, check in of_machine(machine, program, files):
-                yield f"{machine.name}, {title}", once_more(check) if machine.is_windows else check
+        if machine.is_windows:
+            yield "messages that Wine lost", lambda: [f"{lost.stat().st_size} runs lost theirs"] if lost.exists() and lost.stat().st_size > LOST else []
 
 
 def checks(program):
-    no_rt = "" if shutil.which("rt") else "there is no rt"
-    reasons = {machine: machine.lacking() or no_rt for machine in MACHINES}
-    yield from ((machine.name, lambda reason=reason: reason) for machine, reason in reasons.items() if reason)
-    yield from tried([machine for machine, reason in reasons.items() if not reason], program)
+    no_rt, files = "" if shutil.which("rt") else "there is no rt", [Path(name) for name in os.environ.get("FILES", "").split()]
+    yield "modules for Windows", check_retargeting
+    for machine in MACHINES:
+        reason = machine.lacking() or no_rt
+        if reason or not (machine.built / machine.program).exists():
+            yield machine.name, lambda reason=reason: reason or ["nothing was made for it"]
+            continue
+        for title, check in of_machine(machine, program, files):
+            yield f"{machine.name}, {title}", check
+
+
+def slow_checks(program):
+    dist = TOP / "out/dist"
+    reason = "only root may make a root of another system" if os.geteuid() else "" if any(dist.glob("*.zip")) else "there is no release for all machines: make dist"
+    if reason:
+        yield "roots of other systems", lambda: reason
+        return
+    with tempfile.TemporaryDirectory(prefix="roots-") as name:
+        yield from roots.checks(dist, TOP / "out/roots", Path(name))

@@ -1,17 +1,12 @@
-#!/usr/bin/env python3
-"""The lines of README.md and of docs/USE.md that install a release and use it, in roots of other systems, as they are printed:
+"""The lines of README.md and of docs/USE.md that install a release and use it, in roots of other systems, as they are printed.
 
-    tests/machines/roots.py DIST ROOTS [--only NAME ..] [--mirror URL] [--musl-python PYTHON]
-
-DIST is what `make dist` makes, for x86-64-v2, aarch64 and windows. ROOTS is a folder for roots of Debian 11, Debian 12 and Debian 12 on 64-bit
-ARM: where one isn't there, debootstrap makes it, from a mirror of Debian's packages, and later runs take it as it is. The other roots
-are made here: busybox alone, an empty environment of Python, and Wine's folder. All is done in copies. What a system lacks is said, with the
-lines that need it. Wheels are installed by pip. There is no Python of musl or Windows here: so this machine's pip unpacks
-the wheels of those, and their programs and libraries are used without Python. Where there is a Python that was made with
-musl, its path can be given: the wheel is then installed there too. It needs root. The last line is `N passed, M failed`.
+The release is what `make dist` made in out/dist, for x86-64-v2, aarch64 and windows. out/roots has roots of Debian 11, Debian 12 and Debian 12 on
+64-bit ARM: where one isn't there, debootstrap makes it, from MIRROR of the environment, and later runs take it as it is. The other roots are made
+here: busybox alone, an empty environment of Python, and Wine's folder. All is done in copies. What a system lacks is said, with the lines that need
+it. Wheels are installed by pip. There is no Python of musl or Windows here: so this machine's pip unpacks the wheels of those, and their programs and
+libraries are used without Python. If MUSL_PYTHON names a Python that was made with musl, the wheel is installed there too.
 """
 
-import argparse
 import os
 import re
 import shutil
@@ -23,11 +18,11 @@ from pathlib import Path
 HERE = Path(__file__).resolve().parent
 TOP = HERE.parents[1]
 sys.path[:0] = [str(HERE), str(TOP / "tests")]
-from checking import tally  # noqa: E402
 from libraries import compiled  # noqa: E402
 from machines import MACHINES, emulator  # noqa: E402
 from same import answer, difference  # noqa: E402
 
+MIRROR = os.environ.get("MIRROR", "http://deb.debian.org/debian")
 VERSION = (TOP / "VERSION").read_text().strip()
 SAMPLE = TOP / "samples/station.rnx"
 SECONDS = 1200  # in which each step is to end
@@ -94,7 +89,7 @@ def left(folder):
 # ---- the roots
 
 
-def make_root(root, suite, architecture, mirror):
+def make_root(root, suite, architecture):
     """Makes a root where it isn't there; what went wrong, as lines. One of another machine is unpacked alone, without its own scripts."""
     listed = root / "packages"  # the last that is written
     if listed.exists() and listed.read_text() == PACKAGES:
@@ -104,7 +99,7 @@ def make_root(root, suite, architecture, mirror):
     shutil.rmtree(part, ignore_errors=True)
     part.parent.mkdir(parents=True, exist_ok=True)
     foreign = ["--foreign"] if architecture != "amd64" else []
-    command = ["debootstrap", *foreign, f"--arch={architecture}", "--variant=minbase", f"--include={PACKAGES}", suite, str(part), mirror]
+    command = ["debootstrap", *foreign, f"--arch={architecture}", "--variant=minbase", f"--include={PACKAGES}", suite, str(part), MIRROR]
     run = subprocess.run(command, capture_output=True, text=True, timeout=SECONDS)
     if run.returncode:
         return [f"debootstrap: status {run.returncode}", *(run.stdout + run.stderr).splitlines()[-5:]]
@@ -211,8 +206,6 @@ def check_venv(folder, dist, program):
 
 def check_musl_python(python, folder, dist, program):
     """The wheel for musl in an environment of a Python that was made with musl; this machine's pip installs it."""
-    if not python:
-        return "--musl-python names no Python"
     place = folder / "musl-environment"
     home = place / "home"
     wheel = next(dist.glob("*-musllinux_1_2_x86_64.whl"))
@@ -298,7 +291,7 @@ def check_windows_wheel(folder, dist, program):
 
 def lacking(tools):
     missing = [tool for tool in tools if not shutil.which(tool)]
-    return [f"not found here: {', '.join(missing)}"] if missing else []
+    return f"there is no {', '.join(missing)}" if missing else ""
 
 
 def copy_of(root, folder):
@@ -306,11 +299,11 @@ def copy_of(root, folder):
     return folder / root.name
 
 
-def of_suite(name, roots, folder, dist, program, mirror):
+def of_suite(name, roots, folder, dist, program):
     """The checks of a root of Debian."""
     suite, architecture = SUITES[name]
     tools = ("proot", "qemu-aarch64", "debootstrap") if architecture != "amd64" else ("debootstrap", "unshare", "chroot")
-    wrong = lacking(tools) or make_root(roots / name, suite, architecture, mirror)
+    wrong = lacking(tools) or make_root(roots / name, suite, architecture)
     yield f"{name}: the root", lambda: wrong
     if not wrong:
         root = copy_of(roots / name, folder)
@@ -319,42 +312,18 @@ def of_suite(name, roots, folder, dist, program, mirror):
         yield f"{name}: the wheel", lambda: check_wheel(root, name)
 
 
-def checks(dist, roots, folder, mirror, only, musl_python):
+def checks(dist, roots, folder):
     subprocess.run(["tar", "-xzf", dist / f"rnxcmp-{VERSION}-linux-x86_64.tar.gz", "-C", folder], check=True, timeout=SECONDS)
     program = folder / f"rnxcmp-{VERSION}-linux-x86_64/bin/rnxcmp"
     for name in SUITES:
-        if name in only:
-            yield from of_suite(name, roots, folder, dist, program, mirror)
+        yield from of_suite(name, roots, folder, dist, program)
     others = (
         ("busybox", "the printed lines", check_busybox, ("busybox", "unshare")), ("venv", "the printed lines", check_venv, ()),
         ("musl", "the wheel", check_musl_wheel, ("musl-gcc",)), ("wine", "the printed lines", check_wine, ("wine", "unzip")),
         ("wine", "the wheel", check_windows_wheel, ("wine", MACHINES[-1].compiler)),
     )  # fmt: skip
-    if "musl" in only:
-        yield "musl: the wheel, in a Python of musl", lambda: check_musl_python(musl_python, folder, dist, program)
+    if os.environ.get("MUSL_PYTHON"):
+        yield "musl: the wheel, in a Python of musl", lambda: check_musl_python(os.environ["MUSL_PYTHON"], folder, dist, program)
     for name, title, check, tools in others:
-        if name in only:
-            yield f"{name}: {title}", lambda check=check, tools=tools: lacking(tools) or check(folder, dist, program)
+        yield f"{name}: {title}", lambda check=check, tools=tools: lacking(tools) or check(folder, dist, program)
 
-
-def main():
-    parser = argparse.ArgumentParser(description=__doc__, formatter_class=argparse.RawDescriptionHelpFormatter)
-    names = [*SUITES, "busybox", "venv", "musl", "wine"]
-    parser.add_argument("dist", type=Path)
-    parser.add_argument("roots", type=Path)
-    parser.add_argument("--only", nargs="+", choices=names, default=names)
-    parser.add_argument("--mirror", default="http://deb.debian.org/debian", help="where Debian's packages are (%(default)s)")
-    parser.add_argument("--musl-python", help="a Python that was made with musl")
-    arguments = parser.parse_args()
-    if os.geteuid():
-        print("only root may make a root of another system")
-        return 1
-    with tempfile.TemporaryDirectory(prefix="roots-") as name:
-        places = arguments.dist.resolve(), arguments.roots.resolve(), Path(name)
-        passed, failed = tally("root", checks(*places, arguments.mirror, arguments.only, arguments.musl_python))
-    print(f"{passed} passed, {failed} failed")
-    return 1 if failed else 0
-
-
-if __name__ == "__main__":
-    sys.exit(main())

@@ -1,5 +1,5 @@
 """What `make dist` makes: the same bytes twice, packages that unpack into an empty folder, a static program that works there, a library that
-compilers find; and the version, which stands in VERSION alone (see tests/run.py)."""
+compilers find; and the version, which stands in VERSION alone."""
 
 import gzip
 import json
@@ -172,9 +172,10 @@ def check_archive(made_in, folder):
 def check_static(folder):
     """The cases and the runs as a process, of the archive's program."""
     program = folder / f"rnxcmp-{VERSION}-linux-x86_64/bin/rnxcmp"
-    run = subprocess.run([sys.executable, TOP / "tests/run.py", program, "--only", "case", "process"], capture_output=True, text=True, timeout=600)
+    words = [sys.executable, *(TOP / "tests" / name for name in ("runner.py", "test_cases.py", "test_streams.py", "test_sizes.py"))]
+    run = subprocess.run(words, env={**os.environ, "PROGRAM": str(program)}, capture_output=True, text=True, timeout=SECONDS)
     lines = run.stdout.splitlines()
-    return [] if run.returncode == 0 else [line for line in lines if not line.endswith("... ok")][:20] or [run.stderr[-300:]]
+    return [] if run.returncode == 0 else [line for line in lines if not line.endswith(" s)") or "FAILED" in line][:40] or [run.stderr[-300:]]
 
 
 def check_changes(text):

@@ -57,7 +57,7 @@ def of_machine(machine, folder):
         raise RuntimeError(run.stderr.strip())
     machines.MADE, of_machines.COMPARISONS = place, 0
     for title, check in of_machines.of_machine(machine, program):
-        if title != "cases" and not title.startswith("arguments"):
+        if not title.startswith("cases"):
             yield f"{name}, {title}", check
 
 

@@ -1,0 +1,5 @@
+"""The planted bugs of tests/mutants/library; mutants.py says how they are tried."""
+
+from mutants import load
+
+load_tests = load("library")
