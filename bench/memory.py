@@ -3,33 +3,30 @@
 of as many types as may be. It prints the table of bench/README.md, and on how small a stack each command runs.
 
     bench/memory.py PROGRAM
-    bench/memory.py --empty         writes a file of 693 satellites of as many types, without values, to standard output
+    bench/memory.py empty           writes a file of 693 satellites of as many types, without values, to standard output
+    bench/memory.py same|shuffled   writes one of 693 satellites of two types, in the same order in each epoch, or in another
 """
 
 import random
-import re
 import subprocess
 import sys
 import tempfile
 from pathlib import Path
 
-from reordered import ENDINGS, LETTERS, header_line
 from run import greatest_memory
 
+sys.path.append(str(Path(__file__).resolve().parents[1] / "tests"))
+from texts import H, NAMES, SYSTEMS, TYPES_LIMIT, text, turning, types_lines  # noqa: E402
+
 HERE = Path(__file__).resolve().parent
-MOST = int(re.search(r"TYPES_LIMIT: usize = (\d+);", (HERE.parent / "crates/crx_base/src/limits.rt").read_text(encoding="utf-8"))[1])
-TYPES = (MOST,) * 4  # of each system, by epoch; where there are more an event says so
-GROWING = (1, 130, 260, 300, MOST, MOST, MOST)
-NAMES = [letter + ending for letter in LETTERS for ending in ENDINGS]
+TYPES = (TYPES_LIMIT,) * 4  # of each system, by epoch; where there are more an event says so
+GROWING = (1, 130, 260, 300, TYPES_LIMIT, TYPES_LIMIT, TYPES_LIMIT)
 STACKS = range(4, 132, 4)  # KiB
 
 
-def types_lines(types):
+def declared(types):
     """The lines that declare so many types for each system."""
-    for letter in LETTERS:
-        for start in range(0, types, 13):
-            codes = " C1C" * min(13, types - start)
-            yield header_line(f"{letter}  {types:3}{codes}" if start == 0 else " " * 6 + codes, "SYS / # / OBS TYPES")
+    return [line for letter in SYSTEMS for line in types_lines(letter, types)]
 
 
 def at_the_limits(path, types):
@@ -41,12 +38,11 @@ def at_the_limits(path, types):
         return f"{rng.choice('- ')}{rng.randrange(10**8, 10**9)}.{rng.randrange(1000):03}{rng.randrange(10)}{rng.randrange(10)}"
 
     with path.open("w", encoding="ascii") as file:
-        file.write(header_line("%9s%11s%-20s%-20s" % ("3.05", "", "OBSERVATION DATA", "M"), "RINEX VERSION / TYPE"))
-        file.writelines([*types_lines(types[0]), header_line("", "END OF HEADER")])
+        file.write(text(H[0], *declared(types[0]), H[2]).decode())
         for epoch, count in enumerate(types):
             if epoch and count != types[epoch - 1]:
-                lines = list(types_lines(count))
-                file.writelines([f"> 2024 01 01 00 00 {epoch:2}.0000000  4{len(lines):3}\n", *lines])
+                lines = declared(count)
+                file.write(text(f"> 2024 01 01 00 00 {epoch:2}.0000000  4{len(lines):3}", *lines).decode())
             file.write(f"> 2024 01 01 00 00 {epoch:2}.0000000  0{len(NAMES):3}\n")
             file.writelines(name + "".join(cell() for _ in range(count)) + "\n" for name in NAMES)
 
@@ -54,11 +50,8 @@ def at_the_limits(path, types):
 def without_values(types, epochs=20):
     """Epochs of 99 satellites of each system, of so many types, whose lines are their identifiers alone."""
     names = [name for name in NAMES if name[1:].isdigit() and name[1:] != "00"]
-    return "".join([
-        header_line("%9s%11s%-20s%-20s" % ("3.05", "", "OBSERVATION DATA", "M"), "RINEX VERSION / TYPE"), *types_lines(types),
-        header_line("", "END OF HEADER"),
-        *(f"> 2024 01 01 00 00 {epoch:2}.0000000  0{len(names):3}\n" + "\n".join(names) + "\n" for epoch in range(epochs)),
-    ])
+    epochs = (line for epoch in range(epochs) for line in (f"> 2024 01 01 00 00 {epoch:2}.0000000  0{len(names):3}", *names))
+    return text(H[0], *declared(types), H[2], *epochs)
 
 
 def resident(program, words, source, target):
@@ -82,8 +75,10 @@ def smallest_stack(program, words, source):
 def main():
     if len(sys.argv) != 2:
         sys.exit(__doc__)
-    if sys.argv[1] == "--empty":
-        sys.stdout.write(without_values(MOST))
+    if sys.argv[1] in ("empty", "same", "shuffled"):
+        rng, order = random.Random(1), list(range(693))
+        orders = [rng.sample(order, 693) if sys.argv[1] == "shuffled" else order for _ in range(20)]
+        sys.stdout.buffer.write(without_values(TYPES_LIMIT) if sys.argv[1] == "empty" else turning(orders, 2))
         return
     program = Path(sys.argv[1]).resolve()
     with tempfile.TemporaryDirectory() as name:
@@ -93,7 +88,7 @@ def main():
         at_the_limits(growing, GROWING)
         at_the_limits(limits, TYPES)
         print("| Resident at most, kB | compacting | expanding | check |\n|---|---:|---:|---:|")
-        rows = (("a usual file", usual), (f"770 satellites whose types become {MOST}", growing), (f"770 satellites of {MOST} types", limits))
+        rows = (("a usual file", usual), (f"770 satellites whose types become {TYPES_LIMIT}", growing), (f"770 satellites of {TYPES_LIMIT} types", limits))
         for what, source in rows:
             sizes = [resident(program, ["rnx2crx", "--date", "D"], source, packed), resident(program, ["crx2rnx"], packed, other)]
             if other.read_bytes() != source.read_bytes():

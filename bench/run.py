@@ -32,9 +32,9 @@ INPUTS = {
     "4 types": ["generate.py", *FEW],
     "4 types, a tenth left out": ["generate.py", *FEW, "--left-out", "0.1"],
     "4 types, another order": ["generate.py", *FEW, "--shuffled"],
-    "693 satellites": ["reordered.py", "--satellites", "693", "--order", "same"],
-    "693, another order": ["reordered.py", "--satellites", "693", "--order", "shuffled"],
-    "693 of 400 types, no values": ["memory.py", "--empty"],
+    "693 satellites": ["memory.py", "same"],
+    "693, another order": ["memory.py", "shuffled"],
+    "693 of 400 types, no values": ["memory.py", "empty"],
     "38 KB": ["generate.py", "--epochs", "15", "--systems", "GR", "--bands", "2"],
     "1.4 KB": ["generate.py", "--epochs", "3", "--systems", "G", "--bands", "1", "--satellites", "4"],
 }

@@ -23,3 +23,4 @@ sed -e "s/@VERSION@/$version/" -e 's|^libdir=.*|libdir=${pcfiledir}/..|' -e 's|^
 for name in rnxcmpConfig rnxcmpConfigVersion; do
     sed -e "s/@VERSION@/$number/" -e "s/@FIRST@/${number%%.*}/" "$top/library/cmake/$name.cmake" > "$prefix/lib/cmake/rnxcmp/$name.cmake"
 done
+chmod 644 "$prefix/lib/pkgconfig/rnxcmp.pc" "$prefix"/lib/cmake/rnxcmp/*.cmake

@@ -18,11 +18,11 @@ folder=$work/made
 mkdir "$folder"
 c="-std=gnu11 -O2 -Wall -Wextra -Werror -ffile-prefix-map=$top=. -ffile-prefix-map=$work=."
 
-# linked COMPILER FILE..: the static program for Linux, at an address that the system chooses; start.ld says what is side by side in it
+# linked COMPILER FILE..: the static program for Linux, at an address that the system chooses
 linked() {
     compiler=$1
     shift
-    "$compiler" -static-pie -s -Wl,--build-id=none -Wl,-z,relro,-z,now,-z,noexecstack -T "$top/packaging/start.ld" -o "$folder/rnxcmp" "$@"
+    "$compiler" -static-pie -s -Wl,--build-id=none -Wl,-z,relro,-z,now,-z,noexecstack -o "$folder/rnxcmp" "$@"
 }
 
 # compiled COMPILER WORDS FILE..: each file of C, as an object for a program, by a compiler with more words

@@ -22,7 +22,7 @@ out/machines/$(1)/librnxcmp_c.a: $(call files_of,rnxcmp_c) $(call below_of,rnxcm
 endef
 $(foreach it,x86-64 aarch64,$(eval $(call machine,$(it))))
 
-HANDED := packaging/machine.sh packaging/retarget.py $(wildcard packaging/*.c packaging/*.ld library/* include/*) VERSION
+HANDED := packaging/machine.sh packaging/retarget.py $(wildcard packaging/*.c library/* include/*) VERSION
 
 out/machines/x86-64-v2/made: crates/rnxcmp/out/rnxcmp.o crates/rnxcmp_c/out/librnxcmp_c.a $(HANDED)
 	packaging/machine.sh x86-64-v2 crates/rnxcmp/out/rnxcmp.o crates/rnxcmp_c/out/librnxcmp_c.a $(@D)/built

@@ -245,12 +245,10 @@ class Result(unittest.TestResult):
 
 
 def fits(name, words):
-    """Whether a test's name has the words."""
-    if not words:
-        return True
-    name = name.lower().replace("_", " ")
-    found = re.sub(r"[^\s()]+", lambda it: it[0] if it[0] in ("and", "or", "not") else str(it[0].lower().replace("_", " ") in name), words)
-    return bool(eval(found, {"__builtins__": {}}))
+    """Whether a test's name has the words: phrases with `and`, `or`, `not` and brackets between them."""
+    name, parts = name.lower().replace("_", " "), re.split(r"([()]|\band\b|\bor\b|\bnot\b)", words.lower().replace("_", " "))
+    found = [part if at % 2 else str(part.strip() in name) if part.strip() else "" for at, part in enumerate(parts)]
+    return not words or bool(eval(" ".join(found), {"__builtins__": {}}))
 
 
 def flat(suite):
@@ -395,6 +393,10 @@ def main():
     prove.end_by_signals()
     if arguments.one:
         return run_here(arguments.one, arguments.paths, arguments.words, arguments.result)
+    try:
+        fits("", arguments.words)
+    except SyntaxError:
+        parser.error(f"-k {arguments.words}: phrases with and, or, not and brackets between them")
     files, missing = files_of(arguments.paths), not_here()
     without = f"not found here: {', '.join(missing)}; CONTRIBUTING.md has the command that installs all"
     outcomes = []

@@ -16,23 +16,11 @@ import unittest
 from pathlib import Path
 
 from runner import PROGRAM, TOP, need, run
-from texts import DATED, NAMES, SYSTEMS, epoch, header, text
+from texts import DATED, turning
 
 STORED = Path(__file__).with_name("counts.txt")
 PART = 0.1  # of a stored count, by which a count may differ from it
 TOOLS = {"rnx2crx": DATED, "crx2rnx": ["crx2rnx"], "check": ["check"]}
-
-
-def turning(orders, types):
-    """A file whose epochs have these satellites; their values are quadratic in time, with some noise."""
-    lines = header(SYSTEMS, types)
-    for second, order in enumerate(orders):
-        lines.append(epoch(second % 10, len(order)))
-        for place in order:
-            noise = random.Random(place * 100003 + second)
-            values = (20000000000 + 13000007 * place + 4000037 * kind + (90001 + 17 * place) * second + 37 * second**2 + noise.randrange(-400, 400) for kind in range(types))
-            lines.append(NAMES[place] + "".join(f"{value // 1000:10}.{value % 1000:03} {5 + (place + kind) % 4}" for kind, value in enumerate(values)))
-    return text(*lines)
 
 
 def made(name):

@@ -69,6 +69,18 @@ def file_of(names, types, seconds, turned=False):
     return text(*lines)
 
 
+def turning(orders, types):
+    """A file whose epochs have these satellites; their values are quadratic in time, with some noise."""
+    lines = header(SYSTEMS, types)
+    for second, order in enumerate(orders):
+        lines.append(epoch(second % 10, len(order)))
+        for place in order:
+            noise = random.Random(place * 100003 + second)
+            values = (20000000000 + 13000007 * place + 4000037 * kind + (90001 + 17 * place) * second + 37 * second**2 + noise.randrange(-400, 400) for kind in range(types))
+            lines.append(NAMES[place] + "".join(f"{value // 1000:10}.{value % 1000:03} {5 + (place + kind) % 4}" for kind, value in enumerate(values)))
+    return text(*lines)
+
+
 VALUES = ["20000000.000", "20000100.500", "20000202.000", "20000304.500", "20000408.000"]
 FIVE = text(*H, *[line for k, value in enumerate(VALUES) for line in (epoch(k, 1), "G01  " + value)])
 COMPACT_FIVE = text(

@@ -7,10 +7,10 @@ import tempfile
 from concurrent.futures import ThreadPoolExecutor
 from pathlib import Path
 
-
 from recipes import recipes
 from runner import SAMPLE, missing_tools
 
+GOOD, OLD = SAMPLE.read_bytes(), 1704067200  # the time of all files, in 2024
 RAN = "ran"  # what each command in a name makes
 COMMANDS = (
     *("$(>ran)", "`>ran`", "x;>ran;", "x|>ran|", "x&>ran&", "x\n>ran\n", "x';>ran;'", 'x";>ran;"', "$(shell >ran)", "${shell >ran}", "x$(>ran)'y"),

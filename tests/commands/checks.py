@@ -14,7 +14,7 @@ import tempfile
 import textwrap
 from pathlib import Path
 
-from runner import install, missing_tools
+from runner import LIBRARY, install, missing_tools
 
 HERE = Path(__file__).resolve().parent
 TOP = HERE.parents[1]
@@ -173,6 +173,31 @@ def check_links(prefix, folder):
     return wrong
 
 
+def check_alone(prefix, folder):
+    """The other names, copied to a folder without the program, run the one on the path; without one there they say so."""
+    wrong, place = [], folder / "alone"
+    place.mkdir(exist_ok=True)
+    for name, source, target in (("RNX2CRX", "b.rnx", "b.crx"), ("crx2rnx", "b.crx", "b.rnx")):
+        shutil.copy(prefix / "bin" / name, place)
+        shutil.copy(SAMPLE, folder / "b.rnx")
+        run = run_in(folder, prefix / "bin", [place / name, "-f", source])
+        wrong += [] if run.returncode == 0 and not run.stderr and (folder / target).exists() else [f"{name}: {run}"]
+        run = subprocess.run([place / name, "-f", source], cwd=folder, env={"PATH": "/usr/bin:/bin"}, capture_output=True, timeout=60)
+        wrong += [] if run.returncode == 127 and b"rnxcmp" in run.stderr else [f"{name}, without a program: {run}"]
+    return wrong + file_is(folder / "b.rnx", SAMPLE.read_bytes())
+
+
+def check_modes(program, prefix):
+    """All may read what is installed by somebody whose own files are closed to others, and run what is a program."""
+    words = [TOP / "packaging/install.sh", prefix, program, LIBRARY]
+    run = subprocess.run(["sh", "-c", 'umask 077 && exec "$@"', "sh", *words], capture_output=True, text=True, timeout=60)
+    programs = [prefix / "bin" / name for name in ALL_NAMES]
+    modes = {path: path.stat().st_mode & 0o777 for path in prefix.rglob("*") if not path.is_symlink()}
+    wanted = {path: 0o755 if path.is_dir() or path in programs else 0o644 for path in modes}
+    wrong = [f"{path.relative_to(prefix)}: {modes[path]:o}, not {wanted[path]:o}" for path in modes if modes[path] != wanted[path]]
+    return ([] if run.returncode == 0 and not run.stderr else [f"{run}"]) + wrong
+
+
 def check_uninstalled(program, folder):
     """`make uninstall` leaves what others put there, and nothing of what was installed."""
     failed = install(program, folder)
@@ -305,6 +330,8 @@ def checks(program):
         folder.mkdir()
         yield "installed: the other names", lambda: check_installed(prefix, folder)
         yield "installed: links to the other names, and their help", lambda: check_links(prefix, folder)
+        yield "installed: the other names alone", lambda: check_alone(prefix, folder)
+        yield "installed: who may read it", lambda: check_modes(program, top / "closed")
         yield "uninstalled", lambda: check_uninstalled(program, top / "uninstalled")
         yield "make help", check_targets
         yield "installed: manual pages", lambda: check_pages(prefix)

@@ -177,7 +177,8 @@ def names_in(command):
 
 
 def check_symbols(b):
-    """The header's names alone are seen from outside, the library calls nothing but memory, and there is no text relocation."""
+    """The header's names alone are seen from outside, the library calls nothing but memory, there is no text relocation, and what is relocated at the
+    start can't be written later."""
     if not shutil.which("nm") or not shutil.which("readelf"):
         return "there is no nm"
     plain = layout.re.sub(r"/\*.*?\*/", "", (b.library / "rnxcmp.h").read_text(), flags=layout.re.S)
@@ -187,8 +188,9 @@ def check_symbols(b):
     wrong = [f"names of {kind}: {names}, declared: {declared}" for kind, names in (("the shared library", shared), ("the archive", archive)) if names != declared]
     needed = {line.split()[-1].partition("@")[0] for line in lines_of(["nm", "-D", "--undefined-only", b.library / "librnxcmp.so.2"]) if " U " in line}
     wrong += [f"the library calls {name}" for name in sorted(needed - CALLED)]
-    dynamic = subprocess.run(["readelf", "-dV", b.library / "librnxcmp.so.2"], capture_output=True, text=True).stdout
-    return wrong + ([] if "[librnxcmp.so.2]" in dynamic and "TEXTREL" not in dynamic and "Name: RNXCMP_2" in dynamic else ["soname, version or text relocation"])
+    dynamic = subprocess.run(["readelf", "-dlVW", b.library / "librnxcmp.so.2"], capture_output=True, text=True).stdout
+    wrong += [] if "[librnxcmp.so.2]" in dynamic and "TEXTREL" not in dynamic and "Name: RNXCMP_2" in dynamic else ["soname, version or text relocation"]
+    return wrong + ([] if "GNU_RELRO" in dynamic and "BIND_NOW" in dynamic else ["what is relocated stays writable"])
 
 
 # ---- other languages

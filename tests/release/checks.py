@@ -58,7 +58,7 @@ def compiler_of(name):
 def others(with_compiler=True):
     """The machines beside x86-64-v2 for which a release was made here after its scripts and its C last changed, and whose compiler is there,
     or isn't."""
-    patterns = ("packaging/*.sh", "packaging/*.c", "packaging/*.ld", "packaging/*.py", "library/*", "include/*", "VERSION")
+    patterns = ("packaging/*.sh", "packaging/*.c", "packaging/*.py", "library/*", "include/*", "VERSION")
     newest = max(path.stat().st_mtime for pattern in patterns for path in TOP.glob(pattern))
     stamps = {name: MACHINES / name / "made" for name in OBJECTS}
     return [name for name, stamp in stamps.items() if stamp.exists() and stamp.stat().st_mtime > newest and bool(shutil.which(compiler_of(name))) == with_compiler]
@@ -150,6 +150,8 @@ def check_unpacked(prefix, doc):
         return wrong
     program = prefix / "bin/rnxcmp"
     wrong += ["the program isn't static, or can't be moved"] if needs_loader(program) else []
+    dynamic = subprocess.run(["readelf", "-dlW", program], capture_output=True, text=True).stdout
+    wrong += [] if "GNU_RELRO" in dynamic and re.search(r"FLAGS.*\bNOW\b", dynamic) else ["what is relocated of the program stays writable"]
     compact = subprocess.run([program, "rnx2crx"], stdin=SAMPLE.open(), capture_output=True, timeout=SECONDS)
     back = subprocess.run([program, "crx2rnx"], input=compact.stdout, capture_output=True, timeout=SECONDS)
     if (compact.returncode, back.returncode, back.stdout) != (0, 0, SAMPLE.read_bytes()):
@@ -166,7 +168,11 @@ def check_archive(made_in, folder):
     folder.mkdir()
     name = f"rnxcmp-{VERSION}-linux-x86_64"
     subprocess.run(["tar", "-xzf", made_in / f"{name}.tar.gz", "-C", folder], check=True, timeout=SECONDS)
-    return check_sums(folder / name) + check_unpacked(folder / name, ["LICENSE-MIT", "LICENSE-APACHE", "conformance/conform.py", "conformance/cases.json", *DOCUMENTS, *PAGES])
+    wrong = check_sums(folder / name) + check_unpacked(folder / name, ["LICENSE-MIT", "LICENSE-APACHE", *DOCUMENTS, *PAGES])
+    suite, program = folder / name / "share/doc/rnxcmp/conformance", folder / name / "bin/rnxcmp"
+    words = ["--compact", f"{program} rnx2crx", "--expand", f"{program} crx2rnx", "--profile", "cases.json"]
+    run = subprocess.run([sys.executable, suite / "conform.py", *words], cwd=suite, capture_output=True, text=True, timeout=SECONDS)
+    return wrong + ([] if run.returncode == 0 and " 0 differ" in run.stdout else [f"the suite: status {run.returncode}, {run.stdout[-300:]}{run.stderr[-300:]}"])
 
 
 def check_static(folder):
@@ -188,8 +194,12 @@ def check_changes(text):
 def check_package(made_in, folder):
     package = made_in / f"rnxcmp_{DEBIAN}_amd64.deb"
     subprocess.run(["dpkg-deb", "-x", package, folder], check=True, timeout=SECONDS)
-    fields = subprocess.run(["dpkg-deb", "-f", package, "Package", "Version", "Depends"], capture_output=True, text=True, timeout=SECONDS).stdout
-    wrong = [] if fields == f"Package: rnxcmp\nVersion: {DEBIAN}\n" else [f"fields {fields!r}"]
+    named = ["Package", "Version", "Depends", "Pre-Depends", "Recommends", "Suggests"]
+    fields = subprocess.run(["dpkg-deb", "-f", package, *named], capture_output=True, text=True, timeout=SECONDS).stdout
+    versions = subprocess.run(["readelf", "-VW", folder / "usr/lib/rnxcmp/rnxcmp/librnxcmp.so.2"], capture_output=True, text=True).stdout
+    newest = max(re.findall(r"GLIBC_2\.(\d+)", versions), key=int)  # the C library that the shared library needs
+    wanted = f"Package: rnxcmp\nVersion: {DEBIAN}\nRecommends: python3 (>= 3.8), libc6 (>= 2.{newest})\n"
+    wrong = [] if fields == wanted else [f"fields {fields!r}, not {wanted!r}"]
     subprocess.run(["dpkg-deb", "-e", package, folder / "DEBIAN"], check=True, timeout=SECONDS)
     sums = subprocess.run(["md5sum", "--quiet", "-c", "DEBIAN/md5sums"], cwd=folder, capture_output=True, text=True, timeout=SECONDS)
     named = {line.split("  ", 1)[1] for line in (folder / "DEBIAN/md5sums").read_text().splitlines()}
