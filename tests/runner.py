@@ -147,6 +147,8 @@ def clang():
 
 def preloaded(**environment):
     """An environment in which preload.c stands before the C library and is told what to do."""
+    if b"/ld-" not in PROGRAM.open("rb").read(4096):
+        raise unittest.SkipTest("the program isn't linked with a shared C library")
     built = Path(tempfile.gettempdir()) / "preload.so"
     if not built.exists():
         subprocess.run([*clang(), "-O1", "-shared", "-fPIC", "-nostdlib", "-o", built, TESTS / "preload.c"], check=True)

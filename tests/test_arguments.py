@@ -7,6 +7,7 @@ import subprocess
 import tempfile
 import unittest
 from dataclasses import dataclass
+from datetime import datetime, timezone
 from pathlib import Path
 
 from runner import PROGRAM, files_in, preloaded, with_messages
@@ -97,6 +98,8 @@ RENAMED = [
     ("ABCD0010.99O", "ABCD0010.99D"),
     (".24o", ".24d"),
     ("é.rnx", "é.crx"),
+    ("ein Name, größer — 観測.rnx", "ein Name, größer — 観測.crx"),
+    ("[a].rnx", "[a].crx"),
 ]
 
 # Names from which no output's name is made.
@@ -236,7 +239,7 @@ class Arguments(unittest.TestCase):
 
     def test_plans(self):
         for line, plan in PLANS:
-            for old in (None, b"old") if plan.target else (None,):
+            for old in (None, b"old" * 1000) if plan.target else (None,):
                 with self.subTest(line, old=old):
                     self.check_plan(line, plan, old)
 
@@ -282,7 +285,15 @@ class Arguments(unittest.TestCase):
                 before = {name: input_of(tool, True)} if name else {}
                 self.assertEqual(run([tool, name], b"", before), (b"", text(f"ERROR: no output name for {name}"), 1, before))
 
-    @unittest.skipIf(os.environ.get("EMULATED"), "the emulator has another clock")
+    def test_the_date_of_the_moment(self):
+        """Without a date among the arguments the second line has the moment of the run, in UTC."""
+        moments = [datetime.now(timezone.utc)]
+        output, messages, status, _ = run(["rnx2crx"], text(*H))
+        moments.append(datetime.now(timezone.utc))
+        dated = [text(K[0], K[1][:40] + f"{moment:%d-%b-%y %H:%M}".ljust(20) + K[1][60:], *H) for moment in moments]
+        self.assertEqual((messages, status), (b"", 0))
+        self.assertIn(output, dated)
+
     def test_default_date(self):
         for seconds, nanoseconds, date in MOMENTS:
             with self.subTest(seconds=seconds):

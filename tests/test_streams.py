@@ -9,7 +9,6 @@ import subprocess
 import tempfile
 import time
 import unittest
-from datetime import datetime, timezone
 from pathlib import Path
 
 from runner import PROGRAM, SAMPLE, files_in, need, preloaded, run
@@ -100,15 +99,6 @@ class Streams(Folder):
                 self.assertEqual(run(*words, name, cwd=self.folder), (b"", text(f"ERROR: cannot read {name}"), 1))
                 self.assertEqual([path.name for path in self.folder.iterdir()], [name])
                 (self.folder / name).rmdir()
-
-    def test_the_date_of_the_moment(self):
-        """Without a date among the arguments the second line has the moment of the run, in UTC."""
-        moments = [datetime.now(timezone.utc)]
-        output, messages, status = run("rnx2crx", given=text(*H))
-        moments.append(datetime.now(timezone.utc))
-        dated = [text(K[0], K[1][:40] + f"{moment:%d-%b-%y %H:%M}".ljust(20) + K[1][60:], *H) for moment in moments]
-        self.assertEqual((messages, status), (b"", 0))
-        self.assertIn(output, dated)
 
     def test_a_file_that_shrinks(self):
         """A file that is cut off once its first part was read: the whole epochs before the cut are written, and no part of one."""

@@ -1,5 +1,5 @@
 """The programs and libraries of a release's machines, beside the program that make built: the machines whose compiler and emulator are here, as
-test_build.py made them. In the environment: FILES names files of RINEX 3.0x that are tried beside the sample."""
+test_build.py made them. In the environment: FILES names standard files, of whose units random files are made, in place of the sample."""
 
 import os
 import shutil
@@ -15,25 +15,19 @@ import roots  # noqa: E402
 from libraries import check_library  # noqa: E402
 from machines import MACHINES, emulator, script  # noqa: E402
 from retargeting import check_retargeting  # noqa: E402
-from same import check_clock, check_files, check_same  # noqa: E402
+from runner import SAMPLE  # noqa: E402
 
-COMPARISONS = 280  # of which there are to be so many at least
 TEXTS = 60  # random files
 LOST = 3  # runs that may lose their messages under Wine, of some thousand
 
 
-def check_tests(machine, command, lost):
-    """tests/cases, the arguments, and random files beside the reader of the format. What an emulator can't do isn't asked."""
-    own = {"PROGRAM": str(command), "TEXTS": str(TEXTS), "EMULATED": "1" if machine.emulator else "", "PIECES": "0" if machine.is_windows else ""}
-    own |= {"WINE_LOST": str(lost)} if machine.is_windows else {}
-    words = [sys.executable, *(TESTS / name for name in ("runner.py", "test_cases.py", "test_arguments.py", "test_writers.py"))]
+def check_tests(machine, command, lost, *files):
+    """Test files over a machine's program. What an emulator can't do isn't asked."""
+    own = {"PROGRAM": str(command), "TEXTS": str(TEXTS), "FILES": os.environ.get("FILES") or str(SAMPLE)}
+    own |= {"EMULATED": "1" if machine.emulator else "", "PIECES": "0" if machine.is_windows else "", "WINE_LOST": str(lost) if machine.is_windows else "", "STRICT": ""}
+    words = [sys.executable, *(TESTS / name for name in ("runner.py", *files))]
     done = subprocess.run(words, env={**os.environ, **own}, capture_output=True, text=True, errors="replace")
     return [] if done.returncode == 0 else [line for line in done.stdout.splitlines() if not line.endswith(" s)") or "FAILED" in line][:60] + [done.stderr[-300:]]
-
-
-def check_many(program, command, files):
-    count, wrong = check_same(program, command, files)
-    return wrong[:40] + ([] if count >= COMPARISONS else [f"there were {count} comparisons"])
 
 
 # A batch file that calls the program by its other names, as users of RNXCMP have them: it goes on after each call.
@@ -59,16 +53,14 @@ def check_batch(machine, words):
     return [] if run.returncode == 0 and outputs == [sample] * 3 else [f"status {run.returncode}, {run.stdout!r}, {run.stderr[-300:]!r}"]
 
 
-def of_machine(machine, program, files=()):
+def of_machine(machine, program):
     """The checks of a machine whose program is made."""
     with emulator(machine) as words, tempfile.TemporaryDirectory() as name:
         path = script(Path(name) / "program", [*words, machine.built / machine.program])
         lost = Path(name) / "lost"
         if not machine.target:  # it has a program of its own
-            yield "same answers", lambda: check_many(program, [path], files)
-            yield "same files", lambda: check_files(program, [path], machine.is_windows)
-            yield "clock", lambda: check_clock([path])
-            yield "cases, arguments and random files", lambda: check_tests(machine, path, lost)
+            yield "arguments", lambda: check_tests(machine, path, lost, "test_arguments.py")
+            yield "cases and random files", lambda: check_tests(machine, path, lost, "test_cases.py", "test_writers.py")
         if machine.is_windows:
             yield "names in a batch file", lambda: check_batch(machine, words)
         yield "library", lambda: check_library(machine, words, program)
@@ -77,14 +69,14 @@ def of_machine(machine, program, files=()):
 
 
 def checks(program):
-    no_rt, files = "" if shutil.which("rt") else "there is no rt", [Path(name) for name in os.environ.get("FILES", "").split()]
+    no_rt = "" if shutil.which("rt") else "there is no rt"
     yield "modules for Windows", check_retargeting
     for machine in MACHINES:
         reason = machine.lacking() or no_rt
         if reason or not (machine.built / machine.program).exists():
             yield machine.name, lambda reason=reason: reason or ["nothing was made for it"]
             continue
-        for title, check in of_machine(machine, program, files):
+        for title, check in of_machine(machine, program):
             yield f"{machine.name}, {title}", check
 
 

@@ -1,17 +1,19 @@
 """The library of a machine, linked both ways with calls.c, and run by its emulator beside the program; and what the header promises."""
 
+import random
 import re
 import shutil
 import subprocess
 import tempfile
 from pathlib import Path
 
-from same import DATE, Compared, damaged, texts
+from runner import SAMPLE, SEED, TOP
+from texts import damaged
 
-TOP = Path(__file__).resolve().parents[2]
 HERE = Path(__file__).resolve().parent
 SECONDS = 100
-EACH = 3  # of the damaged inputs each third is taken
+DAMAGED = 7  # copies of the sample with damage, beside it
+DATE = ("--date", "01-Jan-24 00:00")
 COUNTED = "-Wl,--wrap=malloc,--wrap=realloc,--wrap=free"  # tests/library/counted.h
 
 
@@ -34,29 +36,29 @@ def finds_shared(machine, words):
     return [words[0], "-L", "/usr/aarch64-linux-gnu", *words[1:]] if machine.name == "aarch64" else words
 
 
-class OverLibrary(Compared):
-    """Runs of the program beside those of calls.c."""
-
-    def both_ways(self, name, text):
-        for way in ("whole", "pieces"):
-            self.call(name, "check", way, "0", text)
-            for skip in "01":
-                compact = self.call(name, "rnx2crx", way, skip, text)
-                self.call(f"compact text of {name}", "crx2rnx", way, skip, compact)
-                self.call(f"damaged compact text of {name}", "crx2rnx", way, skip, damaged(compact, 3) if compact else b"")
-
-    def call(self, name, kind, way, skip, data):
-        ours = [kind, *(DATE if kind == "rnx2crx" else ()), *(["-s"] if skip == "1" and kind != "check" else ())]
-        return self.compare(name, ours, [kind, way, skip], data)
+def answer(command, words, data):
+    run = subprocess.run([*command, *words], input=data, capture_output=True, timeout=SECONDS)
+    return run.stdout, run.stderr, run.returncode
 
 
 def over_texts(program, command):
-    """What differs between the program and calls.c."""
-    runs = OverLibrary(program, command)
-    for number, (name, text) in enumerate(texts().items()):
-        if number % EACH == 0:
-            runs.both_ways(name, text)
-    return runs.wrong[:20]
+    """What differs between the program and calls.c, over the sample, nothing, and damaged copies."""
+    rng, sample, wrong = random.Random(SEED), SAMPLE.read_bytes(), []
+
+    def call(kind, way, skip, data):
+        ours = [kind, *(DATE if kind == "rnx2crx" else ()), *(["-s"] if skip == "1" and kind != "check" else ())]
+        wanted, got = answer([program], ours, data), answer(command, [kind, way, skip], data)
+        wrong.extend([] if got == wanted else [f"{kind} {way} {skip}, {len(data)} bytes: {got!r:.400}, not {wanted!r:.400}"])
+        return wanted[0]
+
+    for text in (sample, b"", *(damaged(rng, sample) for _ in range(DAMAGED))):
+        for way in ("whole", "pieces"):
+            call("check", way, "0", text)
+            for skip in "01":
+                compact = call("rnx2crx", way, skip, text)
+                call("crx2rnx", way, skip, compact)
+                call("crx2rnx", way, skip, damaged(rng, compact) if compact else b"")
+    return wrong[:20]
 
 
 def check_promises(machine, words, library, folder):

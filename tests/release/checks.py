@@ -179,7 +179,7 @@ def check_static(folder):
     """The cases and the runs as a process, of the archive's program."""
     program = folder / f"rnxcmp-{VERSION}-linux-x86_64/bin/rnxcmp"
     words = [sys.executable, *(TOP / "tests" / name for name in ("runner.py", "test_cases.py", "test_streams.py", "test_sizes.py"))]
-    run = subprocess.run(words, env={**os.environ, "PROGRAM": str(program)}, capture_output=True, text=True, timeout=SECONDS)
+    run = subprocess.run(words, env={**os.environ, "PROGRAM": str(program), "STRICT": ""}, capture_output=True, text=True, timeout=SECONDS)
     lines = run.stdout.splitlines()
     return [] if run.returncode == 0 else [line for line in lines if not line.endswith(" s)") or "FAILED" in line][:40] or [run.stderr[-300:]]
 

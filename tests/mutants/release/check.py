@@ -17,7 +17,6 @@ import checks as release  # noqa: E402
 import machines  # noqa: E402
 import names  # noqa: E402
 import retargeting  # noqa: E402
-import same  # noqa: E402
 from importlib import util  # noqa: E402
 
 spec = util.spec_from_file_location("machine_checks", copy / "tests/machines/checks.py")
@@ -31,7 +30,6 @@ PACKED = ("dist.sh", "deb.sh", "parts.py", "zipped.py", "install_library.sh", "i
 OF_WINDOWS = ("zipped.py", "build_windows.sh")  # of those
 LINKED = {"aarch64": ("os.c", "archive.sh", "build.sh"), "windows": ("windows.c", "archive.sh", "build_windows.sh")}
 release.PROVED, release.MACHINES = made / "crates/rnxcmp_c/out/librnxcmp_c.a", made / "out/machines"
-same.DAMAGED = 6
 
 
 def made_twice(folder):
@@ -55,7 +53,7 @@ def of_machine(machine, folder):
     run = None if (place / name).exists() else subprocess.run(words, capture_output=True, text=True, timeout=release.SECONDS)
     if run and run.returncode:
         raise RuntimeError(run.stderr.strip())
-    machines.MADE, of_machines.COMPARISONS = place, 0
+    machines.MADE = place
     for title, check in of_machines.of_machine(machine, program):
         if not title.startswith("cases"):
             yield f"{name}, {title}", check

@@ -1,27 +1,28 @@
-"""The documents against the sources: the pages that `make docs` makes have each definition once and no link to nothing, the pictures are
-those that their script would make today, the picture of an epoch is what the program makes, each clause, name of code, file and make target
-that a document names is there, the page of each crate has its modules, and the limits, faults and options of the program are those that texts
-beside it have."""
+"""Pages against sources: the pages that `make docs` makes have each definition once and no link to nothing, the pictures are those that their script
+would make today, the picture of an epoch is what the program makes, each clause, name of code, file and make target that a page names is there, the
+page of each crate has its modules, and the limits, faults and options of the program are those that texts beside it have. A pattern that finds
+nothing to look at is a failure too."""
 
 import gzip
 import re
 import subprocess
 import sys
 import tempfile
+import unittest
 from collections import Counter
 from functools import cache
 from html import unescape
 from pathlib import Path
 
-TOP = Path(__file__).resolve().parents[2]
-sys.path[:0] = [str(TOP / "docs"), str(TOP / "tests")]
+from runner import PACKAGES, PROGRAM, TOP
+
+sys.path.insert(0, str(TOP / "docs"))
 import proved  # noqa: E402
 from chapters import CHAPTERS, Book, is_definition, is_ported, top_down  # noqa: E402
-from runner import PACKAGES  # noqa: E402
 from sources import crates, fault_names, functions_in, public_functions  # noqa: E402
 from stated import WRITTEN, faults, spelled, typed_in, wrong_in  # noqa: E402
 
-MADE = ("DEFINITIONS.html", "CONTRACTS.html", "PROOFS.html", "READING.html")  # by `make docs`
+MADE = ("DEFINITIONS.html", "CONTRACTS.html", "PROOFS.html", "READING.html", "GUARANTEES.html")  # by `make docs`
 CRATE_PAGES = tuple(f"crates/{crate}/README.md" for crate in crates())
 PAGES = ("README.md", "CONTRIBUTING.md", "tests/README.md", "bench/README.md", "samples/README.md") + CRATE_PAGES + tuple(
     str(path.relative_to(TOP)) for path in sorted((TOP / "docs").glob("*.md")))
@@ -148,8 +149,9 @@ def cited(page):
 
 def clauses_named(page, known):
     """The functions and clauses that a page names and that aren't there, and the definitions that these stand on and that no chapter shows."""
-    wrong, below = [], set()
-    for name, clauses in cited(page):
+    names, below = list(cited(page)), set()
+    wrong = [] if len(names) > 2 else [f"{page} names {names}"]
+    for name, clauses in names:
         wrong += [] if name in known else [f"{page}: there is no public function {name}"]
         for clause in clauses or ["*"]:
             has = [function for function in known.get(name, []) if clause == "*" or clause in (it.name for it in function.clauses)]
@@ -161,14 +163,10 @@ def clauses_named(page, known):
 
 
 def files_named(page):
-    """The files below the usual folders that a document names and that aren't there."""
-    wrong = []
-    for name in re.findall(r"(?<![\w/.*-])((?:crates|docs|tests|bench|packaging|samples|include|library|python|examples)/[\w./*-]*\w)", (TOP / page).read_text(encoding="utf-8")):
-        if "/out/" in name or "NAME" in name or "VERSION" in name:
-            continue
-        if not any(TOP.glob(name)):
-            wrong.append(f"{page}: there is no {name}")
-    return wrong
+    """The files below the usual folders that a page names."""
+    folders = "crates|docs|tests|bench|packaging|samples|include|library|python|examples"
+    names = re.findall(rf"(?<![\w/.*-])((?:{folders})/[\w./*-]*\w)", (TOP / page).read_text(encoding="utf-8"))
+    return [name for name in names if not re.search("/out/|NAME|SUBJECT|VERSION", name)]
 
 
 def sources():
@@ -206,10 +204,9 @@ def modules_named(page):
 
 
 def targets_named(page):
-    """The targets that a document tells to make and the Makefile doesn't have."""
-    targets = set(re.findall(r"^([\w-]+):", (TOP / "Makefile").read_text(encoding="utf-8"), re.M))
+    """The targets that a page tells to make."""
     named = re.findall(r"`make ([a-z][\w-]*)|^    make ([a-z][\w-]*)", (TOP / page).read_text(encoding="utf-8"), re.M)
-    return [f"{page}: make has no target {it}" for it in {a or b for a, b in named} - targets]
+    return [a or b for a, b in named]
 
 
 def lines_drawn(name):
@@ -230,33 +227,33 @@ def header_of(*types):
     return [text.ljust(60) + label for text, label in labels]
 
 
-def ran(program, text, *words):
+def ran(text, *words):
     """What the program makes of a text: the output, and the messages."""
-    run = subprocess.run([program, *words], input=text, capture_output=True, text=True, timeout=60)
+    run = subprocess.run([PROGRAM, *words], input=text, capture_output=True, text=True, timeout=60)
     return run.stdout, run.stderr
 
 
-def example(program):
+def example():
     """Whether the epochs of docs/pictures/epoch.txt are a standard file, its compact lines those that the program makes of it, and the lines that
     README.md shows among both."""
     lines, header = lines_drawn("epoch"), header_of("C1C", "L1C")
     shown = re.findall(r"^    (RINEX|compact) +(\S.*)$", (TOP / "README.md").read_text(encoding="utf-8"), re.M)
     rinex, compact = ("\n".join([*header, *lines[kind], ""]) for kind in ("RINEX", "compact"))
-    made, _ = ran(program, rinex, "rnx2crx")
+    made, _ = ran(rinex, "rnx2crx")
     wrong = [] if made.split("\n", 2)[2:] == [compact] else ["the program makes other compact lines"]
     wrong += [] if shown and all(line in lines[kind] for kind, line in shown) else ["README.md shows other lines"]
-    return wrong + ([] if ran(program, made, "crx2rnx")[0] == rinex else ["they don't come back"])
+    return wrong + ([] if ran(made, "crx2rnx")[0] == rinex else ["they don't come back"])
 
 
-def sizes(program):
+def sizes():
     """Whether a day file shrinks to an eighth with gzip, and to a third by gzip only, as README.md says."""
     day = subprocess.run([TOP / "bench/generate.py", "--megabytes", "2", "--interval", "30"], capture_output=True, check=True, timeout=60).stdout
-    compact = subprocess.run([program, "rnx2crx"], input=day, capture_output=True, check=True, timeout=60).stdout
+    compact = subprocess.run([PROGRAM, "rnx2crx"], input=day, capture_output=True, check=True, timeout=60).stdout
     shares = [len(gzip.compress(text, 6)) / len(day) for text in (compact, day)]
     return [] if abs(shares[0] - 1 / 8) < 0.015 and abs(shares[1] - 1 / 3) < 0.04 else [f"the shares are {shares}"]
 
 
-def damage_drawn(program):
+def damage_drawn():
     """Whether the compact text of docs/pictures/damage.txt is what the program makes, but for the byte in a frame, and comes back as it is shown."""
     source = (TOP / "docs/pictures/damage.txt").read_text(encoding="utf-8")
     lines, header = lines_drawn("damage"), header_of("C1C")
@@ -264,10 +261,10 @@ def damage_drawn(program):
     before, after = re.search(r"a (\w) became a (\w) by one flipped bit", source).groups()
     wrong = [] if bin(ord(before) ^ ord(after)).count("1") == 1 and compact.count(f"\n{after}") == 1 else ["it isn't one flipped bit"]
     whole = compact.replace(f"\n{after}", f"\n{before}")
-    first = "\n".join(ran(program, "\n".join([*header, ""]), "rnx2crx")[0].split("\n")[:2]) + "\n"
-    made, _ = ran(program, ran(program, first + whole, "crx2rnx")[0], "rnx2crx", "-e", "3")
+    first = "\n".join(ran("\n".join([*header, ""]), "rnx2crx")[0].split("\n")[:2]) + "\n"
+    made, _ = ran(ran(first + whole, "crx2rnx")[0], "rnx2crx", "-e", "3")
     wrong += [] if made.split("\n", 2)[2:] == [whole] else ["the program makes other compact lines"]
-    output, messages = ran(program, first + compact, "crx2rnx", "-s")
+    output, messages = ran(first + compact, "crx2rnx", "-s")
     return wrong + ([] if output == rinex and messages.strip() in source and messages else [f"it writes {output!r}, {messages!r}"])
 
 
@@ -285,7 +282,8 @@ def figures():
     table = (TOP / "bench/README.md").read_text(encoding="utf-8")
     cells = {cell.strip() for row in re.findall(r"^\|(.*)\|$", table, re.M) for cell in row.split("|")}
     bars = re.findall(r"^bars \|[^|]*\|(.*)$", (TOP / "docs/pictures/speed.txt").read_text(encoding="utf-8"), re.M)
-    return [f"docs/pictures/speed.txt: bench/README.md has no {it}" for it in re.findall(r"[\d.]+", " ".join(bars)) if it not in cells]
+    numbers = re.findall(r"[\d.]+", " ".join(bars))
+    return [f"docs/pictures/speed.txt: bench/README.md has no {it}" for it in numbers if it not in cells] if len(numbers) > 12 else [f"numbers {numbers}"]
 
 
 def faults_listed():
@@ -294,14 +292,14 @@ def faults_listed():
     return [] if table == {str(number): words for number, words in faults().items()} else ["docs/FORMATS.md has another table"]
 
 
-def options(program):
+def options():
     """The options that a subcommand's help lists and that the page of use, the manual page or the completions don't have with it."""
     wrong = []
     bash, fish, zsh = ((TOP / "packaging/completions" / name).read_text(encoding="utf-8") for name in ("rnxcmp.bash", "rnxcmp.fish", "_rnxcmp"))
     use = (TOP / "docs/USE.md").read_text(encoding="utf-8")
     manual = (TOP / "packaging/man/rnxcmp.1").read_text(encoding="utf-8").replace("\\-", "-")
     for tool in ("rnx2crx", "crx2rnx", "check"):
-        shown = subprocess.run([program, tool, "-h"], capture_output=True, text=True, timeout=60).stdout
+        shown = subprocess.run([PROGRAM, tool, "-h"], capture_output=True, text=True, timeout=60).stdout
         listed = re.findall(r"(?<!\S)--?[a-z][\w-]*(?=,| )", shown.partition("Options:")[2].partition("\n\n")[0])
         wrong += [] if "--help" in listed else [f"the help of {tool} lists no options"]
         for option in listed:
@@ -371,43 +369,61 @@ def packages():
     return [] if command and command[1].split() == sorted(PACKAGES) else [f"it isn't that of {' '.join(sorted(PACKAGES))}"]
 
 
-def checks(program):
-    yield "CONTRIBUTING.md: packages", packages
-    yield "values that say that memory ran out", refusals
-    yield "docs/LIBRARY.md: names of the package", python_names
-    yield "made pages", made_pages
-    yield "places of proofs", proofs_placed
-    yield "clauses of the sources", clauses_found
-    yield "clauses of public functions", clauses_without_names
-    yield "chapters", chapters
-    yield "letters of the systems", systems
-    yield "docs/pictures", pictures
-    yield "docs/pictures/epoch.txt", lambda: example(program)
-    yield "README.md: sizes", lambda: sizes(program)
-    yield "docs/pictures/damage.txt", lambda: damage_drawn(program)
-    yield "docs/pictures/speed.txt", figures
-    yield "README.md: the promise that it shows", promise_shown
-    yield "faults", faults_listed
-    yield "options", lambda: options(program)
-    for file in WRITTEN:
-        yield f"{file}: numbers", lambda file=file: wrong_in(file)
-    known = by_name()
-    for page in PAGES:
-        if not (TOP / page).exists():
-            continue
-        yield f"{page}: files", lambda page=page: files_named(page)
-        yield f"{page}: targets", lambda page=page: targets_named(page)
-        yield f"{page}: numbers typed by hand", lambda page=page: typed_in(page)
-    for path in sorted(TOP.glob("*.md")) + sorted(TOP.glob("[!o.]*/**/*.md")):
-        yield f"{path.relative_to(TOP)}: links", lambda page=path.relative_to(TOP): links(page)
-    yield "pages of a release: links", installed_links
-    for page in CRATE_PAGES:
-        yield f"{page}: modules", lambda page=page: modules_named(page)
-    words = sources()
-    for page in CRATE_PAGES:
-        yield f"{page}: calls", lambda page=page: calls_shown(page, words)
-    for page in ("docs/DESIGN.md", "docs/DECISIONS.md", "docs/FORMATS.md", "docs/GUARANTEES.md") + CRATE_PAGES:
-        if (TOP / page).exists():
-            yield f"{page}: names", lambda page=page: names_named(page, words)
-    for page in ("README.md", "docs/GUARANTEES.md"):
-        yield f"{page}: clauses", lambda page=page: clauses_named(page, known)
+class Pages(unittest.TestCase):
+    def assert_right(self, *calls):
+        for call in calls:
+            with self.subTest(call.__name__):
+                self.assertEqual(call(), [])
+
+    def assert_each(self, call, pages, *more):
+        for page in pages:
+            with self.subTest(page):
+                self.assertEqual(call(page, *more), [])
+
+    def test_sources(self):
+        self.assert_right(proofs_placed, clauses_found, clauses_without_names, refusals, systems)
+
+    def test_pages_that_are_made(self):
+        self.assert_right(made_pages, chapters)
+
+    def test_pictures(self):
+        self.assert_right(pictures, figures)
+
+    def test_what_the_program_makes(self):
+        self.assert_right(example, sizes, damage_drawn, options)
+
+    def test_lists(self):
+        self.assert_right(packages, python_names, promise_shown, faults_listed)
+
+    def test_numbers(self):
+        self.assert_each(wrong_in, WRITTEN)
+
+    def test_links(self):
+        pages = [path.relative_to(TOP) for path in [*TOP.glob("*.md"), *TOP.glob("[!o.]*/**/*.md")]]
+        self.assert_each(links, pages)
+        self.assert_right(installed_links)
+
+    def test_numbers_typed_by_hand(self):
+        self.assert_each(typed_in, PAGES)
+
+    def test_files(self):
+        found = [(page, name) for page in PAGES for name in files_named(page)]
+        self.assertEqual([it for it in found if not any(TOP.glob(it[1]))], [])
+        self.assertGreater(len(found), 100)
+
+    def test_targets(self):
+        targets = re.findall(r"^([\w-]+):", (TOP / "Makefile").read_text(encoding="utf-8"), re.M)
+        found = [(page, target) for page in PAGES for target in targets_named(page)]
+        self.assertEqual([it for it in found if it[1] not in targets], [])
+        self.assertGreater(len(found), 30)
+
+    def test_pages_of_crates(self):
+        self.assert_each(modules_named, CRATE_PAGES)
+        self.assert_each(calls_shown, CRATE_PAGES, sources())
+
+    def test_names(self):
+        pages = [f"docs/{name}.md" for name in ("DESIGN", "DECISIONS", "FORMATS", "GUARANTEES")]
+        self.assert_each(names_named, [*pages, *CRATE_PAGES], sources())
+
+    def test_clauses(self):
+        self.assert_each(clauses_named, ("README.md", "docs/GUARANTEES.md"), by_name())
