@@ -12,7 +12,7 @@
 # make docs   makes pages from the sources in out/docs (docs/READING.md), as HTML: DEFINITIONS, with the definitions that the promises rest on,
 #             CONTRACTS, with each public function's clauses, PROOFS, with the place of each proof, and GUARANTEES with links to its clauses
 # make numbers puts the limits and other numbers of the sources into the texts that state them, and writes what is listed: faults, options
-#             (completions, page of use, manual)
+#             (page of use, manual)
 # make cases  writes conformance/cases.json from tests/cases and the worked examples of docs/FORMATS.md
 # make install PREFIX=/usr/local
 #             puts the program that make built, its manual pages, completions and other names in place, and the tool for whole files,

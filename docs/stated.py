@@ -1,8 +1,8 @@
 #!/usr/bin/env python3
 """Puts the numbers of the sources into the texts that state them: the limits, and how many definitions one has to believe; and what is
-listed: the faults in the manual page and in the page of formats, the table of `explain` in the page of errors, the options in the manual page, in
-the page of use and in the completions. If you change a limit, or add a fault or an option, run `make numbers`; none of these texts needs a hand
-for it. A page says a limit's number only if this script writes it; code and tests cite the limit by its name.
+listed: the faults in the manual page and in the page of formats, the table of `explain` in the page of errors, and the options in the manual
+page and in the page of use. If you change a limit, or add a fault or an option, run `make numbers`; none of these texts needs a hand for it. A
+page says a limit's number only if this script writes it; code and tests cite the limit by its name.
 
     docs/stated.py           writes them
     docs/stated.py --check   says which text has another number, and ends with status 1 then
@@ -11,7 +11,6 @@ for it. A page says a limit's number only if this script writes it; code and tes
 import re
 import sys
 import textwrap
-from dataclasses import dataclass
 from functools import cache, partial
 from importlib import util
 from math import prod
@@ -21,9 +20,10 @@ from chapters import Book, is_definition, lines_of
 from sources import crates, fault_names
 
 TOP = Path(__file__).resolve().parents[1]
+sys.path.append(str(TOP / "packaging"))
+from completions import HELP, options  # noqa: E402
+
 SOURCES = TOP / "crates/crx_base/src"
-CASES = TOP / "tests/cases"
-HELP = {"rnx2crx": "help_of_a_compaction", "crx2rnx": "help_of_an_expansion", "check": "help_of_a_check"}  # the cases that have it
 
 # Texts that have one of these numbers: the file, and phrases with the name in place of the number.
 STATED = {
@@ -163,76 +163,6 @@ def with_codes(text):
     return re.sub(r"^Codes: .*?\.$", textwrap.fill(codes, 79, break_on_hyphens=False), text, flags=re.M | re.S)
 
 
-@dataclass(frozen=True)
-class Option:
-    """An option of the command line: its names, each or an empty one, the name of its value where it has one, and what help says of it."""
-
-    short: str
-    long: str
-    value: str
-    help: str
-
-    def names(self):
-        return [name for name in (self.short, self.long) if name]
-
-    def with_value(self):
-        return " ".join(filter(None, (self.names()[0], self.value)))
-
-    def about(self):
-        return re.split(r", | \[", self.help)[0]
-
-    def hint(self):
-        """What help says of the value."""
-        return ", ".join([self.value, *re.split(r" \[", self.help)[0].split(", ")[1:]])
-
-
-@cache
-def options(tool):
-    """The options of a subcommand, as its help lists them."""
-    text = (CASES / f"help/{HELP[tool]}.case").read_text(encoding="utf-8").partition("\nOptions:\n")[2].partition("\n\n")[0]
-    found = re.findall(r"^ +(-\w)?(?:, )?(--[\w-]+)?(?: <(\w+)>)? {2,}(\S.*)$", text, re.M)
-    return [Option(*names) for names in found]
-
-
-def for_bash(text):
-    """The completions of bash with the options of each subcommand, and with those after which comes a value."""
-    for tool in HELP:
-        words = " ".join(name for option in options(tool) for name in option.names())
-        text = re.sub(rf"(^ +{tool}\)\n.*?-W ')[^']*", lambda m, words=words: f"{m[1]}{words} -", text, count=1, flags=re.M)
-    valued = dict.fromkeys(name for tool in HELP for option in options(tool) if option.value for name in option.names())
-    of_the_program, name, of_the_tool = text.partition("_rnxcmp_file()")
-    return re.sub(r"-[-\w| ]+\) return ;;", f"{' | '.join(valued)}) return ;;", of_the_program) + name + of_the_tool
-
-
-def for_zsh(text):
-    """The completions of zsh with the options of each subcommand."""
-    for tool in HELP:
-        lines = []
-        for option in options(tool):
-            about = f"[{option.about()[0].lower()}{option.about()[1:]}]" + (f":{option.hint()}:" if option.value else "")
-            names = option.names()
-            lines.append(f"'{names[0]}{about}'" if len(names) == 1 else f"'(- *)'{{{','.join(names)}}}'{about}'")
-        body = "".join(f"        {line} \\\n" for line in lines)
-        text = re.sub(rf"(_rnxcmp_{tool}\(\) {{\n    _arguments -s \\\n).*?(?= +'\*:)", lambda m, body=body: m[1] + body, text, flags=re.S)
-    return text
-
-
-def for_fish(text):
-    """The completions of fish with the options of each subcommand, below the line that says so."""
-    lines = []
-    for tool in HELP:
-        given = [
-            " ".join(f"-{'l' if name.startswith('--') else 's'} {name.lstrip('-')}" for name in option.names())
-            + (" -x" if option.value else "") + f" -d '{option.about()}'"
-            for option in options(tool) if option.long != "--help"
-        ]
-        lines += [f"complete -c rnxcmp -n '__fish_seen_subcommand_from {tool}' {words}" for words in given]
-        if given and tool != "check":
-            lines += [f"for name in {tool.upper()} {tool}", *(f"    complete -c $name {words}" for words in given), "end"]
-    body = "\n".join(lines) + "\n\n"
-    return re.sub(r"(?<=`make numbers` writes\.\n).*?(?=complete -c rnxcmp-file)", lambda m: body, text, flags=re.S)
-
-
 @cache
 def tools_with():
     """The subcommands that have an option, by the options; the help is left out."""
@@ -345,9 +275,6 @@ LISTED = {
     "docs/ERRORS.md": for_errors,
     "docs/FORMATS.md": for_formats,
     "packaging/man/rnxcmp.1": for_manual,
-    "packaging/completions/rnxcmp.bash": for_bash,
-    "packaging/completions/_rnxcmp": for_zsh,
-    "packaging/completions/rnxcmp.fish": for_fish,
 }
 
 # All texts into which a script writes.

@@ -44,9 +44,13 @@ done
 for name in rnxcmp RNX2CRX CRX2RNX rnx2crx crx2rnx; do
     page rnxcmp "$name"
 done
+completions() { # completions SOURCE FILE: those of a shell, with the options of the program
+    "$here/completions.py" "$1" > "$2"
+    chmod 644 "$2"
+}
 for name in rnxcmp RNX2CRX CRX2RNX rnx2crx crx2rnx rnxcmp-file; do
-    install -m 644 "$here/completions/rnxcmp.bash" "$prefix/share/bash-completion/completions/$name"
-    install -m 644 "$here/completions/rnxcmp.fish" "$prefix/share/fish/vendor_completions.d/$name.fish"
+    completions rnxcmp.bash "$prefix/share/bash-completion/completions/$name"
+    completions rnxcmp.fish "$prefix/share/fish/vendor_completions.d/$name.fish"
 done
-install -m 644 "$here/completions/_rnxcmp" "$prefix/$zsh/_rnxcmp"
+completions _rnxcmp "$prefix/$zsh/_rnxcmp"
 "$here/install_pages.sh" "$prefix/share/doc/rnxcmp"

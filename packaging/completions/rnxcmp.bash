@@ -12,19 +12,19 @@ _rnxcmp_files() {
 _rnxcmp_words() {
     # $1: the subcommand, $2: the word so far, $3: the word before it
     case $3 in
-        -e | --date) return ;;
+        @valued@) return ;;
     esac
     case $1 in
         rnx2crx)
-            [[ $2 == -* ]] && mapfile -t COMPREPLY < <(compgen -W '-e -s -f --date -h --help -' -- "$2")
+            [[ $2 == -* ]] && mapfile -t COMPREPLY < <(compgen -W '@rnx2crx@ -' -- "$2")
             [[ $2 == -* ]] || _rnxcmp_files '*.@(rnx|RNX|[0-9][0-9][oO])' "$2"
             ;;
         crx2rnx)
-            [[ $2 == -* ]] && mapfile -t COMPREPLY < <(compgen -W '-s -f -h --help -' -- "$2")
+            [[ $2 == -* ]] && mapfile -t COMPREPLY < <(compgen -W '@crx2rnx@ -' -- "$2")
             [[ $2 == -* ]] || _rnxcmp_files '*.@(crx|CRX|[0-9][0-9][dD])' "$2"
             ;;
         check)
-            [[ $2 == -* ]] && mapfile -t COMPREPLY < <(compgen -W '-h --help -' -- "$2")
+            [[ $2 == -* ]] && mapfile -t COMPREPLY < <(compgen -W '@check@ -' -- "$2")
             [[ $2 == -* ]] || mapfile -t COMPREPLY < <(compgen -o plusdirs -f -- "$2")
             ;;
     esac

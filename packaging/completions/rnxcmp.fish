@@ -12,23 +12,8 @@ complete -c rnxcmp -n "not __fish_seen_subcommand_from $tools" -f -a rnx2crx -d 
 complete -c rnxcmp -n "not __fish_seen_subcommand_from $tools" -f -a crx2rnx -d 'Expand Compact RINEX 3.0'
 complete -c rnxcmp -n "not __fish_seen_subcommand_from $tools" -f -a check -d 'Report on a RINEX 3.0x observation file'
 
-# The options of the subcommands, from their help, which `make numbers` writes.
-complete -c rnxcmp -n '__fish_seen_subcommand_from rnx2crx' -s e -x -d 'Store every N-th epoch in full'
-complete -c rnxcmp -n '__fish_seen_subcommand_from rnx2crx' -s s -d 'Skip bad epochs'
-complete -c rnxcmp -n '__fish_seen_subcommand_from rnx2crx' -s f -d 'Overwrite the output file'
-complete -c rnxcmp -n '__fish_seen_subcommand_from rnx2crx' -l date -x -d 'The date in line 2'
-for name in RNX2CRX rnx2crx
-    complete -c $name -s e -x -d 'Store every N-th epoch in full'
-    complete -c $name -s s -d 'Skip bad epochs'
-    complete -c $name -s f -d 'Overwrite the output file'
-    complete -c $name -l date -x -d 'The date in line 2'
-end
-complete -c rnxcmp -n '__fish_seen_subcommand_from crx2rnx' -s s -d 'Skip bad epochs'
-complete -c rnxcmp -n '__fish_seen_subcommand_from crx2rnx' -s f -d 'Overwrite the output file'
-for name in CRX2RNX crx2rnx
-    complete -c $name -s s -d 'Skip bad epochs'
-    complete -c $name -s f -d 'Overwrite the output file'
-end
+# The options of the subcommands, from their help.
+@options@
 
 complete -c rnxcmp-file -n 'not __fish_seen_subcommand_from rnx2crx crx2rnx check explain' -f -a rnx2crx -d 'Compact files'
 complete -c rnxcmp-file -n 'not __fish_seen_subcommand_from rnx2crx crx2rnx check explain' -f -a crx2rnx -d 'Expand files'

@@ -16,7 +16,8 @@ from pathlib import Path
 
 from runner import PACKAGES, PROGRAM, TOP
 
-sys.path.insert(0, str(TOP / "docs"))
+sys.path[:0] = [str(TOP / "docs"), str(TOP / "packaging")]
+import completions  # noqa: E402
 import proved  # noqa: E402
 from chapters import CHAPTERS, Book, is_definition, is_ported, top_down  # noqa: E402
 from sources import crates, fault_names, functions_in, public_functions  # noqa: E402
@@ -295,7 +296,7 @@ def faults_listed():
 def options():
     """The options that a subcommand's help lists and that the page of use, the manual page or the completions don't have with it."""
     wrong = []
-    bash, fish, zsh = ((TOP / "packaging/completions" / name).read_text(encoding="utf-8") for name in ("rnxcmp.bash", "rnxcmp.fish", "_rnxcmp"))
+    bash, fish, zsh = map(completions.made, ("rnxcmp.bash", "rnxcmp.fish", "_rnxcmp"))
     use = (TOP / "docs/USE.md").read_text(encoding="utf-8")
     manual = (TOP / "packaging/man/rnxcmp.1").read_text(encoding="utf-8").replace("\\-", "-")
     for tool in ("rnx2crx", "crx2rnx", "check"):

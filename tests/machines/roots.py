@@ -26,7 +26,7 @@ VERSION = (TOP / "VERSION").read_text().strip()
 SAMPLE = TOP / "samples/station.rnx"
 SECONDS = 1200  # in which each step is to end
 SUITES = {"debian11": ("bullseye", "amd64"), "debian12": ("bookworm", "amd64"), "arm64": ("bookworm", "arm64")}
-PACKAGES = "python3,python3-venv,less,gzip"
+PACKAGES = "python3,python3-venv,less,gzip,make,groff,mandoc,parallel,strace"  # the last ones for the tests of the sources
 PATH = "/usr/local/sbin:/usr/local/bin:/usr/sbin:/usr/bin:/sbin:/bin"
 QUIETLY = "--no-index --quiet --disable-pip-version-check"  # words for pip
 WINE_NAMES = ("rnxcmp",)  # the commands that a line for Windows may begin with
@@ -157,14 +157,22 @@ USED = ("cp abcd0010.24o x.rnx", "rnxcmp-file rnx2crx --verify x.rnx", "CRX2RNX 
 
 
 def check_package(root, name):
-    """The Debian package: installed, used by its plain names, and its module found by Python."""
+    """The Debian package: installed, used by its plain names, its module found by Python, unchanged, and removed with all that was its."""
     architecture = SUITES[name][1]
     for records in ("updates", "info", "triggers"):  # which a root has that ran no scripts of its packages
         (root / "var/lib/dpkg" / records).mkdir(parents=True, exist_ok=True)
     for records in ("status", "available"):
         (root / "var/lib/dpkg" / records).touch()
-    lines = [f"dpkg -i rnxcmp_{VERSION.replace('-', '~')}_{architecture}.deb", *USED, "python3 -I -c 'import rnxcmp; print(rnxcmp.version())'"]
-    return run_in(entered(root, architecture), lines)
+    lines = [f"dpkg -i rnxcmp_{VERSION.replace('-', '~')}_{architecture}.deb", *USED, "python3 -IB -c 'import rnxcmp; print(rnxcmp.version())'"]
+    before = set((root / "usr").rglob("*"))
+    wrong = run_in(entered(root, architecture), [*lines, 'test -z "$(dpkg -V rnxcmp)"', "dpkg -P rnxcmp"])
+    return wrong or [f"left: {path}" for path in sorted(set((root / "usr").rglob("*")) - before)][:4]
+
+
+def check_own_tests(root, name):
+    """The tests of the source archive that don't need the prover, over the archive's program; its C library (2.31) is older than this one."""
+    lines = [f"tar -xzf rnxcmp-{VERSION}.tar.gz", f"PROGRAM=$(echo $PWD/rnxcmp-*-linux-x86_64/bin/rnxcmp) python3 rnxcmp-{VERSION}/tests/runner.py"]
+    return run_in(entered(root, SUITES[name][1]), lines)
 
 
 def check_wheel(root, name):
@@ -308,6 +316,8 @@ def of_suite(name, roots, folder, dist, program):
         root = copy_of(roots / name, folder)
         yield f"{name}: the printed lines", lambda: check_debian(root, dist, program, name)
         yield f"{name}: the package", lambda: check_package(root, name)
+        if name == "debian11":
+            yield f"{name}: the sources' own tests", lambda: check_own_tests(root, name)
         yield f"{name}: the wheel", lambda: check_wheel(root, name)
 
 
