@@ -145,14 +145,19 @@ def clang():
     return [str(Path(shutil.which("rt")).resolve().parents[1] / "toolchain/bin/clang"), "-fuse-ld=lld"]
 
 
-def preloaded(**environment):
-    """An environment in which preload.c stands before the C library and is told what to do."""
-    if b"/ld-" not in PROGRAM.open("rb").read(4096):
-        raise unittest.SkipTest("the program isn't linked with a shared C library")
+def preload():
+    """The library that stands before the C library, made of preload.c."""
     built = Path(tempfile.gettempdir()) / "preload.so"
     if not built.exists():
         subprocess.run([*clang(), "-O1", "-shared", "-fPIC", "-nostdlib", "-o", built, TESTS / "preload.c"], check=True)
-    return {**os.environ, "LD_PRELOAD": str(built), **environment}
+    return str(built)
+
+
+def preloaded(**environment):
+    """An environment in which preload.c stands before the C library of the program and is told what to do."""
+    if b"/ld-" not in PROGRAM.open("rb").read(4096):
+        raise unittest.SkipTest("the program isn't linked with a shared C library")
+    return {**os.environ, "LD_PRELOAD": preload(), **environment}
 
 
 # ---- a file of tests, in a process of its own

@@ -1,5 +1,4 @@
-"""Runs of sizes that other tests don't reach: many arguments, long names, long inputs, many types, and lines that end at each place near the end of
-the reader's window."""
+"""Runs of sizes that other tests don't reach: many arguments, long names, long inputs."""
 
 import hashlib
 import os
@@ -9,13 +8,12 @@ import threading
 import unittest
 from pathlib import Path
 
-from runner import LIMITS, PROGRAM, SAMPLE, run
-from texts import COMPACT_FIVE, DATED, FIVE, H, K, epoch, text, types_lines
+from runner import PROGRAM, run
+from texts import COMPACT_FIVE, DATED, FIVE, H, epoch, text
 
 PIECE = text(*[line for second in range(4000) for line in (epoch(second % 10, 1), f"G01  {20000000 + 7 * second}.000")])
 GIGABYTE, EPOCHS = 1_000_000_000, 2_000_000
 PATH, STEP = 4000, 180  # bytes of a long path, and of each folder's name in it
-WINDOW, LONGEST = 18_432, 8192  # bytes that the reader holds at once (crates/crx_lines/src/window.rt), and of a line's content
 TWICE = text("error: the argument '-s' cannot be used multiple times", "", "Usage: rnxcmp rnx2crx [OPTIONS] [FILE]...", "",
              "For more information, try '--help'.")  # fmt: skip
 
@@ -138,88 +136,3 @@ class Inputs(unittest.TestCase):
             self.assertEqual(path.with_suffix(".crx").read_bytes(), run(*DATED, given=long)[0])
             self.assertEqual(path.read_bytes(), long)
             self.assertRegex(run("check", "a.rnx", cwd=folder)[0], rb"\nepochs 24000\n")
-
-    def test_each_count_of_types(self):
-        """Files of each count of types up to the limit come back from their compact text, and pass a check; one type more is a fault."""
-        most = LIMITS["TYPES_LIMIT"]
-        for count in range(1, most + 2):
-            rows = [f"G01{''.join(f'{20000000 + 1000 * second + 7 * place:10}.{place:03}  ' for place in range(count))}".rstrip() for second in range(3)]
-            standard = text(H[0], *types_lines("G", count), H[2], *[line for second, row in enumerate(rows) for line in (epoch(second, 1), row)])
-            with self.subTest(count=count):
-                output, messages, status = run(*DATED, given=standard)
-                if count > most:
-                    self.assertEqual((status, b" code " in messages), (1, True))
-                    continue
-                self.assertEqual((messages, status), (b"", 0))
-                self.assertEqual(run("crx2rnx", given=output), (standard, b"", 0))
-                report, messages, status = run("check", given=standard)
-                self.assertEqual((report[-13:], messages, status), (b"standard yes\n", b"", 0))
-
-    def test_systems_of_other_counts(self):
-        """Satellites of systems with other counts of types, in another order in each epoch: a file comes back."""
-        types = {"G": ["C1C", "L1C"], "R": ["C1C"], "E": ["C1X", "L1X", "S1X"]}
-        head = [H[0].replace("DATA    G", "DATA    M"),
-                *[f"{letter}  {len(names):3} {' '.join(names)}".ljust(60) + "SYS / # / OBS TYPES" for letter, names in types.items()], H[2]]  # fmt: skip
-        orders = [["G01", "R01", "E01"], ["R01", "G01", "E01"], ["E01", "G01", "R01"], ["E01", "R01"], ["R01", "E01", "G01", "R02"]]
-        rows = [[epoch(second, len(names)), *[name + "".join(f"{20000000 + 7 * second * second + place:14.3f}  " for place in range(len(types[name[0]]))).rstrip()
-                                               for name in names]] for second, names in enumerate(orders * 2)]  # fmt: skip
-        standard = text(*head, *[line for lines in rows for line in lines])
-        for words, back in (([], []), (["-s"], ["-s"]), (["-e", "2"], [])):
-            with self.subTest(words=words):
-                output, messages, status = run(*DATED, *words, given=standard)
-                self.assertEqual((messages, status), (b"", 0))
-                self.assertEqual(run("crx2rnx", *back, given=output), (standard, b"", 0))
-
-
-# ---- lines that end at each place near the end of the reader's window: whatever is in front of them, they mean the same
-
-
-def comments(size):
-    """Lines of comments that take so many bytes with their LFs, the longest that there are among them."""
-    lines = []
-    while size > 0:
-        length = min(size - 1, LONGEST)
-        length -= 100 if 0 < size - 1 - length < 100 else 0  # what is left is long enough for a label
-        lines.append((b" " * 60 + b"COMMENT").ljust(length, b"x"))
-        size -= length + 1
-    return b"".join(line + b"\n" for line in lines)
-
-
-class Window(unittest.TestCase):
-    def of(self, words, content):
-        """What a run over a file answers."""
-        with tempfile.TemporaryFile() as file:
-            file.write(content)
-            file.seek(0)
-            done = subprocess.run([PROGRAM, *words], stdin=file, capture_output=True, timeout=60)
-        return done.stdout, done.stderr, done.returncode
-
-    def assert_moved(self, head, body, compact_head, compact_body, step):
-        """A header's comments move a body over the window's end, a step at a time, both ways and checked; with LF, with CR LF, and without the last
-        end where that is near. `head` is a header without its last line, which the body begins with."""
-        for words, first, rest, wanted_first, wanted in ((DATED, head, body, compact_head, compact_body), (["crx2rnx"], compact_head, compact_body, head, body)):
-            for place in range(WINDOW - len(first) - len(rest) - 70, WINDOW - len(first) + 70, step):
-                between = comments(place)
-                whole, answer = first + between + rest, (wanted_first + between + wanted, b"", 0)
-                self.assertEqual(self.of(words, whole), answer, f"{place} bytes before")
-                self.assertEqual(self.of(words, whole.replace(b"\n", b"\r\n")), answer, f"{place} bytes before, CR LF")
-                if abs(len(first) + place + len(rest) - WINDOW) < 70:
-                    self.assertEqual(self.of(words, whole[:-1]), answer, f"{place} bytes before, no last LF")
-                if words == DATED:
-                    report, *others = self.of(["check"], whole)
-                    self.assertEqual((report[-13:], *others), (b"standard yes\n", b"", 0), f"{place} bytes before")
-
-    def test_five_epochs(self):
-        """The five epochs whose compact text is typed, at each place."""
-        head, end = text(*H[:-1]), text(H[-1])
-        compact_head = text(*K) + head
-        self.assert_moved(head, end + FIVE[len(head + end) :], compact_head, end + COMPACT_FIVE[len(compact_head + end) :], 1)
-
-    def test_epochs_of_the_sample(self):
-        """Two epochs, whose lines have cells of all kinds, at every 17th place: their compact text is the one without comments."""
-        whole = b"\n>".join(SAMPLE.read_bytes().split(b"\n>")[:3]) + b"\n"
-        at = whole.index(b" " * 60 + b"END OF HEADER")
-        compact, messages, status = self.of(DATED, whole)
-        self.assertEqual((messages, status), (b"", 0))
-        compact_at = at + len(text(*K))
-        self.assert_moved(whole[:at], whole[at:], compact[:compact_at], compact[compact_at:], 17)

@@ -36,6 +36,13 @@ def other_flags(rng, all_units):
     return [replace(unit, head=unit.head[:31] + "1" + unit.head[32:]) if isinstance(unit, Epoch) and flag else unit for unit, flag in zip(all_units, flags)]
 
 
+def lengthened(rng, all_units):
+    """Units with so many comments in the header that later lines are near the end of what the program's reader holds at once, in one of ten."""
+    size, header = rng.randrange(17_000, 19_000) if rng.random() < 0.1 else 0, all_units[0]
+    comments = [(b" " * 60 + b"COMMENT").ljust(min(length, LIMITS["LINE_LIMIT"]), b"x") for length in (8192, 8192, size - 16_386) if size and length > 70]
+    return [replace(header, lines=[*header.lines[:-1], *comments, header.lines[-1]]), *all_units[1:]]
+
+
 @lru_cache(maxsize=None)
 def units_of(path):
     """The units of a standard file, which its compact text has."""
@@ -202,7 +209,7 @@ def part(job):
     seed, count = job
     rng, counts, wrong = random.Random(seed), Counter(), []
     for at in range(count):
-        made = cut_units(rng, units_of(rng.choice(FILES))) if FILES and at % 2 else other_flags(rng, units(rng))
+        made = cut_units(rng, units_of(rng.choice(FILES))) if FILES and at % 2 else lengthened(rng, other_flags(rng, units(rng)))
         for name, is_right, text in (*of_texts(rng, made), *(of_files(rng, made) if at % 4 == 0 else ())):
             counts[name] += 1
             wrong += [] if is_right else [f"seed {seed}, {name}: {text!r}"]

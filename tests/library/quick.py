@@ -12,6 +12,7 @@ sys.path[:0] = [str(HERE), str(HERE.parent)]
 import layout  # noqa: E402
 from answers import Call, run_program  # noqa: E402
 from inputs import SAMPLE, sample_calls, with_strange_epochs  # noqa: E402
+from runner import preload  # noqa: E402
 from servers import COUNTED, OUT_OF_MEMORY, Calls, Handles, built, check_refusals, titled, wrong_call, wrong_run  # noqa: E402
 
 SECONDS = 100  # in which each program is to end
@@ -216,12 +217,7 @@ def check_python(b):
 
 def check_python_refused(b):
     """Memory that is refused under Python."""
-    if not shutil.which("gcc"):
-        return "there is no gcc"
-    flags = ["-shared", "-fPIC", "-O1", "-Wall", "-Wextra", "-Werror"]
-    wrong = output_of(["gcc", *flags, HERE / "refusing.c", "-ldl", "-o", b.work / "refusing.so"])
-    preloaded = python_environment(b, LD_PRELOAD=str(b.work / "refusing.so"))
-    return wrong or output_of([sys.executable, HERE / "refused.py", SAMPLE], env=preloaded)
+    return output_of([sys.executable, HERE / "refused.py", SAMPLE], env=python_environment(b, LD_PRELOAD=preload(), REFUSE_OF="librnxcmp"))
 
 
 def checks(b, with_python=True):

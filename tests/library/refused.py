@@ -1,4 +1,4 @@
-"""Growths of memory that are refused under Python: refused.py SAMPLE, with refusing.c in front of the C library (LD_PRELOAD). With each
+"""Growths of memory that are refused under Python: refused.py SAMPLE, with tests/preload.c before the C library. With each
 growth of the library's memory refused in turn, alone and with all later ones, a call raises MemoryError or gives what it always gives, and
 nothing that the library took stays. What is wrong is printed, with status 1."""
 
