@@ -1,14 +1,14 @@
 """Planted bugs, each of which a test is to see: with SLOW=1 each is a test of its own, and `make test T=tests/mutants/files/names SLOW=1` tries those
 of a folder.
 
-A folder has a `check.py` and folders of edits, one for each file that is changed, or for a part of it. An edit's name says what is wrong then. Each
-edit is made in a copy of the repository's files, and taken back after `check.py PROGRAM COPY MADE FILE` has been run over the copy: MADE is the
+A folder has folders of edits, one for each file that is changed, or for a part of it. An edit's name says what is wrong then. Each
+edit is made in a copy of the repository's files, and taken back after `check.py FOLDER PROGRAM COPY MADE FILE` has been run over the copy: MADE is the
 repository where `make` left what it built, FILE is the one that was edited. It is to end with status 1 and to print as its last line what has seen
 the bug; over files as they are it is to end with status 0, and with 2 if they can't be built, which isn't seeing a bug. Whatever else it ends with,
 or that it doesn't end in time, says nothing of the bug, and is a failure too.
 
-An edit is lines that begin with a word: `file:` names the file, `after:` a text after which the change is, if there is one; `old:` is what
-stands there, and `new:` what takes its place. More than one `old:` or `new:` are lines of one text. It stands there once, or once after
+An edit is lines that begin with a word: `file:` names the file, if it isn't the one that FILE in the folder names; `after:` a text after which the
+change is, if there is one; `old:` is what stands there, and `new:` what takes its place. More than one `old:` or `new:` are lines of one text. It stands there once, or once after
 that text.
 """
 
@@ -51,7 +51,8 @@ def read_edit(path):
     for line in path.read_text().splitlines():
         word, value = re.fullmatch(r"(file|after|old|new): ?(.*)", line).groups()
         found[word].append(value)
-    return Edit(path.stem, *("\n".join(found[word]) for word in ("file", "after", "old", "new")))
+    file = "\n".join(found["file"]) or (path.parent / "FILE").read_text().strip()
+    return Edit(path.stem, file, *("\n".join(found[word]) for word in ("after", "old", "new")))
 
 
 def copy_to(folder):
@@ -80,7 +81,7 @@ class Planted(unittest.TestCase):
 
     def check(self, file):
         """The status of a check, its last line, and what else may say why it failed."""
-        command = [sys.executable, HERE / self.folder / "check.py", PROGRAM, self.copy, TOP, file]
+        command = [sys.executable, HERE / "check.py", self.folder, PROGRAM, self.copy, TOP, file]
         done = subprocess.run([str(word) for word in command], capture_output=True, text=True, errors="replace", timeout=SECONDS)
         return done.returncode, (done.stdout.splitlines() or [""])[-1], done.stderr[-600:]
 
