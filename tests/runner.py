@@ -37,6 +37,7 @@ TOP = TESTS.parent
 PROGRAM = Path(os.environ.get("PROGRAM") or TOP / "crates/rnxcmp/out/rnxcmp").resolve()
 LIBRARY = TOP / "out/library"  # which make library made
 SAMPLE = TOP / "samples/station.rnx"
+VERSION = (TOP / "VERSION").read_text().strip()
 SLOW, STRICT = (os.environ.get(name, "0") not in ("", "0") for name in ("SLOW", "STRICT"))
 SEED = int(os.environ.get("SEED") or f"{date.today():%Y%m%d}")
 AT_ONCE = len(os.sched_getaffinity(0))

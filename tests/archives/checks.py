@@ -17,7 +17,7 @@ from runner import install, missing_tools, own_mounts
 sys.path.insert(0, str(Path(__file__).parent))
 import hostile  # noqa: E402
 import many  # noqa: E402
-from recipes import recipes  # noqa: E402
+from many import recipes  # noqa: E402
 
 TOP = Path(__file__).resolve().parents[2]
 SAMPLE = TOP / "samples/station.rnx"

@@ -7,7 +7,7 @@ import tempfile
 from concurrent.futures import ThreadPoolExecutor
 from pathlib import Path
 
-from recipes import recipes
+from many import recipes
 from runner import SAMPLE, missing_tools
 
 GOOD, OLD = SAMPLE.read_bytes(), 1704067200  # the time of all files, in 2024

@@ -10,27 +10,32 @@ can run all of it.
 import gzip
 import os
 import re
-import shutil
 import signal
 import stat
 import subprocess
-import sys
 import tempfile
 import time
 from dataclasses import dataclass
 from pathlib import Path
 
-HERE = Path(__file__).resolve().parent
-TOP = HERE.parents[1]
-sys.path[:0] = [str(TOP / "tests"), str(HERE)]
-from runner import files_below, install, missing_tools  # noqa: E402
-from recipes import recipes  # noqa: E402
+import runner
+from runner import files_below, install, missing_tools
 
-SAMPLE = (TOP / "samples/station.rnx").read_bytes()
+SAMPLE = runner.SAMPLE.read_bytes()
 FILES, OLD, SECONDS = 200, 1704067200, 600
 NOBODY = 65534
 SOON = 25  # outputs that are there when a run is killed
 ROOM = 150 * 4096  # bytes of a small disk beside what stands there at the start
+
+
+def recipes():
+    """Each recipe of docs/ARCHIVES.md, as it stands there: its heading and its block. One heading may have several."""
+    heading = ""
+    for part in re.finditer(r"^## ([^\n]+)$|^```sh\n(.*?)^```$", (runner.TOP / "docs/ARCHIVES.md").read_text(), re.M | re.S):
+        if part[1]:
+            heading = part[1]
+        else:
+            yield heading, part[2]
 
 
 @dataclass

@@ -18,6 +18,7 @@ from datetime import datetime, timezone
 from pathlib import Path
 
 import rnxcmp
+from rnxcmp import _calls
 from inputs import header_and_epochs, parts_of
 
 PROGRAM, SAMPLE = sys.argv[1], Path(sys.argv[2])
@@ -467,6 +468,31 @@ def check_threads(data, compact):
         thread.join()
 
 
+def check_held(data):
+    """Another thread goes on while a call is at work; with a limit hardly more is asked for than that; and a run that was dropped is closed."""
+    long, ticks, ended = data + data.partition(b"END OF HEADER\n")[2] * 2000, 0, threading.Event()
+    threading.Thread(target=lambda: (rnxcmp.check(long), ended.set())).start()
+    while not ended.is_set():
+        time.sleep(0.001)
+        ticks += 1
+    expect("the work of another thread", ticks > 10, True)
+    for call, content in ((rnxcmp.rnx2crx, long), (rnxcmp.crx2rnx, rnxcmp.rnx2crx(long)), (rnxcmp.decompress, rnxcmp.rnx2crx(long))):
+        tracemalloc.start()
+        raised(rnxcmp.OutputLimitError, lambda: call(content, max_length=1000))
+        expect("the room of a limited output", tracemalloc.get_traced_memory()[1] < 300_000, True)
+        tracemalloc.stop()
+    closes, library = [], _calls.LIBRARY
+    counted = type("Counted", (), {"__getattr__": lambda self, name: getattr(library, name), "rnxcmp_close": lambda self, *of: (closes.append(1), library.rnxcmp_close(*of))})
+    _calls.LIBRARY = counted()
+    for count, begin in enumerate((rnxcmp.Stream.compacting, rnxcmp.Stream.expanding, rnxcmp.Stream.checking), 1):
+        stream = begin()
+        stream.outputs(data[:100])
+        del stream
+        gc.collect()
+        expect("closes of dropped runs", len(closes) >= count, True)
+    _calls.LIBRARY = library
+
+
 def main():
     data = SAMPLE.read_bytes()
     compact = run(["rnx2crx", "--date", DATE], data).stdout
@@ -489,6 +515,7 @@ def main():
         check_opened(data, compact, Path(folder))
     check_refusals(data, compact)
     check_threads(data, compact)
+    check_held(data)
     print("\n".join(wrong))
     return 1 if wrong else 0
 

@@ -16,17 +16,13 @@ import zipfile
 from concurrent.futures import ThreadPoolExecutor
 from pathlib import Path
 
-HERE = Path(__file__).resolve().parent
-TOP = HERE.parents[1]
-sys.path[:0] = [str(HERE), str(TOP / "tests")]
-import quick  # noqa: E402
-from runner import SEED  # noqa: E402
-from answers import KINDS, Call, answers_of_cases, run_program  # noqa: E402
-from streams_in_time import check_in_time  # noqa: E402
-from inputs import SAMPLE, header_and_epochs, random_call, random_limit, texts_to_damage, widest_compact, widest_header, with_strange_epochs  # noqa: E402
-from servers import COUNTED, FAULT, OUT_OF_MEMORY, OUTPUT_LIMIT, Calls, Handles, built, is_dated, wrong_call, wrong_run  # noqa: E402
+import quick
+from runner import LIBRARY, SEED, TOP
+from answers import KINDS, Call, answers_of_cases, run_program
+from inputs import SAMPLE, header_and_epochs, random_call, random_limit, texts_to_damage, widest_compact, widest_header, with_strange_epochs
+from servers import COUNTED, FAULT, OUT_OF_MEMORY, OUTPUT_LIMIT, Calls, Handles, built, is_dated, wrong_call, wrong_run
 
-LIBRARY = TOP / "out/library"
+HERE = Path(__file__).resolve().parent
 PROVED = TOP / "crates/rnxcmp_c/out/librnxcmp_c.a"
 WHEELS = TOP / "out/python"
 PROGRAM = TOP / "out/machines/x86-64-v2/built/rnxcmp"
@@ -401,7 +397,6 @@ def checks(program):
         yield f"{len(answers)} runs of tests/cases through handles", lambda: quick.served(b, "handles", Handles, check_cases_in_pieces, answers)
         yield "the loop of the header", lambda: check_loop(b, answers)
         yield f"{INPUTS} random and damaged inputs, {INPUTS // 10} with refusals", lambda: with_both(b, lambda *given: check_random(*given, INPUTS))
-        yield "outputs in time", lambda: check_in_time(b)
         yield "hostile inputs", lambda: with_both(b, check_hostile, 10**9, sanitizers=[])
         yield "a handle over 20,000 lines", lambda: check_growths(b)
         yield "an input over the limit", lambda: check_limit(b)

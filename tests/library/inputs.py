@@ -5,12 +5,10 @@ from pathlib import Path
 
 sys.path.insert(0, str(Path(__file__).resolve().parents[1]))
 from answers import Call, run_program  # noqa: E402
-from runner import LIMITS, TOP  # noqa: E402
+import texts  # noqa: E402
+from runner import LIMITS, SAMPLE  # noqa: E402
 
-SAMPLE = TOP / "samples/station.rnx"
 LINE_LIMIT, MOST_TYPES = LIMITS["LINE_LIMIT"], LIMITS["TYPES_LIMIT"]
-LETTERS = "GRECJIS"
-NAMES = [f"{letter}{number:{form}}" for letter in LETTERS for form, count in (("02", 100), ("2", 10)) for number in range(count)]
 
 
 def with_strange_epochs(data):
@@ -34,27 +32,17 @@ def parts_of(data):
 
 def widest_header(is_compact):
     """A header in which each system has as many types as there may be."""
-    lines = ["3.0                 COMPACT RINEX FORMAT                    CRINEX VERS   / TYPE", " " * 60 + "CRINEX PROG / DATE"] if is_compact else []
-    lines += ["     3.05           OBSERVATION DATA    M                   RINEX VERSION / TYPE"]
-    lines += [f"{letter}  {MOST_TYPES:3} C1C".ljust(60) + "SYS / # / OBS TYPES" for letter in LETTERS]
-    return "".join(f"{line}\n" for line in [*lines, " " * 60 + "END OF HEADER"]).encode()
-
-
-def widest_rinex():
-    """Epochs of as many satellites as there are, each with a value and indicators of each type; every second one from the last to the first."""
-    head = f"> 2024 01 01 00 00  0.0000000  0{len(NAMES):3}\n"
-    cells = "".join(f"{20000000 + 37 * place:10}.00117" for place in range(MOST_TYPES))
-    rows = [f"{name}{cells}\n" for name in NAMES]
-    return (head + "".join(rows)).encode(), (head + "".join(rows[::-1])).encode()
+    lines = [*texts.K[:is_compact * 2], *texts.header(texts.SYSTEMS, MOST_TYPES)]
+    return texts.text(*lines)
 
 
 def widest_compact():
-    """The same in compact text: an epoch in full; one in which no value changes; and one without values, in which the indicators stay, so
+    """Epochs of all satellites, each with a value and indicators of each type: a full one; one in which no value changes; and one without values, in which the indicators stay, so
     that each line is one byte and stands for the longest line of an epoch."""
-    first = f"> 2024 01 01 00 00  0.0000000  0{len(NAMES):3}      " + "".join(NAMES) + "\n\n"
+    first = f"> 2024 01 01 00 00  0.0000000  0{len(texts.NAMES):3}      " + "".join(texts.NAMES) + "\n\n"
     row = " ".join(f"3&{20000000000 + 37000 * place}" for place in range(MOST_TYPES)) + " " + "17" * MOST_TYPES + "\n"
     rows = (row, "0 " * MOST_TYPES + "\n", "\n")
-    return tuple((head + row * len(NAMES)).encode() for head, row in zip((first, "\n\n", "\n\n"), rows))
+    return tuple((head + row * len(texts.NAMES)).encode() for head, row in zip((first, "\n\n", "\n\n"), rows))
 
 
 def sample_calls(program):
@@ -75,48 +63,26 @@ def texts_to_damage(program):
     return [sample], [run_program(program, Call(0, sample, every=every)).output for every in (0, 3)]
 
 
-def changed(rng, lines, texts):
-    """Lines with one change."""
-    k = rng.randrange(len(lines))
-    change = rng.randrange(6)
-    if change == 0:
-        del lines[k : k + rng.randrange(1, 4)]
-    elif change == 1:
-        lines.insert(k, rng.choice(lines))
-    elif change == 2 and lines[k]:
-        at = rng.randrange(len(lines[k]))
-        lines[k] = lines[k][:at] + rng.choice([b"", b" ", b"&", b">", b"\0", b"9", b"-", b"\xff", b"\r"]) + lines[k][at + 1 :]
-    elif change == 3:
-        lines[k] = lines[k] * rng.choice([2, 100])
-    elif change == 4:
-        lines[k] = lines[k][: rng.randrange(len(lines[k]) + 1)]
-    else:
-        lines[k] = rng.choice(rng.choice(texts).split(b"\n"))
-    return lines or [b""]
-
-
-def damaged(rng, texts):
-    """The first epochs of some text, lines of it with a few changes, random bytes, or a line about as long as a line may be."""
+def any_damage(rng, some):
+    """The first epochs of some text, lines of it that are damaged, random bytes, or a line about as long as a line may be."""
     chance = rng.random()
     if chance < 0.03:
         return rng.randbytes(rng.randrange(300))
-    lines = rng.choice(texts).split(b"\n")
+    lines = rng.choice(some).split(b"\n")
     if chance < 0.4:
         starts = [k for k, line in enumerate(lines) if line.startswith(b">")]
         return b"\n".join(lines[: rng.choice(starts)]) + b"\n"
     start = rng.randrange(len(lines)) if rng.random() < 0.1 else 0
-    lines = lines[start : start + rng.randrange(10, 120)]
-    for _ in range(rng.randrange(4)):
-        lines = changed(rng, lines, texts)
+    lines = texts.damaged(rng, b"\n".join(lines[start : start + rng.randrange(10, 120)])).split(b"\n")
     if rng.random() < 0.05:
         k = rng.randrange(len(lines))
         lines[k] = lines[k].ljust(LINE_LIMIT + rng.randrange(-2, 4)) + rng.choice([b"", b"\r", b"\r\r"])
     return b"\n".join(lines) + rng.choice([b"", b"\n"])
 
 
-def random_call(rng, texts):
+def random_call(rng, some):
     kind = rng.randrange(3)
-    return Call(kind, damaged(rng, texts[kind == 1]), rng.random() < 0.5, rng.choice([0, 0, 1, 2, 7]))
+    return Call(kind, any_damage(rng, some[kind == 1]), rng.random() < 0.5, rng.choice([0, 0, 1, 2, 7]))
 
 
 def random_limit(rng, call, result):

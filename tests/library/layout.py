@@ -1,9 +1,5 @@
-#!/usr/bin/env python3
 """What C, Fortran and Python say of the interface, compared: the size of each struct and where its fields stand, both enums, the numbers
-that the header names, the words of faults 0 to 30 and of statuses 0 to 10, and the version. What differs is printed, with status 1.
-
-    tests/library/layout.py LIBRARY PACKAGE     LIBRARY as library/build.sh made it; PACKAGE: the folder that holds the package rnxcmp
-"""
+that the header names, the words of faults 0 to 30 and of statuses 0 to 10, and the version."""
 
 import os
 import re
@@ -113,9 +109,3 @@ def wrong(library, package, work):
         found += differences("Fortran lacks", [line for line in from_c if not line.startswith("rnxcmp_handle")], from_fortran)
     return found
 
-
-if __name__ == "__main__":
-    with tempfile.TemporaryDirectory() as name:
-        lines = wrong(Path(sys.argv[1]).resolve(), Path(sys.argv[2]).resolve(), Path(name))
-    print("\n".join(lines))
-    sys.exit(1 if lines else 0)

@@ -7,18 +7,16 @@ import sys
 from dataclasses import dataclass
 from pathlib import Path
 
-HERE = Path(__file__).resolve().parent
-sys.path[:0] = [str(HERE), str(HERE.parent)]
-import layout  # noqa: E402
-from answers import Call, run_program  # noqa: E402
-from inputs import SAMPLE, sample_calls, with_strange_epochs  # noqa: E402
-from runner import preload  # noqa: E402
-from servers import COUNTED, OUT_OF_MEMORY, Calls, Handles, built, check_refusals, titled, wrong_call, wrong_run  # noqa: E402
+import layout
+from answers import Call, run_program
+from inputs import SAMPLE, sample_calls, with_strange_epochs
+from runner import VERSION, preload
+from servers import COUNTED, OUT_OF_MEMORY, Calls, Handles, built, check_refusals, titled, wrong_call, wrong_run
 
+HERE = Path(__file__).resolve().parent
 SECONDS = 100  # in which each program is to end
 # what the library calls of the C library: it opens no file, prints nothing, and doesn't end the process, but where its stack was overwritten
 CALLED = set("malloc realloc free memcpy memmove memset memcmp memchr bcmp strlen __stack_chk_fail".split())
-VERSION = (HERE.parents[1] / "VERSION").read_text().strip()
 
 
 @dataclass

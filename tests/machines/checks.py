@@ -8,14 +8,11 @@ import sys
 import tempfile
 from pathlib import Path
 
-HERE = Path(__file__).resolve().parent
-TESTS, TOP = HERE.parent, HERE.parents[1]
-sys.path[:0] = [str(HERE), str(TESTS)]
-import roots  # noqa: E402
-from libraries import check_library  # noqa: E402
-from machines import MACHINES, emulator, script  # noqa: E402
-from retargeting import check_retargeting  # noqa: E402
-from runner import SAMPLE  # noqa: E402
+import roots
+from libraries import check_library
+from machines import MACHINES, emulator, script
+from retargeting import check_retargeting
+from runner import SAMPLE, TESTS, TOP
 
 TEXTS = 60  # random files
 LOST = 3  # runs that may lose their messages under Wine, of some thousand
@@ -40,7 +37,7 @@ for %%f in (a b c) do CRX2RNX - %%f.24d > %%f.out
 
 def check_batch(machine, words):
     """The program under the names RNX2CRX.exe and CRX2RNX.exe, called by a batch file without `call`, also in a loop."""
-    sample = (TOP / "samples/station.rnx").read_bytes()
+    sample = SAMPLE.read_bytes()
     with tempfile.TemporaryDirectory() as name:
         folder = Path(name)
         for known in ("RNX2CRX", "CRX2RNX"):

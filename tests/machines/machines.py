@@ -3,15 +3,13 @@
 import os
 import shutil
 import subprocess
-import sys
 import tempfile
 from contextlib import contextmanager
 from dataclasses import dataclass
 from pathlib import Path
 
-TOP = Path(__file__).resolve().parents[2]
-sys.path.insert(0, str(TOP / "tests"))
-import prove  # noqa: E402
+import prove
+from runner import TOP
 
 MADE = TOP / "out/machines"  # by packaging/machines.mk
 STACK = 128 * 1024  # bytes of stack that each run has, where the emulator can limit them

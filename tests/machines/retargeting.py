@@ -1,9 +1,9 @@
 """What packaging/retarget.py makes of small modules of LLVM: the same but for target, probe and names."""
 
 import subprocess
-from pathlib import Path
 
-TOP = Path(__file__).resolve().parents[2]
+from runner import TOP
+
 SECONDS = 60  # in which each run is to end
 HEAD = 'target datalayout = "e-m:e-i64:64"\ntarget triple = "x86_64-unknown-linux-gnu"\n'
 OF_WINDOWS = (

@@ -12,18 +12,13 @@ import re
 import shutil
 import subprocess
 import sys
-import tempfile
 from pathlib import Path
 
-HERE = Path(__file__).resolve().parent
-TOP = HERE.parents[1]
-sys.path[:0] = [str(HERE), str(TOP / "tests")]
-from libraries import answer, compiled  # noqa: E402
-from machines import MACHINES, emulator  # noqa: E402
+from libraries import answer, compiled
+from machines import MACHINES, emulator
+from runner import SAMPLE, TOP, VERSION
 
 MIRROR = os.environ.get("MIRROR", "http://deb.debian.org/debian")
-VERSION = (TOP / "VERSION").read_text().strip()
-SAMPLE = TOP / "samples/station.rnx"
 SECONDS = 1200  # in which each step is to end
 SUITES = {"debian11": ("bullseye", "amd64"), "debian12": ("bookworm", "amd64"), "arm64": ("bookworm", "arm64")}
 PACKAGES = "python3,python3-venv,less,gzip,make,groff,mandoc,parallel,strace"  # the last ones for the tests of the sources
@@ -269,7 +264,7 @@ def check_calls(machine, words, place, folder, program):
     target = place / "rnxcmp" / ("calls.exe" if machine.is_windows else "calls")  # beside the library, where Windows looks for it
     headers = next(folder.glob("rnxcmp-*-linux-x86_64/include"))
     linked = [place / "rnxcmp" / machine.shared, f"-Wl,-rpath,{place / 'rnxcmp'}"][: 1 if machine.is_windows else 2]
-    wrong = compiled(machine, headers, HERE / "calls.c", target, linked)
+    wrong = compiled(machine, headers, TOP / "tests/machines/calls.c", target, linked)
     if wrong:
         return wrong
     wanted, got = answer([program], ["check"], SAMPLE.read_bytes()), answer([*words, target], ["check", "whole", "0"], SAMPLE.read_bytes())

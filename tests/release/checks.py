@@ -12,22 +12,18 @@ import sys
 import tempfile
 from pathlib import Path
 
-sys.path[:0] = [str(Path(__file__).parent), str(Path(__file__).parents[1])]
-import prove  # noqa: E402
-from empty_root import check_archive_in_empty_root, check_in_empty_root  # noqa: E402
-from found import check_found, check_lintian, check_sums, check_wheel  # noqa: E402
-from names import check_names, check_quoted  # noqa: E402
+import prove
+from found import check_archive_in_empty_root, check_found, check_in_empty_root, check_lintian, check_sums, check_wheel
+from names import check_names, check_quoted
+from runner import SAMPLE, TOP, VERSION
 
-TOP = Path(__file__).resolve().parents[2]
 sys.path.insert(0, str(TOP / "packaging"))
 from parts import COMPILERS  # noqa: E402
 
-SAMPLE = TOP / "samples/station.rnx"
 PROVED = TOP / "crates/rnxcmp_c/out/librnxcmp_c.a"
 MACHINES = TOP / "out/machines"  # what was made for others (packaging/machines.mk)
 OBJECTS = {"x86-64": ("x86-64/rnxcmp.o", "x86-64/librnxcmp_c.a"), "aarch64": ("aarch64/rnxcmp.o", "aarch64/librnxcmp_c.a"), "windows": ("x86-64/rnxcmp.bc", "x86-64/rnxcmp_c.bc")}
 TYPE, SHARED = 16, 3  # where an ELF file says what it is, and that it may stand at any address
-VERSION = (TOP / "VERSION").read_text().strip()
 DEBIAN = VERSION.replace("-", "~")  # as Debian writes it
 SECONDS = 600  # in which each step is to end, on a busy machine too
 INTERPRETER = 3  # what says in a program's table that it needs the system's loader

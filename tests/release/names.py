@@ -5,7 +5,8 @@ import subprocess
 import tempfile
 from pathlib import Path
 
-TOP = Path(__file__).resolve().parents[2]
+from runner import TOP
+
 SECONDS = 60  # in which each run is to end
 ODD = "odd\x1b[31m\n"  # a name that would turn a terminal red, and goes on in a second line
 ITS_LINE = r"'odd'$'\033''[31m'$'\n'"  # as ls writes it
