@@ -381,10 +381,22 @@ def timed(part, call):
     return found
 
 
-def gate(prove, wrong_bodies):
+def gate():
     """The proofs and the wrong bodies: outcomes as of a file."""
+    import prove
+    import wrong_bodies
+
     proofs = (*timed("rt ci", lambda: prove.ci(PROGRAM)), [text.rstrip() for text in prove.failed()], [], 0)
     return [proofs] if proofs[1] else [proofs, (*timed("wrong bodies", lambda: wrong_bodies.main([])), [], [], 0)]
+
+
+def all_parts(arguments, files):
+    """The gate, if it is asked for, and the tests: their outcomes."""
+    outcomes = gate() if arguments.gate else []
+    if not PROGRAM.exists():
+        return [*outcomes, (0, 1, [f"there is no program {PROGRAM}: make"], [], 0)]
+    print(f"seed {SEED} (SEED= gives another)", flush=True)
+    return outcomes + timed("tests", lambda: side_by_side(files, arguments.words))
 
 
 def main():
@@ -407,19 +419,10 @@ def main():
         parser.error(f"-k {arguments.words}: phrases with and, or, not and brackets between them")
     files, missing = files_of(arguments.paths), not_here()
     without = f"not found here: {', '.join(missing)}; CONTRIBUTING.md has the command that installs all"
-    outcomes = []
-    if arguments.gate:
-        import wrong_bodies
-
-        if (STRICT and missing) or prove.toolchain():
-            print(f"STRICT, and {without}" if STRICT and missing else "the gate can't start", "0 passed, 1 failed", sep="\n")
-            return 1
-        outcomes = gate(prove, wrong_bodies)
-    if PROGRAM.exists():
-        print(f"seed {SEED} (SEED= gives another)", flush=True)
-        outcomes += timed("tests", lambda: side_by_side(files, arguments.words))
-    else:
-        outcomes.append((0, 1, [f"there is no program {PROGRAM}: make"], [], 0))
+    if arguments.gate and ((STRICT and missing) or prove.toolchain()):
+        print(f"STRICT, and {without}" if STRICT and missing else "the gate can't start", "0 passed, 1 failed", sep="\n")
+        return 1
+    outcomes = timed("all", lambda: all_parts(arguments, files))
     passed, failed, slow_ones = (sum(it[place] for it in outcomes) for place in (0, 1, 4))
     wrong, skips = ([line for it in outcomes for line in it[place]] for place in (2, 3))
     print(*wrong, *(["skipped:"] if skips else []), sep="\n", end="\n" if wrong or skips else "")

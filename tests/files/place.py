@@ -9,7 +9,6 @@ import signal
 import subprocess
 import sys
 import tempfile
-import traceback
 from pathlib import Path
 
 TOP = Path(__file__).resolve().parents[2]
@@ -228,12 +227,14 @@ def is_traced():
     return shutil.which("strace") and subprocess.run(["strace", "-o", "/dev/null", "true"], capture_output=True).returncode == 0
 
 
-def outcomes_of(module, program):
-    """What is wrong by each check of a module."""
-    found = []
-    for name, check in importlib.import_module(module).checks(Texts(program)):
-        try:
-            found.append((name, check()))
-        except Exception:  # a check that can't go on has failed
-            found.append((name, traceback.format_exc().splitlines()))
-    return found
+def checked(*modules):
+    """The checks of some modules, as a test file has them."""
+
+    def checks(program):
+        if lacking():
+            yield "rnxcmp-file", lacking
+            return
+        for module in modules:
+            yield from importlib.import_module(module).checks(Texts(program))
+
+    return checks
