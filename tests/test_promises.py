@@ -1,0 +1,260 @@
+"""The promises of README.md and the answers of docs/GUARANTEES.md as sentences over random, damaged and other writers' files; and of each the
+tests that ask it. What is right is known without the program: the units that a file was made of, their text, the normal form, each line's fate."""
+
+import random
+import re
+import unittest
+from collections import Counter
+from concurrent.futures import ProcessPoolExecutor
+
+import test_writers
+from relation import NoSuchText, contents, normal_form, normal_line, rinex_lines
+from runner import AT_ONCE, LIMITS, SEED, SLOW, TOP, run
+from test_writers import spelled
+from texts import Copied, Epoch, Writer, damaged, rinex, types_line, units
+
+FILES = 4000 if SLOW else 200
+MOST = 3 + 16 * LIMITS["TYPES_LIMIT"] + 1  # bytes of the longest row, for which one byte of compact text can stand
+ENDS_A_RUN = {*range(1, 10), 19}  # the codes that end a run with `-s` too, if the line is of a header or an event
+STREAMS, CASES, PLANS = "tests/test_streams.py::", "tests/cases/", "tests/test_arguments.py::test_plans"
+PASSES = ("what passes a check comes back", "what a check has status 2 for doesn't come back")
+CONTENT, READ = ("a valid file keeps its content",), ("any writer's text is read", "no other text is accepted")
+LOST = ("a compaction loses no line without a warning", "an expansion loses no line without a warning")
+FAILURES = tuple(STREAMS + name for name in ("test_full_devices", "test_each_write_fails", "test_each_read_fails", "test_each_message_fails"))
+# the tests that ask a sentence, by the words in bold before it: sentences of this file or of test_writers.py, tests of a file, files, folders
+ASKED = {
+    "What passes `check` comes back.": PASSES,
+    "Any other valid file keeps its content.": CONTENT,
+    "Other programs' compact text is read by the rules, or refused.": READ,
+    "Nothing is lost silently.": (*LOST, *FAILURES),
+    "Damage stays local.": ("what damage costs",),
+    "Does a file that passes `check` come back?": PASSES,
+    "Does any other file without faults?": CONTENT,
+    "Which files have the same compact text?": ("another spelling is compacted alike",),
+    "What changes when it is done again?": ("compacting again changes nothing", "expanding again changes nothing"),
+    "Is compact text of other programs read?": READ,
+    "May a filter write other text that reads back?": ("compact text is as defined", *READ, CASES),
+    "When is a file standard?": ("a file in normal form is standard, and no other",),
+    "Is `standard yes` right?": ("a file in normal form is standard, and no other", *PASSES, CASES + "check"),
+    "Is the output of `crx2rnx` standard?": ("what is expanded is standard",),
+    "Which fault is reported?": ("the first fault is reported", CASES + "codes"),
+    "What does `-s` skip?": (*LOST, "to skip is to leave out", CASES + "skipping"),
+    "What does `-s` not skip?": ("no other fault ends a run that skips",),
+    "Is a line lost silently?": LOST,
+    "Does `check` find what `rnx2crx` finds?": ("a check tells of a compaction",),
+    "Is a cut noticed?": ("a cut is noticed",),
+    "Is noise noticed?": ("noise is noticed",),
+    "Is other damage noticed?": ("damage that isn't noticed",),
+    "What does the message name?": FAILURES,
+    "Is output in time?": (STREAMS + "test_each_epoch", STREAMS + "test_warnings_in_order"),
+    "How often is the output flushed?": ("crates/crx_tests/src/failures.rt",),
+    "What does status 0 or 2 mean?": FAILURES,
+    "Can a signal cut a run?": (STREAMS + "test_interrupted_reads", STREAMS + "test_interrupted_calls_are_made_again"),
+    "Is a close that fails seen?": (STREAMS + "test_a_close_that_fails_is_not_seen",),
+    "What do I get out of a damaged file?": ("what damage costs",),
+    "What does a flipped bit cost?": ("what damage costs", "blocks are short"),
+    "When is nothing promised?": ("a line of a stretch reads as an event's first one",),
+    "What if an event is hit?": ("a line of a stretch reads as an event's first one", CASES + "damage"),
+    "What do I get out of a file that was cut off?": ("a cut is noticed",),
+    "Can I expand a block on its own?": ("a block is expanded alone", "examples/parallel.py"),
+    "Can I join hours into a day?": ("hours make a day",),
+    "What bounds a run's memory?": ("tests/test_memory.py::test_no_growth_after_the_first_epochs",),
+    "How much is that?": ("bench/README.md",),
+    "When may memory run out?": ("tests/test_memory.py::test_lines_that_code_22_names",),
+    "How much can an expansion write?": ("an expansion is bounded",),
+    "What do they mean?": (PLANS,),
+    "What is done then?": (PLANS, CASES + "files"),
+    "Is the output exact?": (*FAILURES, *PASSES, *CONTENT, *READ, *LOST),
+    "And after a failure?": FAILURES,
+    "Which files are opened?": (STREAMS + "test_files_that_a_run_opens",),
+    "What do refused arguments touch?": (STREAMS + "test_files_that_a_run_opens", CASES + "refusals"),
+}  # those about the library are asked by tests/library
+NAMES = {name for names in ASKED.values() for name in names if "/" not in name} - {*test_writers.NAMES}
+
+
+def told(messages, kind):
+    """The lines and the codes of messages."""
+    return [(int(line), int(code)) for line, code in re.findall(kind + rb" line (\d+) code (\d+): ", messages)]
+
+
+def parts_of(output):
+    """The units of a RINEX text that was written: a copied line, or the lines of an epoch; each with what it is, and its number of types."""
+    found = []
+    for line in rinex_lines(output.split(b"\n")[:-1]):
+        found += [] if line[0] == "satellite" else [[]]
+        found[-1].append(line)
+    return found
+
+
+def is_told(part, own, compact):
+    """Whether a unit is what lines of an input say: the same line, an epoch's lines in another spelling, or compact lines of one."""
+    if compact:
+        is_clean = all(32 <= byte <= 126 for line in own for byte in line)
+        return own == [part[0][1]] if part[0][0] != "epoch" else len(own) == len(part) + 1 and is_clean
+    try:
+        return len(own) == len(part) and all(normal_line(what, given, count) == line for (what, line, count), given in zip(part, own))
+    except NoSuchText:
+        return False
+
+
+def left_of(given, output, messages, compact):
+    """The lines of an input without the stretches that warnings tell of; None if these lines aren't, in order, those of the units of the output,
+    and a stretch for each warning, which ends before the next line that begins with `>`."""
+    first = 2 if compact else 0
+    lines, parts, warnings = contents(given)[first:], parts_of(output), [line - 1 - first for line, _ in told(messages, b"WARNING")]
+    begins = [at for at, line in enumerate(lines) if line[:1] == b">" and len(line) <= LIMITS["LINE_LIMIT"]]
+    stack, seen = [(0, 0, 0, ())], set()
+    while stack:
+        at, part, warned, left = stack.pop()
+        if (at, part, warned) == (len(lines), len(parts), len(warnings)):
+            return [line for start, end in left for line in lines[start:end]]
+        if (at, part, warned) in seen:
+            continue
+        seen.add((at, part, warned))
+        if warned < len(warnings) and at <= warnings[warned] and at < len(lines):
+            stack.append((next((it for it in begins if it >= max(at + 1, warnings[warned])), len(lines)), part, warned + 1, left))
+        if part < len(parts):
+            end = at + len(parts[part]) + (compact and parts[part][0][0] == "epoch")
+            stack += [(end, part + 1, warned, (*left, (at, end)))] if is_told(parts[part], lines[at:end], compact) else []
+    return None
+
+
+def of_files(rng, file):
+    """Sentences about a file of any bytes: of each its name, whether it is right, and what was given."""
+    words = ["rnx2crx", "-e", str(rng.randint(1, 4)), "--date", "D", *["-s"] * rng.randrange(2)]
+    status, made = run("check", given=file)[2], run(*words, given=file)
+    back, two_returns = run("crx2rnx", given=made[0]), b"\r\r\n" in file or file.endswith(b"\r\r")
+    if status == 0:
+        yield "what passes a check comes back", made[2] == 0 and back == (file, b"", 0), file
+    if status == 2:
+        yield "what a check has status 2 for doesn't come back", back[0] != file, file
+    if status != 1 and not two_returns:
+        yield "a valid file keeps its content", made[1:] == (b"", 0) and back == (normal_form(file), b"", 0), file
+        yield "compacting again changes nothing", run(*words, given=back[0]) == made, file
+    if made[2] == 1:
+        yield "no other fault ends a run that skips", "-s" not in words or {code for _, code in told(made[1], b"ERROR")} <= ENDS_A_RUN, file
+        return
+    written = run("crx2rnx", given=made[0].replace(b"\r\n", b"\r\r\n"))[0]  # so no line loses a CR
+    left = left_of(file, written, made[1], False)
+    yield "a compaction loses no line without a warning", left is not None and made[2] == (2 if made[1] else 0), file
+    if made[1] and left is not None:
+        kept = b"".join(line + (b"\r\n" if line.endswith(b"\r") else b"\n") for line in left)
+        yield "to skip is to leave out", run("check", given=kept)[2] != 1 and normal_form(kept) == written, file
+
+
+def of_compact(rng, text):
+    """Sentences about compact text of any bytes."""
+    words = ["crx2rnx", *["-s"] * rng.randrange(2)]
+    output, messages, status = run(*words, given=text)
+    yield "an expansion is bounded", len(output) <= MOST * len(text), text
+    if status == 1:
+        yield "no other fault ends a run that skips", "-s" not in words or {code for _, code in told(messages, b"ERROR")} <= ENDS_A_RUN, text
+        return
+    is_told_of = left_of(text, output, messages, True) is not None
+    yield "an expansion loses no line without a warning", is_told_of and status == (2 if messages else 0), text
+    if b"\r\n" not in output:
+        yield "what is expanded is standard", run("check", given=output)[2] == 0, text
+        yield "expanding again changes nothing", run("crx2rnx", given=run("rnx2crx", given=output)[0]) == (output, b"", 0), text
+
+
+def parts_written(rng, made):
+    """Compact text of some units: what stands before them, and the lines of each; of the program, or of any writer."""
+    if rng.random() < 0.5:
+        writer = Writer(rng)
+        first, parts = writer.first_lines(), [*writer.parts(made)]
+        return [b"".join(writer.ended(line, False) for line in part) for part in (first, *parts)], None
+    every = rng.randint(1, 4)
+    lines = run("rnx2crx", "-e", str(every), "--date", "D", given=rinex(made))[0].splitlines(keepends=True)
+    sizes = [2, *(len(unit.lines) if isinstance(unit, Copied) else 2 + len(unit.rows) for unit in made)]
+    return [b"".join(lines[sum(sizes[:k]) : sum(sizes[: k + 1])]) for k in range(len(sizes))], every
+
+
+def of_damage(rng, made):
+    """Sentences about compact text in which epochs are damaged, or that is cut off."""
+    (first, *parts), every = parts_written(rng, made)
+    epochs = [at for at, unit in enumerate(made) if isinstance(unit, Epoch)]
+    full = [at for at in epochs if parts[at].startswith(b">")]
+    if every:
+        runs = (epochs[k : k + every] for k in range(len(epochs) - every + 1))
+        yield "blocks are short", all(any(at in full for at in run_of) for run_of in runs), rinex(made)
+    begin, end = sorted(rng.choices(epochs, k=2)) if rng.random() < 0.3 else [rng.choice(epochs)] * 2
+    stretch, kind = b"".join(parts[begin : end + 1])[:-1], rng.randrange(3)
+    at = rng.randrange(len(stretch))
+    byte = bytes([stretch[at] ^ 1 << rng.randrange(8) if rng.random() < 0.5 else rng.choice(b"&> 0123456789\n\r\x7f\xff")])
+    bad = stretch[:at] + byte * (kind < 2) + stretch[at + (kind != 1) :]
+    text = first + b"".join(parts[:begin]) + bad + b"\n" + b"".join(parts[end + 1 :])
+    output, messages, status = run("crx2rnx", "-s", given=text)
+    noise = kind == 0 and begin == end and byte not in (b"\n", b"\r") and not 32 <= byte[0] <= 126
+    if noise:
+        yield "noise is noticed", status == 2, text
+    elif status == 0 and bad != stretch:
+        yield "damage that isn't noticed", True, text
+    if any(line[:1] == b">" and line[31:32] in (b"2", b"3", b"4", b"5", b"6") for line in bad.split(b"\n")):
+        yield "a line of a stretch reads as an event's first one", True, text
+        return
+    after = next((it for it in full if it > end), len(made))
+    head, tail, between = rinex(made[:begin]), rinex(made[after:]), [unit for unit in made[end + 1 : after] if isinstance(unit, Copied)]
+    middle, place = output[len(head) : len(output) - len(tail)], 0
+    for unit in between:  # in order
+        place = middle.find(rinex([unit]), place) + 1 or len(middle) + 1
+    right = output == head + middle + tail and place <= len(middle) and middle[:1] in (b"", b">") and status in (0, 2)
+    yield "what damage costs", right, text
+    cut = rng.randrange(1, len(parts) + 1)
+    whole, lines = first + b"".join(parts[:cut]), parts[cut].splitlines(keepends=True) if cut < len(parts) else [b""]
+    more = b"".join(lines[: rng.randrange(len(lines))])  # up to the end of a line
+    front, (output, _, status) = rinex(made[:cut]), run("crx2rnx", given=whole + more)
+    yield "a cut is noticed", output.startswith(front) and (more or output == front) and status == bool(more), whole + more
+    at = rng.choice(full)
+    if not any(isinstance(unit, Copied) and unit.ends_block for unit in made[1:at]):
+        piece = first + parts[0] + b"".join(parts[at:])
+        yield "a block is expanded alone", run("crx2rnx", given=piece) == (rinex([made[0], *made[at:]]), b"", 0), piece
+
+
+def of_hours(rng, made):
+    """The compact text of the second of two files, without its first lines and header, behind that of the first."""
+    types = next(unit.types for unit in reversed(made) if isinstance(unit, Copied))
+    one = Copied([made[0].lines[0], *(types_line(*each) for each in types.items()), b" " * 60 + b"END OF HEADER"], types, True)
+    epochs = (unit for unit in units(rng) if isinstance(unit, Epoch))
+    second = [one, *(it for it in epochs if all(len(values) == types.get(name[0]) for name, values, _ in it.rows))]
+    (before, after) = (run("rnx2crx", given=rinex(each))[0].splitlines(keepends=True) for each in (made, second))
+    text = b"".join(before + after[2 + len(one.lines) :])
+    yield "hours make a day", run("crx2rnx", given=text) == (rinex(made) + rinex(second[1:]), b"", 0), text
+
+
+def part(job):
+    """What was asked of some files, and what is wrong."""
+    seed, count = job
+    rng, counts, wrong = random.Random(seed), Counter(), []
+    for _ in range(count):
+        made = units(rng)
+        while b"\r" in rinex(made):
+            made = units(rng)
+        file, text = rinex(made), Writer(rng).text(made)
+        own, other = run("rnx2crx", given=file)[0], spelled(rng, file)
+        found = [it for one in (file, other, damaged(rng, file), damaged(rng, other)) for it in of_files(rng, one)]
+        found += [it for one in (text, own, damaged(rng, text), damaged(rng, own)) for it in of_compact(rng, one)]
+        for name, is_right, given in (*found, *of_damage(rng, made), *of_damage(rng, made), *of_hours(rng, made)):
+            counts[name] += 1
+            wrong += [] if is_right else [f"seed {seed}, {name}: {given!r}"]
+    return counts, wrong
+
+
+class Promises(unittest.TestCase):
+    def test_random_files(self):
+        counts, wrong, each = Counter(), [], -(-FILES // (4 * AT_ONCE))
+        with ProcessPoolExecutor(AT_ONCE) as pool:
+            for more, failures in pool.map(part, [(SEED * 1000 + number, each) for number in range(4 * AT_ONCE)]):
+                counts.update(more)
+                wrong += failures
+        self.assertEqual(wrong[:20], [])
+        self.assertEqual(NAMES ^ {*counts}, set(), "never asked, or of no promise")
+
+    def test_each_promise_is_asked(self):
+        """Each sentence of both pages has tests, each of which is there."""
+        readme, guarantees = ((TOP / page).read_text(encoding="utf-8") for page in ("README.md", "docs/GUARANTEES.md"))
+        titles = re.findall(r"^\d+\. \*\*(.*?)\*\*", readme, re.M)
+        titles += re.findall(r"^- \*\*(.*?)\*\*", guarantees.partition("## Library")[0], re.M)
+        self.assertEqual({*titles}, {*ASKED})
+        for name in {name for names in ASKED.values() for name in names if "/" in name}:
+            path, _, test = name.partition("::")
+            self.assertTrue((TOP / path).exists() and (not test or f"    def {test}(" in (TOP / path).read_text(encoding="utf-8")), name)
