@@ -5,13 +5,13 @@
     texts.py --seed 1 --count 300 > random.json && conform.py --compact .. --expand .. cases.json random.json
     conform.py --compact .. --expand .. --files FOLDER       # somebody's own files, RINEX and Compact RINEX
 
-Each command reads standard input and writes standard output. What is compacted is judged by what it expands to, by the reader in relation.py, and
-by nothing else: two writers may write other compact text for the same file. A difference is of one of seven kinds: `text` (copied
-text, identifiers, indicators), `values`, `clock`, `events`, `refusals` (what is refused, and where), `statuses` and `failures` (the command
-didn't start, didn't end in time, or crashed). A case may rest on a choice of this project's profile of the formats; another program's
-difference there is listed, and not counted (--profile counts it), unless it is a failure.
-docs/FORMATS.md has the rules. This needs Python 3.8, relation.py and texts.py (beside this file, or in tests/) and nothing else. The status is 0 if
-nothing differs, else 1.
+Each command reads standard input and writes standard output. What is compacted is judged by what it expands to, by the reader in
+relation.py, and by nothing else: two writers may write other compact text for the same file. A difference is of one of seven kinds:
+`text` (copied text, identifiers, indicators), `values`, `clock`, `events`, `refusals` (what is refused, and where), `statuses` and
+`failures` (the command didn't start, didn't end in time, or crashed). A case may rest on a choice of this project's profile of the
+formats; another program's difference there is listed, and not counted (--profile counts it), unless it is a failure. docs/FORMATS.md has
+the rules. This needs Python 3.8, relation.py and texts.py (beside this file, or in tests/) and nothing else. The status is 0 if nothing
+differs, else 1.
 """
 
 import argparse

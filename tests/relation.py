@@ -1,9 +1,11 @@
-"""A reader of both formats, written by docs/FORMATS.md and the definitions in meaning/AnyWriter (crx_compact) and meaning/CompactText (crx_filter),
-and by no code of the program: it says what each line of RINEX is and what it comes back as, and which units a text is compact text of.
+"""A reader of both formats, written by docs/FORMATS.md and the definitions in meaning/AnyWriter (crx_compact) and meaning/CompactText
+(crx_filter), and by no code of the program: it says what each line of RINEX is and what it comes back as, and which units a text is compact
+text of.
 
-The relation follows the two files of definitions, in their order and in their words. A relation has no direction; here the arcs and the epochs are
-found from the lines: a start gives its arc, and a difference leaves one value that an arc may go on with. A subclass may change a method: that is a
-reader with a bug, which texts of any writer have to find (test_writers.py). This file needs Python 3.8, texts.py and nothing else.
+The relation follows the two files of definitions, in their order and in their words. A relation has no direction; here the arcs and the
+epochs are found from the lines: a start gives its arc, and a difference leaves one value that an arc may go on with. A subclass may
+change a method: that is a reader with a bug, which texts of any writer have to find (test_writers.py). This file needs Python 3.8,
+texts.py and nothing else.
 """
 
 from __future__ import annotations
@@ -211,7 +213,8 @@ class Relation:
         """The units that a text is compact text of; NoSuchText if there are none. A beginning may end inside its header or an event."""
         lines = contents(text)
         need(len(lines) >= 2 and all(len(line) <= LINE_LIMIT for line in lines), "a line is too long, or there are less than two")
-        need(columns(lines[0], 1, 20).strip(b" ") == b"3.0" and label(lines[0]) == b"CRINEX VERS   / TYPE", "the first line isn't that of Compact RINEX 3.0")
+        is_first = columns(lines[0], 1, 20).strip(b" ") == b"3.0" and label(lines[0]) == b"CRINEX VERS   / TYPE"
+        need(is_first, "the first line isn't that of Compact RINEX 3.0")
         need(label(lines[1]) == b"CRINEX PROG / DATE", "the second line isn't that of Compact RINEX 3.0")
         types, header = {}, []
         for line in lines[2:]:

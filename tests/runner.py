@@ -5,10 +5,10 @@
     tests/runner.py -k WORDS      tests with these words in their names: `and`, `or`, `not` and brackets join words
     tests/runner.py --gate        all, after the proofs (`rt ci`), which build the program, and the wrong bodies
 
-A test file is a module of unittest, tests/test_*.py or tests/*/test_*.py. As many run at once as there are processors, each with a folder of its
-own for temporary files; test_build.py makes the library and the other machines' programs before the files start that need them. In the
-environment: PROGRAM is the program under test; SLOW=1 runs the slow tests too; with STRICT=1 a test that is skipped because this machine lacks
-something has failed; SEED is the number that random tests begin with, today's date if it isn't given.
+A test file is a module of unittest, tests/test_*.py or tests/*/test_*.py. As many run at once as there are processors, each with a folder
+of its own for temporary files; test_build.py makes the library and the other machines' programs before the files start that need them. In
+the environment: PROGRAM is the program under test; SLOW=1 runs the slow tests too; with STRICT=1 a test that is skipped because this
+machine lacks something has failed; SEED is the number that random tests begin with, today's date if it isn't given.
 
 The output repeats what failed and what was skipped. Its last line is `N passed, M failed`, and the exit status is 0 if nothing failed.
 """
@@ -83,8 +83,9 @@ def need_library():
 
 
 def with_messages(call):
-    """What a call of a run gives: messages and status as its last two parts. Under Wine, which loses the messages of one run in some thousands, a run
-    that ended with 1 or 2 and said nothing is made once more, and noted in the file that WINE_LOST names, whose length is limited (machines)."""
+    """What a call of a run gives: messages and status as its last two parts. Under Wine, which loses the messages of one run in some
+    thousands, a run that ended with 1 or 2 and said nothing is made once more, and noted in the file that WINE_LOST names, whose length
+    is limited (machines)."""
     answer = call()
     if os.environ.get("WINE_LOST") and answer[-1] in (1, 2) and not answer[-2]:
         with open(os.environ["WINE_LOST"], "a") as lost:
@@ -429,7 +430,8 @@ def main():
     for reason in dict.fromkeys(reason for reason, _ in skips):
         names = [name for why, name in skips if why == reason]
         print(f"    {reason}, {len(names)}: {', '.join(names)}")
-    print(*([without] if missing else []), *([f"slow tests that didn't run: {slow_ones} (SLOW=1)"] if slow_ones else []), sep="\n", end="\n" if missing or slow_ones else "")
+    for line in (without if missing else "", f"slow tests that didn't run: {slow_ones} (SLOW=1)" if slow_ones else ""):
+        print(line, end="\n" if line else "")
     failed += len(skips) if STRICT else 0
     if passed + failed == 0:
         print("no test has such a name")

@@ -1,5 +1,5 @@
-"""The command line: what arguments ask for, which of them are refused, the names of output files, and the default date. The tables are typed; each
-plan is seen by what a run reads, writes, reports and answers, where its output file isn't there and where it is."""
+"""The command line: what arguments ask for, which of them are refused, the names of output files, and the default date. The tables are
+typed; each plan is seen by what a run reads, writes, reports and answers, where its output file isn't there and where it is."""
 
 import os
 import re

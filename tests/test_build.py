@@ -1,5 +1,5 @@
-"""What other tests use, made before they start: the library and the wheel of Python, and the programs of the machines whose compiler and emulator are
-here. The two proofs of a machine, if there are none of these sources, take some three minutes."""
+"""What other tests use, made before they start: the library and the wheel of Python, and the programs of the machines whose compiler and
+emulator are here. The two proofs of a machine, if there are none of these sources, take some three minutes."""
 
 import subprocess
 import sys

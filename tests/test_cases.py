@@ -1,9 +1,9 @@
-"""Whole runs as texts: each cases/SUBJECT/NAME.case is a test of its own (cases/README.md explains the form), and so are runs whose texts are too
-long for one.
+"""Whole runs as texts: each cases/SUBJECT/NAME.case is a test of its own (cases/README.md explains the form), and so are runs whose texts
+are too long for one.
 
-A case with an input runs over standard input, at once, byte by byte and in small pieces, and over a file of that input. A case without one runs in
-a folder that has its files. In the environment: EMULATED=1, the program runs in an emulator, whose own stack isn't limited; PIECES=0, it can't read
-from sockets.
+A case with an input runs over standard input, at once, byte by byte and in small pieces, and over a file of that input. A case without
+one runs in a folder that has its files. In the environment: EMULATED=1, the program runs in an emulator, whose own stack isn't limited;
+PIECES=0, it can't read from sockets.
 """
 
 import difflib
@@ -60,8 +60,8 @@ def limit_of(words):
 
 
 def text_of(lines, ending):
-    """The bytes of lines with their ends: a short name stands for its lines, `<to LIMIT>` at a line's end for blanks up to so many bytes, and
-    `<LIMIT>` for its number; a limit is named as in limits.rt, and one more is `LIMIT + 1`."""
+    """The bytes of lines with their ends: a short name stands for its lines, `<to LIMIT>` at a line's end for blanks up to so many
+    bytes, and `<LIMIT>` for its number; a limit is named as in limits.rt, and one more is `LIMIT + 1`."""
     whole = []
     for line in lines:
         named = re.sub(r"<(\w+_LIMIT(?: \+ 1)?)>", lambda m: str(limit_of(m[1])), line)

@@ -1,6 +1,7 @@
 #!/usr/bin/env python3
-"""conformance/, the suite for other programs: nothing differs over the program itself, each of eight planted bugs is named by its kind, and the page
-has the choices of the runner. PEER='COMPACT;EXPAND' runs it over another program too; out/conformance has the report. As a command,
+"""conformance/, the suite for other programs: nothing differs over the program itself, each of eight planted bugs is named by its kind, and
+the page has the choices of the runner. PEER='COMPACT;EXPAND' runs it over another program too; out/conformance has the report. As a
+command,
 
     tests/test_conformance.py BUG PROGRAM ARGUMENT..
 
@@ -160,7 +161,8 @@ class Suite(unittest.TestCase):
         for bug, (kind, change) in BUGS.items():
             with self.subTest(bug):
                 conform.run = lambda words, data, _: change(words[1], self.ask((*words,), data))
-                report = conform.report(SimpleNamespace(compact=bug, expand=bug, profile=True), [(case, conform.judged(case, words, 60)) for case in cases])[0]
+                judged = [(case, conform.judged(case, words, 60)) for case in cases]
+                report = conform.report(SimpleNamespace(compact=bug, expand=bug, profile=True), judged)[0]
                 self.assertEqual(kinds_in(report), {kind}, report[:1500])
 
     def test_a_planted_bug_by_the_command(self):
@@ -170,7 +172,8 @@ class Suite(unittest.TestCase):
     def test_commands_that_fail(self):
         """A command that fails is a difference in each case, also in those that have to be refused; --save writes each."""
         count = len(self.collected)
-        for command, failure in (("sleep 1000", "no end within 0.3 s"), ("sh -c 'kill -SEGV $$'", "ended by signal 11"), ("/no/such/command", "not started")):
+        failing = {"sleep 1000": "no end within 0.3 s", "sh -c 'kill -SEGV $$'": "ended by signal 11", "/no/such/command": "not started"}
+        for command, failure in failing.items():
             with self.subTest(command), tempfile.TemporaryDirectory() as folder:
                 done = conformed(command, command, self.cases, "--seconds", "0.3", "--save", folder)
                 self.assertIn(f"{count} cases, {count} differ; 0 more", done.stdout)

@@ -1,9 +1,9 @@
-"""Memory that runs out: each growth refused in turn (preload.c), over short files, words, help and random files, with SLOW=1 over longer ones and
-many more; the lines that code 22 names; a limit of the process; and memory that doesn't grow with the input.
+"""Memory that runs out: each growth refused in turn (preload.c), over short files, words, help and random files, with SLOW=1 over longer
+ones and many more; the lines that code 22 names; a limit of the process; and memory that doesn't grow with the input.
 
-A growth that is refused ends the run at once: by code 22 at the line for which there was no memory, after the warnings before it and the output of
-the lines before it, with status 1. One growth of a run may be refused without harm: the list of words asks for its room beforehand, and once more
-if that is refused (docs/DECISIONS.md).
+A growth that is refused ends the run at once: by code 22 at the line for which there was no memory, after the warnings before it and the
+output of the lines before it, with status 1. One growth of a run may be refused without harm: the list of words asks for its room
+beforehand, and once more if that is refused (docs/DECISIONS.md).
 """
 
 import os
@@ -207,7 +207,8 @@ def with_words():
 
 
 def over_faults():
-    """Expansions of a file with a fault. No growth is asked for at a line with one: each that is refused ends the run, though faults are skipped."""
+    """Expansions of a file with a fault. No growth is asked for at a line with one: each that is refused ends the run, though faults are
+    skipped."""
     lines = run(*DATED, "-e", "1", given=LONGER["seven systems"])[0].splitlines(keepends=True)
     first, second = [at for at, line in enumerate(lines) if line.startswith(b">")][:2]
     for name, fault in FAULTS.items():
@@ -246,7 +247,8 @@ class Refused(OfRuns):
         self.assertLessEqual(len(unharmed), 1)
 
     def test_the_memory_of_a_buffer(self):
-        """If it is refused for the buffer of standard output or of the file, which come first, no file is made, and one that is there isn't emptied."""
+        """If it is refused for the buffer of standard output or of the file, which come first, no file is made, and one that is there
+        isn't emptied."""
         for words, there in ((DATED, None), ([*DATED, "-f"], b"as it was")):
             before = {"a.rnx": FIVE} | ({} if there is None else {"a.crx": there})
             for growth in (1, 2):
@@ -288,7 +290,8 @@ def of_seed(seed):
     given = rinex(units(rng))
     compact = run(*DATED, *every, "-s", given=given)[0]
     given, compact = (damaged(rng, it) if rng.random() < 0.5 else it for it in (given, compact))
-    runs = Run(f"seed {seed}, compaction", [*DATED, *every, *skip], given), Run(f"seed {seed}, expansion", ["crx2rnx", *skip], compact), Run(f"seed {seed}, check", ["check"], given)
+    words = ([*DATED, *every, *skip], given), (["crx2rnx", *skip], compact), (["check"], given)
+    runs = [Run(f"seed {seed}, {it[0][0]}", *it) for it in words]
     with tempfile.TemporaryDirectory() as folder:
         found = [tried(Refusing(folder), it, ways=(False,)) for it in runs]
     return sum(points for points, _ in found), [line for _, lines in found for line in lines]
@@ -314,9 +317,9 @@ def places(all_units):
 
 
 def lines_of_seed(seed):
-    """Over an undamaged file, without -s, code 22 may name line 0 and the first types line; in compaction also the line of a satellite that no line
-    before it had with as many types; in expansion also the first line of an epoch that has such a satellite. If no growth was refused, it doesn't
-    come at all: a program that gives up without asking for memory is seen."""
+    """Over an undamaged file, without -s, code 22 may name line 0 and the first types line; in compaction also the line of a satellite
+    that no line before it had with as many types; in expansion also the first line of an epoch that has such a satellite. If no growth
+    was refused, it doesn't come at all: a program that gives up without asking for memory is seen."""
     named = lambda messages: [int(line) for line in re.findall(rb"ERROR line ([0-9]+) code 22", messages)]
     made = units(random.Random(seed))
     given, (rows, heads), points, wrong = rinex(made), places(made), 0, []
@@ -415,8 +418,8 @@ class AtHand(OfRuns):
 
 
 class Limited(unittest.TestCase):
-    """A process that may have no more memory than it has once it wrote the header, or a little more: each run ends well, or says that memory ran out.
-    A crash is a failure, since the program has started."""
+    """A process that may have no more memory than it has once it wrote the header, or a little more: each run ends well, or says that
+    memory ran out. A crash is a failure, since the program has started."""
 
     def ended(self, words, start, rest, extra):
         with subprocess.Popen([PROGRAM, *words], stdin=subprocess.PIPE, stdout=subprocess.PIPE, stderr=subprocess.PIPE) as process:

@@ -20,8 +20,8 @@ TWICE = text("error: the argument '-s' cannot be used multiple times", "", "Usag
 
 class Words(unittest.TestCase):
     def test_forty_arguments(self):
-        """Forty names are more than one, and forty hyphens more than one; forty options that are the same are refused as such. The last of forty
-        arguments decides as the first does: it asks for help."""
+        """Forty names are more than one, and forty hyphens more than one; forty options that are the same are refused as such. The last
+        of forty arguments decides as the first does: it asks for help."""
         for words, message in (
             (["rnx2crx", *[f"{place}.rnx" for place in range(40)]], text("ERROR: more than one file name")),
             (["crx2rnx", *["-"] * 40], text("ERROR: - given twice")),

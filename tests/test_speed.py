@@ -1,11 +1,11 @@
 #!/usr/bin/env python3
-"""The instructions that the program takes over three inputs, as callgrind (valgrind) counts them: each count is within a tenth of the one in
-counts.txt. If a change has made the program slower or faster, or another compiler has built it, this stores the counts anew:
+"""The instructions that the program takes over three inputs, as callgrind (valgrind) counts them: each count is within a tenth of the one
+in counts.txt. If a change has made the program slower or faster, or another compiler has built it, this stores the counts anew:
 
     tests/test_speed.py
 
-One input has satellites that mostly stay, one has 60 in another order in each epoch, and one all 770 that there are. Each is compacted, expanded from
-its compact text, and checked. Counts don't change with the machine's load, and hardly from one machine to another.
+One input has satellites that mostly stay, one has 60 in another order in each epoch, and one all 770 that there are. Each is compacted,
+expanded from its compact text, and checked. Counts don't change with the machine's load, and hardly from one machine to another.
 """
 
 import random

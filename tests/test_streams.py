@@ -149,14 +149,16 @@ class Streams(Folder):
 
     def test_endless_noise(self):
         """Lines without end of which the first is wrong."""
-        for words, message in ((DATED, "code 3: missing version line"), (["check"], "code 3: missing version line"), (["crx2rnx"], "code 8: not compact RINEX 3.0")):
+        no_rinex, not_compact = "code 3: missing version line", "code 8: not compact RINEX 3.0"
+        for words, message in ((DATED, no_rinex), (["check"], no_rinex), (["crx2rnx"], not_compact)):
             with self.subTest(words[0]):
                 self.assertEqual(self.endless(words, b"", "y", 1), (b"", text(f"ERROR line 1 {message}"), 1))
 
     def test_endless_epochs(self):
         """Epochs without end, whose reader ends after some lines."""
         more = "\n".join([epoch(5, 1), "G01  20000408.000"])
-        for words, first, repeated, wanted in ((["crx2rnx"], COMPACT_FIVE, "\n\n0", FIVE), (DATED, FIVE, more, COMPACT_FIVE[: COMPACT_FIVE.index(b"0\n" + b" " * 20 + b"4")])):
+        front = COMPACT_FIVE[: COMPACT_FIVE.index(b"0\n" + b" " * 20 + b"4")]
+        for words, first, repeated, wanted in ((["crx2rnx"], COMPACT_FIVE, "\n\n0", FIVE), (DATED, FIVE, more, front)):
             with self.subTest(words[0]):
                 count = wanted.count(b"\n") if words != DATED else 13
                 self.assert_write_failed(self.endless(words, first, repeated, count), b"".join(wanted.splitlines(keepends=True)[:count]))
@@ -203,12 +205,12 @@ def read_for(stream, count):
 
 
 class InTime(Folder):
-    """Fed through a pipe that stays open, a run has written what each epoch makes before the next is fed, and warnings come after the output before
-    them. Over files it makes no more calls for that."""
+    """Fed through a pipe that stays open, a run has written what each epoch makes before the next is fed, and warnings come after the
+    output before them. Over files it makes no more calls for that."""
 
     def fed_one_at_a_time(self, words, parts, pieces, fifo):
-        """Feeds parts one at a time, each in `pieces` pieces: the output of a part is read before the next one is fed. `fifo`: the name of a FIFO that
-        is the input, instead of a pipe at standard input."""
+        """Feeds parts one at a time, each in `pieces` pieces: the output of a part is read before the next one is fed. `fifo`: the name
+        of a FIFO that is the input, instead of a pipe at standard input."""
         given, read = b"", b""
         with subprocess.Popen([PROGRAM, *words, *(["-", fifo] if fifo else [])], stdin=subprocess.PIPE, stdout=subprocess.PIPE, stderr=subprocess.PIPE) as process:
             self.addCleanup(process.kill)
@@ -244,7 +246,8 @@ class InTime(Folder):
                         self.fed_one_at_a_time(command, fed, pieces, name)
 
     def test_warnings_in_order(self):
-        """If output and messages go to one pipe, each warning comes after the output of the lines before it, and before that of those after it."""
+        """If output and messages go to one pipe, each warning comes after the output of the lines before it, and before that of those
+        after it."""
         before = BAD_INDICATOR[: BAD_INDICATOR.rindex(b">", 0, BAD_INDICATOR.index(b"20000100.500&"))]
         for given in (BAD_INDICATOR, BAD_INDICATOR + b"".join(EPOCHS)):
             output, messages = whole_output([*DATED, "-s"], given)
@@ -303,8 +306,8 @@ READ, MADE, EMPTIED = "O_RDONLY", "O_WRONLY|O_CREAT|O_EXCL", "O_WRONLY|O_CREAT|O
 
 
 class Traced:
-    """A run below strace, whose input is a file, so that each run reads in the same pieces: its calls on open files in order, each a name, a
-    stream and an answer; what it wrote, and how it ended."""
+    """A run below strace, whose input is a file, so that each run reads in the same pieces: its calls on open files in order, each a
+    name, a stream and an answer; what it wrote, and how it ended."""
 
     def __init__(self, folder, words, given, fault=None):
         (folder / "a.crx").unlink(missing_ok=True)
@@ -397,8 +400,8 @@ class Faults(Folder):
                     self.assertEqual((again.status, again.output, again.messages), (0, good.output, b""))
 
     def test_files_that_a_run_opens(self):
-        """After the root folder, once, if no standard stream is closed (docs/DECISIONS.md), a run opens the file that is read and then the one that
-        is written, each once, by that very name and as the options say, and no other; it removes, renames and links none."""
+        """After the root folder, once, if no standard stream is closed (docs/DECISIONS.md), a run opens the file that is read and then
+        the one that is written, each once, by that very name and as the options say, and no other; it removes, renames and links none."""
         work = self.folder / "work"
         work.mkdir()
         for words, wanted in (

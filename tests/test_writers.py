@@ -1,11 +1,12 @@
-"""The program beside a reader of the format (relation.py), over random files: compact text of any writer is read as what it means, and nothing else is
-accepted; the program's own compact text is as defined; and a check says what is standard.
+"""The program beside a reader of the format (relation.py), over random files: compact text of any writer is read as what it means, and
+nothing else is accepted; the program's own compact text is as defined; and a check says what is standard.
 
-The writer of texts.py draws each freedom of the format at random: which epochs are full; where arcs start, and by which order; how a number is
-spelt; marks where nothing changes; blanks and CR at line ends; the first two lines. Then one bit of each text is flipped, or it is damaged, or
-written with a rule broken: status 0 has to come if and only if the relation finds units, and the output has to be theirs. Each of some readers with a
-bug has to differ on one of all these texts. What the program promises is proved; this finds what a compiler or a machine would add to it, so it runs
-over each machine's program. In the environment: TEXTS is the number of files; FILES names standard files, of whose units half of the texts are.
+The writer of texts.py draws each freedom of the format at random: which epochs are full; where arcs start, and by which order; how a
+number is spelt; marks where nothing changes; blanks and CR at line ends; the first two lines. Then one bit of each text is flipped, or
+it is damaged, or written with a rule broken: status 0 has to come if and only if the relation finds units, and the output has to be
+theirs. Each of some readers with a bug has to differ on one of all these texts. What the program promises is proved; this finds what a
+compiler or a machine would add to it, so it runs over each machine's program. In the environment: TEXTS is the number of files; FILES
+names standard files, of whose units half of the texts are.
 """
 
 import os
@@ -33,13 +34,16 @@ FILES = os.environ.get("FILES", "").split()
 def other_flags(rng, all_units):
     """Units, some of whose epochs have flag 1, a power failure."""
     flags = (rng.random() < 0.1 for _ in all_units)
-    return [replace(unit, head=unit.head[:31] + "1" + unit.head[32:]) if isinstance(unit, Epoch) and flag else unit for unit, flag in zip(all_units, flags)]
+    with_flag = lambda unit: replace(unit, head=unit.head[:31] + "1" + unit.head[32:])
+    return [with_flag(unit) if isinstance(unit, Epoch) and flag else unit for unit, flag in zip(all_units, flags)]
 
 
 def lengthened(rng, all_units):
-    """Units with so many comments in the header that later lines are near the end of what the program's reader holds at once, in one of ten."""
+    """Units with so many comments in the header that later lines are near the end of what the program's reader holds at once, in one of
+    ten."""
     size, header = rng.randrange(17_000, 19_000) if rng.random() < 0.1 else 0, all_units[0]
-    comments = [(b" " * 60 + b"COMMENT").ljust(min(length, LIMITS["LINE_LIMIT"]), b"x") for length in (8192, 8192, size - 16_386) if size and length > 70]
+    lengths = (8192, 8192, size - 16_386) if size else ()
+    comments = [(b" " * 60 + b"COMMENT").ljust(length, b"x") for length in lengths]
     return [replace(header, lines=[*header.lines[:-1], *comments, header.lines[-1]]), *all_units[1:]]
 
 

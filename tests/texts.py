@@ -3,9 +3,9 @@
 
     texts.py --seed 1 --count 300 > random.json
 
-writes random cases for conform.py: good files and odd ones (numbers in other forms, blanks and CR at line ends) to be compacted, compact text to be
-expanded, and damaged files of which the fault's line and code are known, since the damage is one that is chosen. The same seed gives the same cases.
-docs/FORMATS.md has the rules that all of this keeps to. This file needs Python 3.8 and nothing else.
+writes random cases for conform.py: good files and odd ones (numbers in other forms, blanks and CR at line ends) to be compacted, compact
+text to be expanded, and damaged files of which the fault's line and code are known, since the damage is one that is chosen. The same
+seed gives the same cases. docs/FORMATS.md has the rules that all of this keeps to. This file needs Python 3.8 and nothing else.
 """
 
 from __future__ import annotations
@@ -60,8 +60,8 @@ def header(systems, types):
 
 
 def file_of(names, types, seconds, turned=False):
-    """A file with epochs of these satellites, with all values and indicators; if it is turned, every second epoch has them from the last to the
-    first."""
+    """A file with epochs of these satellites, with all values and indicators; if it is turned, every second epoch has them from the last
+    to the first."""
     lines = header(SYSTEMS, types)
     for second in range(seconds):
         cells = "".join(f"{20000000 + place + second**3:10}.00117" for place in range(types))
@@ -76,8 +76,11 @@ def turning(orders, types):
         lines.append(epoch(second % 10, len(order)))
         for place in order:
             noise = random.Random(place * 100003 + second)
-            values = (20000000000 + 13000007 * place + 4000037 * kind + (90001 + 17 * place) * second + 37 * second**2 + noise.randrange(-400, 400) for kind in range(types))
-            lines.append(NAMES[place] + "".join(f"{value // 1000:10}.{value % 1000:03} {5 + (place + kind) % 4}" for kind, value in enumerate(values)))
+            row, start = NAMES[place], 20000000000 + 13000007 * place + (90001 + 17 * place) * second + 37 * second**2
+            for kind in range(types):
+                value = start + 4000037 * kind + noise.randrange(-400, 400)
+                row += f"{value // 1000:10}.{value % 1000:03} {5 + (place + kind) % 4}"
+            lines.append(row)
     return text(*lines)
 
 
@@ -360,7 +363,8 @@ def compact(rng, all_units):
 
 
 class Plain(Writer):
-    """Writes compact text without a choice, as the program does: by order 3, in full each time `every` epochs were written and after an event."""
+    """Writes compact text without a choice, as the program does: by order 3, in full each time `every` epochs were written and after an
+    event."""
 
     def __init__(self, rng, every, date):
         super().__init__(rng)

@@ -1,5 +1,5 @@
-"""The commands that README.md, the manual page and the help print, run as they are printed, on files that are made up here; and the program as
-`make install` puts it in place: its other names, manual pages, completions, modes of files, and what removes it again."""
+"""The commands that README.md, the manual page and the help print, run as they are printed, on files that are made up here; and the
+program as `make install` puts it in place: its other names, manual pages, completions, modes of files, and what removes it again."""
 
 import gzip
 import os
@@ -95,8 +95,8 @@ class Printed(Installed):
     """The commands of one place are run one after another in one folder, and each has to end well, with nothing on standard error."""
 
     def make_files(self, place):
-        """The files that the commands name: one station's day under several names, compact text, and a pack of it. If the first command is to write
-        the observation file, it isn't there; if a command reads a compact file that no other writes, that is there."""
+        """The files that the commands name: one station's day under several names, compact text, and a pack of it. If the first command
+        is to write the observation file, it isn't there; if a command reads a compact file that no other writes, that is there."""
         compact = subprocess.run([PROGRAM, "rnx2crx", SAMPLE.name, "-"], cwd=SAMPLE.parent, capture_output=True, check=True).stdout
         for name in ("samples/station.rnx", "abcd0010.24o", "a.rnx", "site.obs", "archive/efgh0010.24o", "archive/sub/efgh0020.24o"):
             (self.folder / name).parent.mkdir(parents=True, exist_ok=True)
@@ -178,8 +178,8 @@ class Names(Installed):
         self.assertEqual((self.folder / "a.rnx").read_bytes(), SAMPLE.read_bytes())
 
     def test_links(self):
-        """A symbolic link in another folder, of which a command is called by its path and by its name, finds the program beside what it names;
-        help has the other program's name, and each other word goes on to the program."""
+        """A symbolic link in another folder, of which a command is called by its path and by its name, finds the program beside what it
+        names; help has the other program's name, and each other word goes on to the program."""
         links = self.folder / "links"
         links.mkdir()
         for name, word in (("RNX2CRX", "rnx2crx"), ("CRX2RNX", "crx2rnx")):

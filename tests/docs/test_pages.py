@@ -1,7 +1,7 @@
-"""Pages against sources: the pages that `make docs` makes have each definition once and no link to nothing, the pictures are those that their script
-would make today, the picture of an epoch is what the program makes, each clause, name of code, file and make target that a page names is there, the
-page of each crate has its modules, and the limits, faults and options of the program are those that texts beside it have. A pattern that finds
-nothing to look at is a failure too."""
+"""Pages against sources: the pages that `make docs` makes have each definition once and no link to nothing, the pictures are those that
+their script would make today, the picture of an epoch is what the program makes, each clause, name of code, file and make target that a
+page names is there, the page of each crate has its modules, and the limits, faults and options of the program are those that texts
+beside it have. A pattern that finds nothing to look at is a failure too."""
 
 import gzip
 import re
@@ -41,8 +41,8 @@ def book():
 
 
 def made_pages():
-    """What is wrong with the pages that `make docs` makes: a link to nothing, a line of a folder `meaning` that isn't there, a definition that
-    isn't there once, or one that isn't to be believed and that a chapter of others has."""
+    """What is wrong with the pages that `make docs` makes: a link to nothing, a line of a folder `meaning` that isn't there, a
+    definition that isn't there once, or one that isn't to be believed and that a chapter of others has."""
     with tempfile.TemporaryDirectory() as folder:
         run = subprocess.run([TOP / "docs/pages.py", folder], capture_output=True, text=True, timeout=300)
         if run.returncode or run.stderr:
@@ -194,8 +194,8 @@ def calls_shown(page, words):
 
 
 def modules_named(page):
-    """The modules of a crate's src that the table of its page has no row for, the rows of modules that are gone, and the files of specs and proofs
-    that the page names and no crate has."""
+    """The modules of a crate's src that the table of its page has no row for, the rows of modules that are gone, and the files of specs and
+    proofs that the page names and no crate has."""
     text = (TOP / page).read_text(encoding="utf-8") if (TOP / page).exists() else ""
     there = {path.stem for path in (TOP / page).parent.glob("src/*.rt")} - {"lib", "main"} if "| Module |" in text else set()
     rows = set(re.findall(r"^\| `(\w+)` \| \S", text, re.M))
@@ -235,8 +235,8 @@ def ran(text, *words):
 
 
 def example():
-    """Whether the epochs of docs/pictures/epoch.txt are a standard file, its compact lines those that the program makes of it, and the lines that
-    README.md shows among both."""
+    """Whether the epochs of docs/pictures/epoch.txt are a standard file, its compact lines those that the program makes of it, and the
+    lines that README.md shows among both."""
     lines, header = lines_drawn("epoch"), header_of("C1C", "L1C")
     shown = re.findall(r"^    (RINEX|compact) +(\S.*)$", (TOP / "README.md").read_text(encoding="utf-8"), re.M)
     rinex, compact = ("\n".join([*header, *lines[kind], ""]) for kind in ("RINEX", "compact"))
@@ -248,14 +248,16 @@ def example():
 
 def sizes():
     """Whether a day file shrinks to an eighth with gzip, and to a third by gzip only, as README.md says."""
-    day = subprocess.run([TOP / "bench/generate.py", "--megabytes", "2", "--interval", "30"], capture_output=True, check=True, timeout=60).stdout
+    words = [TOP / "bench/generate.py", "--megabytes", "2", "--interval", "30"]
+    day = subprocess.run(words, capture_output=True, check=True, timeout=60).stdout
     compact = subprocess.run([PROGRAM, "rnx2crx"], input=day, capture_output=True, check=True, timeout=60).stdout
     shares = [len(gzip.compress(text, 6)) / len(day) for text in (compact, day)]
     return [] if abs(shares[0] - 1 / 8) < 0.015 and abs(shares[1] - 1 / 3) < 0.04 else [f"the shares are {shares}"]
 
 
 def damage_drawn():
-    """Whether the compact text of docs/pictures/damage.txt is what the program makes, but for the byte in a frame, and comes back as it is shown."""
+    """Whether the compact text of docs/pictures/damage.txt is what the program makes, but for the byte in a frame, and comes back as it
+    is shown."""
     source = (TOP / "docs/pictures/damage.txt").read_text(encoding="utf-8")
     lines, header = lines_drawn("damage"), header_of("C1C")
     compact, rinex = ("\n".join([*header, *lines[kind], ""]) for kind in ("compact", "RINEX"))
@@ -335,9 +337,9 @@ def code_of(path):
 
 
 def refusals():
-    """The places where code says that memory ran out without a refused growth: `OutOfMemory` and `AllocError` as values, outside the declaration,
-    the conversions from `Refused` and the edges of the program and of the library, where a text couldn't be written; fields of type `Refused`;
-    and a `Refused` that another module than `memory` makes."""
+    """The places where code says that memory ran out without a refused growth: `OutOfMemory` and `AllocError` as values, outside the
+    declaration, the conversions from `Refused` and the edges of the program and of the library, where a text couldn't be written; fields of
+    type `Refused`; and a `Refused` that another module than `memory` makes."""
     edges = {"crx_base/src/fault.rt": 1, "crx_base/src/memory.rt": 2, "crx_program/src/refusal.rt": 1, "rnxcmp_c/src/answer.rt": 1}
     types = r"Result<[^{;]*?\bAllocError>|From<AllocError>|(?::|->|for) AllocError\b"
     wrong = []
@@ -357,10 +359,11 @@ def refusals():
 def systems():
     """Whether at most four files have the letters of the systems typed in, and docs/FORMATS.md names each of them."""
     letters = spelled()[0]
-    files = [path for folder, kind in (("crates", "rt"), ("crates", "antt"), ("tests", "py"), ("bench", "py"), ("docs", "py"), ("python", "py"))
-             for path in (TOP / folder).rglob(f"*.{kind}") if letters in path.read_text(encoding="utf-8")]
+    kinds = (("crates", "rt"), ("crates", "antt"), ("tests", "py"), ("bench", "py"), ("docs", "py"), ("python", "py"))
+    files = [path for folder, kind in kinds for path in (TOP / folder).rglob(f"*.{kind}") if letters in path.read_text(encoding="utf-8")]
     paragraphs = (TOP / "docs/FORMATS.md").read_text(encoding="utf-8").split("\n\n")
-    wrong = [] if any("".join(re.findall(r"`([A-Z])`", it)) == letters for it in paragraphs) else ["no paragraph of docs/FORMATS.md has them in order"]
+    is_there = any("".join(re.findall(r"`([A-Z])`", it)) == letters for it in paragraphs)
+    wrong = [] if is_there else ["no paragraph of docs/FORMATS.md has them in order"]
     return wrong + ([] if len(files) < 4 else [f"typed in docs/FORMATS.md, {', '.join(str(it.relative_to(TOP)) for it in files)}"])
 
 

@@ -1,5 +1,6 @@
-"""The programs and libraries of a release's machines, beside the program that make built: the machines whose compiler and emulator are here, as
-test_build.py made them. In the environment: FILES names standard files, of whose units random files are made, in place of the sample."""
+"""The programs and libraries of a release's machines, beside the program that make built: the machines whose compiler and emulator are
+here, as test_build.py made them. In the environment: FILES names standard files, of whose units random files are made, in place of the
+sample."""
 
 import os
 import shutil
@@ -21,10 +22,12 @@ LOST = 3  # runs that may lose their messages under Wine, of some thousand
 def check_tests(machine, command, lost, *files):
     """Test files over a machine's program. What an emulator can't do isn't asked."""
     own = {"PROGRAM": str(command), "TEXTS": str(TEXTS), "FILES": os.environ.get("FILES") or str(SAMPLE)}
-    own |= {"EMULATED": "1" if machine.emulator else "", "PIECES": "0" if machine.is_windows else "", "WINE_LOST": str(lost) if machine.is_windows else "", "STRICT": ""}
+    own |= {"EMULATED": "1" if machine.emulator else "", "STRICT": ""}
+    own |= {"PIECES": "0", "WINE_LOST": str(lost)} if machine.is_windows else {}
     words = [sys.executable, *(TESTS / name for name in ("runner.py", *files))]
     done = subprocess.run(words, env={**os.environ, **own}, capture_output=True, text=True, errors="replace")
-    return [] if done.returncode == 0 else [line for line in done.stdout.splitlines() if not line.endswith(" s)") or "FAILED" in line][:60] + [done.stderr[-300:]]
+    lines = [line for line in done.stdout.splitlines() if not line.endswith(" s)") or "FAILED" in line]
+    return [] if done.returncode == 0 else [*lines[:60], done.stderr[-300:]]
 
 
 # A batch file that calls the program by its other names, as users of RNXCMP have them: it goes on after each call.
@@ -79,7 +82,8 @@ def checks(program):
 
 def slow_checks(program):
     dist = TOP / "out/dist"
-    reason = "only root may make a root of another system" if os.geteuid() else "" if any(dist.glob("*.zip")) else "there is no release for all machines: make dist"
+    reason = "" if any(dist.glob("*.zip")) else "there is no release for all machines: make dist"
+    reason = "only root may make a root of another system" if os.geteuid() else reason
     if reason:
         yield "roots of other systems", lambda: reason
         return

@@ -1,10 +1,11 @@
 """The lines of README.md and of docs/USE.md that install a release and use it, in roots of other systems, as they are printed.
 
-The release is what `make dist` made in out/dist, for x86-64-v2, aarch64 and windows. out/roots has roots of Debian 11, Debian 12 and Debian 12 on
-64-bit ARM: where one isn't there, debootstrap makes it, from MIRROR of the environment, and later runs take it as it is. The other roots are made
-here: busybox alone, an empty environment of Python, and Wine's folder. All is done in copies. What a system lacks is said, with the lines that need
-it. Wheels are installed by pip. There is no Python of musl or Windows here: so this machine's pip unpacks the wheels of those, and their programs and
-libraries are used without Python. If MUSL_PYTHON names a Python that was made with musl, the wheel is installed there too.
+The release is what `make dist` made in out/dist, for x86-64-v2, aarch64 and windows. out/roots has roots of Debian 11, Debian 12 and
+Debian 12 on 64-bit ARM: where one isn't there, debootstrap makes it, from MIRROR of the environment, and later runs take it as it is.
+The other roots are made here: busybox alone, an empty environment of Python, and Wine's folder. All is done in copies. What a system
+lacks is said, with the lines that need it. Wheels are installed by pip. There is no Python of musl or Windows here: so this machine's
+pip unpacks the wheels of those, and their programs and libraries are used without Python. If MUSL_PYTHON names a Python that was made
+with musl, the wheel is installed there too.
 """
 
 import os

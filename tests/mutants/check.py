@@ -1,6 +1,7 @@
 #!/usr/bin/env python3
-"""What sees a planted bug: check.py FOLDER PROGRAM COPY MADE FILE (mutants.py). The tests in COPY that are about the bugs of a folder run up to the
-first that fails: those that are about FILE first, and those over many files last. What has seen the bug is printed, with status 1."""
+"""What sees a planted bug: check.py FOLDER PROGRAM COPY MADE FILE (mutants.py). The tests in COPY that are about the bugs of a folder
+run up to the first that fails: those that are about FILE first, and those over many files last. What has seen the bug is printed, with
+status 1."""
 
 import os
 import resource

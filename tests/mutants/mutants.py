@@ -1,15 +1,15 @@
-"""Planted bugs, each of which a test is to see: with SLOW=1 each is a test of its own, and `make test T=tests/mutants/files/names SLOW=1` tries those
-of a folder.
+"""Planted bugs, each of which a test is to see: with SLOW=1 each is a test of its own, and `make test T=tests/mutants/files/names SLOW=1`
+tries those of a folder.
 
-A folder has folders of edits, one for each file that is changed, or for a part of it. An edit's name says what is wrong then. Each
-edit is made in a copy of the repository's files, and taken back after `check.py FOLDER PROGRAM COPY MADE FILE` has been run over the copy: MADE is the
-repository where `make` left what it built, FILE is the one that was edited. It is to end with status 1 and to print as its last line what has seen
-the bug; over files as they are it is to end with status 0, and with 2 if they can't be built, which isn't seeing a bug. Whatever else it ends with,
-or that it doesn't end in time, says nothing of the bug, and is a failure too.
+A folder has folders of edits, one for each file that is changed, or for a part of it. An edit's name says what is wrong then. Each edit is
+made in a copy of the repository's files, and taken back after `check.py FOLDER PROGRAM COPY MADE FILE` has been run over the copy: MADE is
+the repository where `make` left what it built, FILE is the one that was edited. It is to end with status 1 and to print as its last line
+what has seen the bug; over files as they are it is to end with status 0, and with 2 if they can't be built, which isn't seeing a bug.
+Whatever else it ends with, or that it doesn't end in time, says nothing of the bug, and is a failure too.
 
-An edit is lines that begin with a word: `file:` names the file, if it isn't the one that FILE in the folder names; `after:` a text after which the
-change is, if there is one; `old:` is what stands there, and `new:` what takes its place. More than one `old:` or `new:` are lines of one text. It stands there once, or once after
-that text.
+An edit is lines that begin with a word: `file:` names the file, if it isn't the one that FILE in the folder names; `after:` a text after
+which the change is, if there is one; `old:` is what stands there, and `new:` what takes its place. More than one `old:` or `new:` are
+lines of one text. It stands there once, or once after that text.
 """
 
 import re
