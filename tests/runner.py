@@ -24,6 +24,7 @@ import signal
 import subprocess
 import sys
 import tempfile
+import threading
 import time
 import traceback
 import unittest
@@ -41,6 +42,7 @@ VERSION = (TOP / "VERSION").read_text().strip()
 SLOW, STRICT = (os.environ.get(name, "0") not in ("", "0") for name in ("SLOW", "STRICT"))
 SEED = int(os.environ.get("SEED") or f"{date.today():%Y%m%d}")
 AT_ONCE = len(os.sched_getaffinity(0))
+BUILDING = threading.Lock()
 SHOWN, WIDTH = 40, 400  # lines that are shown of a failure, and characters of a line
 LIMITS = {name: int(limit) for name, limit in re.findall(r"const (\w+): \w+ = ([\d_]+);", (TOP / "crates/crx_base/src/limits.rt").read_text())}
 BUILD = TESTS / "test_build.py"
@@ -150,8 +152,9 @@ def clang():
 def preload():
     """The library that stands before the C library, made of preload.c."""
     built = Path(tempfile.gettempdir()) / "preload.so"
-    if not built.exists():
-        subprocess.run([*clang(), "-O1", "-shared", "-fPIC", "-nostdlib", "-o", built, TESTS / "preload.c"], check=True)
+    with BUILDING:
+        if not built.exists():
+            subprocess.run([*clang(), "-O1", "-shared", "-fPIC", "-nostdlib", "-o", built, TESTS / "preload.c"], check=True)
     return str(built)
 
 
