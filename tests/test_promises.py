@@ -1,5 +1,6 @@
-"""The promises of README.md and the answers of docs/GUARANTEES.md as sentences over random, damaged and other writers' files; and of each the
-tests that ask it. What is right is known without the program: the units that a file was made of, their text, the normal form, each line's fate."""
+"""The promises of README.md and the answers of docs/GUARANTEES.md as sentences over random, damaged and other writers' files; and of each
+the tests that ask it. What is right is known without the program: the units that a file was made of, their text, the normal form, each
+line's fate."""
 
 import random
 import re
@@ -20,8 +21,8 @@ STREAMS, CASES, PLANS = "tests/test_streams.py::", "tests/cases/", "tests/test_a
 PASSES = ("what passes a check comes back", "what a check has status 2 for doesn't come back")
 CONTENT, READ = ("a valid file keeps its content",), ("any writer's text is read", "no other text is accepted")
 LOST = ("a compaction loses no line without a warning", "an expansion loses no line without a warning")
-FAILURES = tuple(STREAMS + name for name in ("test_full_devices", "test_each_write_fails", "test_each_read_fails", "test_each_message_fails"))
-# the tests that ask a sentence, by the words in bold before it: sentences of this file or of test_writers.py, tests of a file, files, folders
+FAILURES = *(STREAMS + f"test_each_{name}_fails" for name in ("write", "read", "message")), STREAMS + "test_full_devices"
+# the tests that ask a sentence, by the words in bold before it: sentences of this file or of test_writers.py, tests, files, folders
 ASKED = {
     "What passes `check` comes back.": PASSES,
     "Any other valid file keeps its content.": CONTENT,
@@ -78,7 +79,7 @@ def told(messages, kind):
 
 
 def parts_of(output):
-    """The units of a RINEX text that was written: a copied line, or the lines of an epoch; each with what it is, and its number of types."""
+    """The units of a RINEX text that was written: a copied line, or an epoch's lines; each with what it is, and its number of types."""
     found = []
     for line in rinex_lines(output.split(b"\n")[:-1]):
         found += [] if line[0] == "satellite" else [[]]
@@ -98,8 +99,8 @@ def is_told(part, own, compact):
 
 
 def left_of(given, output, messages, compact):
-    """The lines of an input without the stretches that warnings tell of; None if these lines aren't, in order, those of the units of the output,
-    and a stretch for each warning, which ends before the next line that begins with `>`."""
+    """The lines of an input without the stretches that warnings tell of; None if these lines aren't, in order, those of the units of the
+    output, and a stretch for each warning, which ends before the next line that begins with `>`."""
     first = 2 if compact else 0
     lines, parts, warnings = contents(given)[first:], parts_of(output), [line - 1 - first for line, _ in told(messages, b"WARNING")]
     begins = [at for at, line in enumerate(lines) if line[:1] == b">" and len(line) <= LIMITS["LINE_LIMIT"]]
@@ -148,7 +149,8 @@ def of_compact(rng, text):
     output, messages, status = run(*words, given=text)
     yield "an expansion is bounded", len(output) <= MOST * len(text), text
     if status == 1:
-        yield "no other fault ends a run that skips", "-s" not in words or {code for _, code in told(messages, b"ERROR")} <= ENDS_A_RUN, text
+        codes = {code for _, code in told(messages, b"ERROR")}
+        yield "no other fault ends a run that skips", "-s" not in words or codes <= ENDS_A_RUN, text
         return
     is_told_of = left_of(text, output, messages, True) is not None
     yield "an expansion loses no line without a warning", is_told_of and status == (2 if messages else 0), text

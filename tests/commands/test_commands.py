@@ -214,7 +214,8 @@ class Places(Installed):
         """All may read what is installed by somebody whose own files are closed to others, and run what is a program."""
         words = [TOP / "packaging/install.sh", self.folder, PROGRAM, LIBRARY]
         self.assert_well(self.run_in(["sh", "-c", 'umask 077 && exec "$@"', "sh", *words]))
-        programs = [self.folder / "bin" / name for name in ALL_NAMES]
+        examples = (self.folder / "share/doc/rnxcmp/examples").iterdir()
+        programs = [*(self.folder / "bin" / name for name in ALL_NAMES), *(it for it in examples if it.read_bytes()[:2] == b"#!")]
         modes = {path: path.stat().st_mode & 0o777 for path in self.folder.rglob("*") if not path.is_symlink()}
         self.assertLess({*programs}, {*modes})
         wrong = {path: oct(mode) for path, mode in modes.items() if mode != (0o755 if path.is_dir() or path in programs else 0o644)}
@@ -304,4 +305,5 @@ class Completions(Installed):
 
     def test_zsh(self):
         need("zsh")
-        self.assert_offered(lambda line: ["zsh", "-f", HERE / "offered.zsh", self.prefix / "share/zsh/site-functions", line, self.folder / "offered"])
+        pages, kept = self.prefix / "share/zsh/site-functions", self.folder / "offered"
+        self.assert_offered(lambda line: ["zsh", "-f", HERE / "offered.zsh", pages, line, kept])
