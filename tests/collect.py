@@ -81,7 +81,7 @@ def of_values(values, codes):
 def tables():
     """The rows of the tables of codes: values and codes."""
     page = (TOP / "docs/FORMATS.md").read_text(encoding="utf-8")
-    both = re.search(r"^\| Values \| Codes \|\n\|---.*\n((?:\|.*\n)+)", page, re.M)[1]
+    both = re.search(r"^\| Values \| Coded values \|\n\|---.*\n((?:\|.*\n)+)", page, re.M)[1]
     wanted = ["20000000.000, 20000100.500, 20000202.000, 20000304.500, 20000408.000", "the same values, the third missing", "9999999999.999 and -999999999.999 in turn, five times"]
     for row, name in zip(both.splitlines(), wanted):
         said, codes = (cell.strip() for cell in row.strip("|").split("|"))
@@ -90,9 +90,9 @@ def tables():
         steady = wanted[0].split(", ")
         values = [steady, [*steady[:2], "", *steady[3:]], ["9999999999.999", "-999999999.999"] * 2 + ["9999999999.999"]][wanted.index(name)]
         yield said, values, ["" if code == "(nothing)" else code.strip("`") for code in codes.split(", ")]
-    for row in re.search(r"^\| Codes \| Values \|\n\|---.*\n((?:\|.*\n)+)", page, re.M)[1].splitlines():
+    for row in re.search(r"^\| Coded values \| Values \|\n\|---.*\n((?:\|.*\n)+)", page, re.M)[1].splitlines():
         codes, values = (cell.strip() for cell in row.strip("|").split("|"))
-        yield codes, re.split(r", (?:then )?", values), [code.strip("`") for code in re.sub(r" as the first code", "", codes).split(", ")]
+        yield codes, re.split(r", (?:then )?", values), [code.strip("`") for code in re.sub(r" as the first one", "", codes).split(", ")]
 
 
 def worked():
