@@ -1,4 +1,4 @@
-"""rnxcmp-file on disks of all kinds, and power cuts: what only root can try (make files-test). Each disk goes with the test.
+"""rnxcmp-file on disks of all kinds, and power cuts: what only root can try. Each disk goes with the test.
 
 A power cut is the call of ext4 that stops all writing at once (EXT4_IOC_SHUTDOWN), at a random moment, on a disk in a file; then it is
 mounted again, and what is there is looked at: every input as it was, each output the old or the whole new one, and all that was called
