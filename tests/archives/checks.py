@@ -191,8 +191,9 @@ def checks(program):
             if heading == "A compaction every night":
                 yield f"{heading}: its lists", lambda: check_lists(work)
         yield from hostile.checks(environment)
-        yield "the next nights", lambda: check_next_nights(work, environment)
-        yield "reasons of the night", lambda: check_reasons(work, environment)
+        before = "" if (work / "nightly.sh").exists() else "its recipe, A check every night, wasn't chosen"
+        yield "the next nights", lambda: before or check_next_nights(work, environment)
+        yield "reasons of the night", lambda: before or check_reasons(work, environment)
         yield "RTKLIB", lambda: check_rtklib(work, environment)
 
 
