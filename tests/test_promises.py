@@ -2,16 +2,13 @@
 the tests that ask it. What is right is known without the program: the units that a file was made of, their text, the normal form, each
 line's fate."""
 
-import random
 import re
 import unittest
-from collections import Counter
-from concurrent.futures import ProcessPoolExecutor
 
 import test_writers
 from relation import NoSuchText, contents, normal_form, normal_line, rinex_lines
-from runner import AT_ONCE, LIMITS, SEED, SLOW, TOP, run
-from test_writers import spelled
+from runner import LIMITS, SLOW, TOP, run
+from test_writers import asked, spelled
 from texts import Copied, Epoch, Writer, damaged, rinex, types_line, units
 
 FILES = 4000 if SLOW else 200
@@ -22,54 +19,48 @@ PASSES = ("what passes a check comes back", "what a check has status 2 for doesn
 CONTENT, READ = ("a valid file keeps its content",), ("any writer's text is read", "no other text is accepted")
 LOST = ("a compaction loses no line without a warning", "an expansion loses no line without a warning")
 FAILURES = *(STREAMS + f"test_each_{name}_fails" for name in ("write", "read", "message")), STREAMS + "test_full_devices"
-# the tests that ask a sentence, by the words in bold before it: sentences of this file or of test_writers.py, tests, files, folders
-ASKED = {
-    "What passes `check` comes back.": PASSES,
-    "Any other valid file keeps its content.": CONTENT,
-    "Other programs' compact text is read by the rules, or refused.": READ,
-    "Nothing is lost silently.": (*LOST, *FAILURES),
-    "Damage stays local.": ("what damage costs",),
-    "Does a file that passes `check` come back?": PASSES,
-    "Does any other file without faults?": CONTENT,
-    "Which files have the same compact text?": ("another spelling is compacted alike",),
-    "What changes when it is done again?": ("compacting again changes nothing", "expanding again changes nothing"),
-    "Is compact text of other programs read?": READ,
-    "May a filter write other text that reads back?": ("compact text is as defined", *READ, CASES),
-    "When is a file standard?": ("a file in normal form is standard, and no other",),
-    "Is `standard yes` right?": ("a file in normal form is standard, and no other", *PASSES, CASES + "check"),
-    "Is the output of `crx2rnx` standard?": ("what is expanded is standard",),
-    "Which fault is reported?": ("the first fault is reported", CASES + "codes"),
-    "What does `-s` skip?": (*LOST, "to skip is to leave out", CASES + "skipping"),
-    "What does `-s` not skip?": ("no other fault ends a run that skips",),
-    "Is a line lost silently?": LOST,
-    "Does `check` find what `rnx2crx` finds?": ("a check tells of a compaction",),
-    "Is a cut noticed?": ("a cut is noticed",),
-    "Is noise noticed?": ("noise is noticed",),
-    "Is other damage noticed?": ("damage that isn't noticed",),
-    "What does the message name?": FAILURES,
-    "Is output in time?": (STREAMS + "test_each_epoch", STREAMS + "test_warnings_in_order"),
-    "How often is the output flushed?": ("crates/crx_tests/src/failures.rt",),
-    "What does status 0 or 2 mean?": FAILURES,
-    "Can a signal cut a run?": (STREAMS + "test_interrupted_reads", STREAMS + "test_interrupted_calls_are_made_again"),
-    "Is a close that fails seen?": (STREAMS + "test_a_close_that_fails_is_not_seen",),
-    "What do I get out of a damaged file?": ("what damage costs",),
-    "What does a flipped bit cost?": ("what damage costs", "blocks are short"),
-    "When is nothing promised?": ("a line of a stretch reads as an event's first one",),
-    "What if an event is hit?": ("a line of a stretch reads as an event's first one", CASES + "damage"),
-    "What do I get out of a file that was cut off?": ("a cut is noticed",),
-    "Can I expand a block on its own?": ("a block is expanded alone", "examples/parallel.py"),
-    "Can I join hours into a day?": ("hours make a day",),
-    "What bounds a run's memory?": ("tests/test_memory.py::test_no_growth_after_the_first_epochs",),
-    "How much is that?": ("bench/README.md",),
-    "When may memory run out?": ("tests/test_memory.py::test_lines_that_code_22_names",),
-    "How much can an expansion write?": ("an expansion is bounded",),
-    "What do they mean?": (PLANS,),
-    "What is done then?": (PLANS, CASES + "files"),
-    "Is the output exact?": (*FAILURES, *PASSES, *CONTENT, *READ, *LOST),
-    "And after a failure?": FAILURES,
-    "Which files are opened?": (STREAMS + "test_files_that_a_run_opens",),
-    "What do refused arguments touch?": (STREAMS + "test_files_that_a_run_opens", CASES + "refusals"),
-}  # those about the library are asked by tests/library
+# tests (sentences of this file or of test_writers.py, tests, files, folders), and the words in bold before each sentence that they ask
+ASKED_BY = (
+    (PASSES, ["What passes `check` comes back.", "Does a file that passes `check` come back?"]),
+    (CONTENT, ["Any other valid file keeps its content.", "Does any other file without faults?"]),
+    (READ, ["Other programs' compact text is read by the rules, or refused.", "Is compact text of other programs read?"]),
+    ((*LOST, *FAILURES), ["Nothing is lost silently."]),
+    (("what damage costs",), ["Damage stays local.", "What do I get out of a damaged file?"]),
+    (("another spelling is compacted alike",), ["Which files have the same compact text?"]),
+    (("compacting again changes nothing", "expanding again changes nothing"), ["What changes when it is done again?"]),
+    (("compact text is as defined", *READ, CASES), ["May a filter write other text that reads back?"]),
+    (("a file in normal form is standard, and no other",), ["When is a file standard?"]),
+    (("a file in normal form is standard, and no other", *PASSES, CASES + "check"), ["Is `standard yes` right?"]),
+    (("what is expanded is standard",), ["Is the output of `crx2rnx` standard?"]),
+    (("the first fault is reported", CASES + "codes"), ["Which fault is reported?"]),
+    ((*LOST, "to skip is to leave out", CASES + "skipping"), ["What does `-s` skip?"]),
+    (("no other fault ends a run that skips",), ["What does `-s` not skip?"]),
+    (LOST, ["Is a line lost silently?"]),
+    (("a check tells of a compaction",), ["Does `check` find what `rnx2crx` finds?"]),
+    (("a cut is noticed",), ["Is a cut noticed?", "What do I get out of a file that was cut off?"]),
+    (("noise is noticed",), ["Is noise noticed?"]),
+    (("damage that isn't noticed",), ["Is other damage noticed?"]),
+    (FAILURES, ["What does the message name?", "What does status 0 or 2 mean?", "And after a failure?"]),
+    ((STREAMS + "test_each_epoch", STREAMS + "test_warnings_in_order"), ["Is output in time?"]),
+    (("crates/crx_tests/src/failures.rt",), ["How often is the output flushed?"]),
+    ((STREAMS + "test_interrupted_reads", STREAMS + "test_interrupted_calls_are_made_again"), ["Can a signal cut a run?"]),
+    ((STREAMS + "test_a_close_that_fails_is_not_seen",), ["Is a close that fails seen?"]),
+    (("what damage costs", "blocks are short"), ["What does a flipped bit cost?"]),
+    (("a line of a stretch reads as an event's first one",), ["When is nothing promised?"]),
+    (("a line of a stretch reads as an event's first one", CASES + "damage"), ["What if an event is hit?"]),
+    (("a block is expanded alone", "examples/parallel.py"), ["Can I expand a block on its own?"]),
+    (("hours make a day",), ["Can I join hours into a day?"]),
+    (("tests/test_memory.py::test_no_growth_after_the_first_epochs",), ["What bounds a run's memory?"]),
+    (("bench/README.md",), ["How much is that?"]),
+    (("tests/test_memory.py::test_lines_that_code_22_names",), ["When may memory run out?"]),
+    (("an expansion is bounded",), ["How much can an expansion write?"]),
+    ((PLANS,), ["What do they mean?"]),
+    ((PLANS, CASES + "files"), ["What is done then?"]),
+    ((*FAILURES, *PASSES, *CONTENT, *READ, *LOST), ["Is the output exact?"]),
+    ((STREAMS + "test_files_that_a_run_opens",), ["Which files are opened?"]),
+    ((STREAMS + "test_files_that_a_run_opens", CASES + "refusals"), ["What do refused arguments touch?"]),
+)  # those about the library are asked by tests/library
+ASKED = {title: names for names, titles in ASKED_BY for title in titles}
 NAMES = {name for names in ASKED.values() for name in names if "/" not in name} - {*test_writers.NAMES}
 
 
@@ -223,32 +214,25 @@ def of_hours(rng, made):
     yield "hours make a day", run("crx2rnx", given=text) == (rinex(made) + rinex(second[1:]), b"", 0), text
 
 
-def part(job):
-    """What was asked of some files, and what is wrong."""
-    seed, count = job
-    rng, counts, wrong = random.Random(seed), Counter(), []
-    for _ in range(count):
+def of_any(rng, _):
+    """All sentences about a random file."""
+    made = units(rng)
+    while b"\r" in rinex(made):
         made = units(rng)
-        while b"\r" in rinex(made):
-            made = units(rng)
-        file, text = rinex(made), Writer(rng).text(made)
-        own, other = run("rnx2crx", given=file)[0], spelled(rng, file)
-        found = [it for one in (file, other, damaged(rng, file), damaged(rng, other)) for it in of_files(rng, one)]
-        found += [it for one in (text, own, damaged(rng, text), damaged(rng, own)) for it in of_compact(rng, one)]
-        for name, is_right, given in (*found, *of_damage(rng, made), *of_damage(rng, made), *of_hours(rng, made)):
-            counts[name] += 1
-            wrong += [] if is_right else [f"seed {seed}, {name}: {given!r}"]
-    return counts, wrong
+    file, text = rinex(made), Writer(rng).text(made)
+    own, other = run("rnx2crx", given=file)[0], spelled(rng, file)
+    for one in (file, other, damaged(rng, file), damaged(rng, other)):
+        yield from of_files(rng, one)
+    for one in (text, own, damaged(rng, text), damaged(rng, own)):
+        yield from of_compact(rng, one)
+    for ask in (of_damage, of_damage, of_hours):
+        yield from ask(rng, made)
 
 
 class Promises(unittest.TestCase):
     def test_random_files(self):
-        counts, wrong, each = Counter(), [], -(-FILES // (4 * AT_ONCE))
-        with ProcessPoolExecutor(AT_ONCE) as pool:
-            for more, failures in pool.map(part, [(SEED * 1000 + number, each) for number in range(4 * AT_ONCE)]):
-                counts.update(more)
-                wrong += failures
-        self.assertEqual(wrong[:20], [])
+        counts, wrong = asked(of_any, FILES)
+        self.assertEqual(wrong, [])
         self.assertEqual(NAMES ^ {*counts}, set(), "never asked, or of no promise")
 
     def test_each_promise_is_asked(self):

@@ -208,16 +208,29 @@ def of_files(rng, made):
             yield "a file in normal form is standard, and no other", (status == 0) == is_standard == report.endswith(b"\nstandard yes\n"), one
 
 
+def of_any(rng, at):
+    """All questions about a random file."""
+    made = cut_units(rng, units_of(rng.choice(FILES))) if FILES and at % 2 else lengthened(rng, other_flags(rng, units(rng)))
+    yield from of_texts(rng, made)
+    yield from of_files(rng, made) if at % 4 == 0 else ()
+
+
 def part(job):
     """What was asked of some files, and what is wrong."""
-    seed, count = job
+    ask, seed, count = job
     rng, counts, wrong = random.Random(seed), Counter(), []
-    for at in range(count):
-        made = cut_units(rng, units_of(rng.choice(FILES))) if FILES and at % 2 else lengthened(rng, other_flags(rng, units(rng)))
-        for name, is_right, text in (*of_texts(rng, made), *(of_files(rng, made) if at % 4 == 0 else ())):
-            counts[name] += 1
-            wrong += [] if is_right else [f"seed {seed}, {name}: {text!r}"]
+    for name, is_right, text in (it for at in range(count) for it in ask(rng, at)):
+        counts[name] += 1
+        wrong += [] if is_right else [f"seed {seed}, {name}: {text!r}"]
     return counts, wrong
+
+
+def asked(ask, count):
+    """What was asked of so many files, and what is wrong, in a process for each processor."""
+    jobs = [(ask, SEED * 1000 + number, -(-count // (4 * AT_ONCE))) for number in range(4 * AT_ONCE)]
+    with ProcessPoolExecutor(AT_ONCE) as pool:
+        found = [*pool.map(part, jobs)]
+    return sum((counts for counts, _ in found), Counter()), [line for _, wrong in found for line in wrong][:20]
 
 
 NAMES = ["any writer's text is read", "other text that is compact text of a file is read", "no other text is accepted", "compact text is as defined",
@@ -232,11 +245,7 @@ class Writers(unittest.TestCase):
             self.assertEqual(getattr(texts, name), LIMITS[name])
 
     def test_random_files(self):
-        counts, wrong, each = Counter(), [], -(-TEXTS // (4 * AT_ONCE))
-        with ProcessPoolExecutor(AT_ONCE) as pool:
-            for more, failures in pool.map(part, [(SEED * 1000 + number, each) for number in range(4 * AT_ONCE)]):
-                counts.update(more)
-                wrong += failures
-        self.assertEqual(wrong[:20], [])
+        counts, wrong = asked(of_any, TEXTS)
+        self.assertEqual(wrong, [])
         if TEXTS >= 1000:
             self.assertEqual([name for name in NAMES if not counts[name]], [], "never asked")
