@@ -1,5 +1,4 @@
-"""An archive of many files, one in fifty bad: a check, a run in several processes that is killed in the middle, and the same again (make
-files-test)."""
+"""An archive of many files, one in fifty bad: a check, a run in several processes that is killed in the middle, and the same again."""
 
 import os
 import re
