@@ -37,7 +37,6 @@ STATED = {
         "one digit from 0 to ORDER_LIMIT", "with the order WRITTEN_ORDER;", "orders from 0 to ORDER_LIMIT",
     ),
     "docs/DECISIONS.md": ("is fed while READY_LIMIT bytes wait",),
-    "docs/FILES.md": ("find bugs, TOOL_BUGS were planted in the tool",),
     "docs/GUARANTEES.md": (
         "stops after INPUT_LIMIT bytes", "has at most INPUT_LIMIT",
         "About USUAL_MEMORY MB over usual files, and about GREATEST_MEMORY MB at the limits", "At most PRINTED_ENDED times as many bytes",
@@ -46,7 +45,7 @@ STATED = {
     "docs/READING.md": ("first: FIRST_DEFINITIONS definitions in FIRST_LINES lines",),
     "docs/LIBRARY.md": (
         "at most PRINTED_ENDED times as long as its input", "program needs about GREATEST_MEMORY MB", "parts of at most READY_LIMIT bytes",
-        "While READY_LIMIT bytes are ready", "find bugs, LIBRARY_BUGS were planted", "all IDENTIFIERS satellites",
+        "While READY_LIMIT bytes are ready", "all IDENTIFIERS satellites",
     ),
     "docs/USE.md": ("N is from 1 to EVERY", "at most DATE_LIMIT bytes"),
     "packaging/man/rnxcmp.1": (
@@ -97,8 +96,8 @@ def spelled():
 def numbers():
     """The limits by their names, and what follows from them: the longest line of an epoch with its LF, and the most MB of a text that a handle
     keeps. NO_FAULT is the first number that no fault has, EVERY the greatest N of -e. Then come how many definitions one has to believe, how
-    many for the first promise and in how many lines; the proofs that are written by hand; the lines of C of the library; the bugs that tests plant; and the greatest
-    memory of the program over a usual file and at the limits, in MB, by the table of bench/README.md."""
+    many for the first promise and in how many lines; the proofs that are written by hand; the lines of C of the library; and the greatest memory
+    of the program over a usual file and at the limits, in MB, by the table of bench/README.md."""
     found = limits()
     command = (TOP / "crates/crx_command/src/command.rt").read_text(encoding="utf-8")
     waiting = found["READY_LIMIT"] + 2 * (found["SATELLITES_LIMIT"] + 2) * (found["LINE_LIMIT"] + 1)
@@ -119,8 +118,6 @@ def numbers():
         "FIRST_LINES": lines_of(book.contents[0].items),
         "HAND_PROOFS": sum(1 for _ in (TOP / "crates").glob("*/proofs/**/Proof.antt")),
         "C_LINES": sum(len(path.read_text(encoding="utf-8").splitlines()) for path in (TOP / "library").glob("*.c")),
-        "TOOL_BUGS": sum(1 for _ in (TOP / "tests/mutants/files").rglob("*.edit")),
-        "LIBRARY_BUGS": sum(1 for _ in (TOP / "tests/mutants/library").rglob("*.edit")),
         "USUAL_MEMORY": round(usual / 1000),
         "GREATEST_MEMORY": round(max(at_the_limits) / 1000),
     }
