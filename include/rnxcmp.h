@@ -24,7 +24,7 @@
  *         fprintf(stderr, "%s\n", rnxcmp_status_words(status));
  *     }
  *
- * Any number of threads may call at once, but for a handle one at a time. No call keeps a pointer, opens a file, prints or ends the
+ * Any number of threads may call at once, except on the same handle. No call keeps a pointer, opens a file, prints or ends the
  * process. The input, the two rooms and the answer must not overlap, and nothing else may change them during the call. A call needs 256
  * KiB of stack. It allocates by malloc: for each text less than twice the bytes that its room holds, three times while realloc copies;
  * the state that the run needs of earlier lines; and, if it compacts or expands, 10.4 MB at its start, of which usual files use a
