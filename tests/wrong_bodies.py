@@ -169,6 +169,7 @@ def tried(crate, edits, room, kept):
 
 def tried_in_rounds(crate, edits, room):
     """Tries a crate's edits, each round over the proofs of unchanged functions that the rounds before it kept; returns their verdicts."""
+    prove.LOGS.mkdir(parents=True, exist_ok=True)
     with tempfile.TemporaryDirectory(dir=prove.LOGS.parent) as kept:
         return [found for some in rounds(edits) for found in tried(crate, some, room, kept)]
 
