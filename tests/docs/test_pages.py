@@ -360,7 +360,8 @@ def systems():
     """Whether at most four files have the letters of the systems typed in, and docs/FORMATS.md names each of them."""
     letters = spelled()[0]
     kinds = (("crates", "rt"), ("crates", "antt"), ("tests", "py"), ("bench", "py"), ("docs", "py"), ("python", "py"))
-    files = [path for folder, kind in kinds for path in (TOP / folder).rglob(f"*.{kind}") if letters in path.read_text(encoding="utf-8")]
+    sources = [path for folder, kind in kinds for path in (TOP / folder).rglob(f"*.{kind}") if "out" not in path.parts]
+    files = [path for path in sources if letters in path.read_text(encoding="utf-8")]
     paragraphs = (TOP / "docs/FORMATS.md").read_text(encoding="utf-8").split("\n\n")
     is_there = any("".join(re.findall(r"`([A-Z])`", it)) == letters for it in paragraphs)
     wrong = [] if is_there else ["no paragraph of docs/FORMATS.md has them in order"]
