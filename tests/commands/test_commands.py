@@ -169,13 +169,13 @@ class Printed(Installed):
 
 class Names(Installed):
     def test_other_names(self):
-        """They run, over the path and by their own, and what they write is right."""
-        shutil.copy(SAMPLE, self.folder / "a.rnx")
+        """They run, over the path and by their own, and what they write is right, of a name with a blank too."""
+        shutil.copy(SAMPLE, self.folder / "a b.rnx")
         for compacting, expanding in (("RNX2CRX", "CRX2RNX"), ("rnx2crx", "crx2rnx")):
             for place in ("", f"{self.prefix}/bin/"):
-                for name, file in ((compacting, "a.rnx"), (expanding, "a.crx")):
+                for name, file in ((compacting, "a b.rnx"), (expanding, "a b.crx")):
                     self.assert_well(self.run_in([place + name, "-f", file], "/usr/bin" if place else None))
-        self.assertEqual((self.folder / "a.rnx").read_bytes(), SAMPLE.read_bytes())
+        self.assertEqual((self.folder / "a b.rnx").read_bytes(), SAMPLE.read_bytes())
 
     def test_links(self):
         """A symbolic link in another folder, of which a command is called by its path and by its name, finds the program beside what it
