@@ -211,5 +211,5 @@ def main(words):
 if __name__ == "__main__":
     signal.signal(signal.SIGTERM, lambda *_: sys.exit(143))
     passed, failed = main(sys.argv[1:])
-    print(f"{passed} passed, {failed} failed")
-    sys.exit(1 if failed else 0)
+    print(f"{passed} passed, {failed} failed" if passed + failed else "there is no such edit")
+    sys.exit(0 if passed and not failed else 1)
