@@ -23,7 +23,7 @@ _START = "the file's beginning is lost or damaged"
 ERRORS: Dict[int, Entry] = {
     1: Entry("a shorter line: docs/FORMATS.md has the limit", ("line ends are lost", "this isn't a text file"), _FETCH),
     2: Entry("a shorter file: docs/FORMATS.md has the limit", ("this isn't an observation file",), "check the file's name"),
-    3: Entry("the first line of RINEX, with `RINEX VERSION / TYPE` in columns 61 to 80", (_START, "this isn't RINEX"), _FETCH),
+    3: Entry("the first line of RINEX, with `RINEX VERSION / TYPE` in columns 61 to 80", (_START, "the file is packed or empty, or isn't RINEX"), _FETCH),
     4: Entry("`3`, `3.0`, or `3.0` and one digit in columns 1 to 9", ("this is another version of RINEX", "a character of the version is wrong"),
              "use a program for that version, or correct the character"),
     5: Entry("`O` in column 21, for observation data", ("this is another type of file, such as navigation data", "column 21 is wrong"),
@@ -40,7 +40,7 @@ ERRORS: Dict[int, Entry] = {
               ("the count of the last epoch or event is too small", "an epoch line is lost or damaged", "a line is too many, such as a blank line"),
               "correct the count or remove the line; -s drops the lines up to the next epoch"),
     11: Entry("a flag in column 32, a count in columns 33 to 35, no `&` up to column 41, and blanks from column 57 on",
-              ("a character of the date, the flag or the count is wrong", _SHIFTED, "a line end is lost"), _CORRECT),
+              ("a character of the flag or the count is wrong", _SHIFTED, "a line end is lost"), _CORRECT),
     12: Entry("in columns 42 to 56 blanks, or a number with 12 digits after its point", ("a character of the number is wrong", _SHIFTED), _CORRECT),
     13: Entry("in columns 1 to 3 the letter of a system that has types, and a number of two digits",
               ("a character of the identifier is wrong", "the header has no types line for this system", "a line is lost or too many"), _CORRECT),
