@@ -200,7 +200,7 @@ def wanted(plan):
 
 def run(words, given=b"", before=None, **more):
     """Runs the program in a folder with these files: its output, messages and status, and the files that are there then."""
-    left, *answer = with_messages(lambda: run_once(words, given, before, **more))
+    left, *answer = with_messages(words, lambda: run_once(words, given, before, **more))
     return *answer, left
 
 

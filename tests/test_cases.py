@@ -126,7 +126,7 @@ def small_stack():
 
 def run(words, data=b"", files=None, piece=None):
     """Runs the program in a folder with these files, on a small stack: standard input at once, or so many bytes a read."""
-    left, output, messages, status = with_messages(lambda: run_once(words, data, files, piece))
+    left, output, messages, status = with_messages(words, lambda: run_once(words, data, files, piece))
     return Answer(output, messages, status, left)
 
 
