@@ -10,8 +10,9 @@ use crx_base::limits::NAME_WIDTH;
 use crx_text::columns::{character, trim_columns, trim_end_columns};
 pub use crx_text::columns::{after_columns, all_blank, padded};
 
-/// Returns the number in three columns from `first` on: digits, with blanks before or after them. Returns
-/// `None` for anything else. Inlined, because it is shorter if `first` is known.
+/// Returns the number in the three columns of `line` from `first` on (the first column is 1): digits, with
+/// blanks before or after them. Returns `None` for anything else, also if all three are blank or after the
+/// line's end. Inlined, because it is shorter if `first` is known.
 #[inline(always)]
 pub fn number(line: &[u8], first: usize) -> Option<usize>
     requires from_one { 1 ≤ first }
@@ -32,14 +33,14 @@ pub fn number(line: &[u8], first: usize) -> Option<usize>
     Some(number)
 }
 
-/// Returns whether a header line has this label in columns 61 to 80.
+/// Returns whether columns 61 to 80 of a header line hold `label` and only blanks after it.
 pub fn is_labelled(line: &[u8], label: &[u8]) -> bool
     ensures value { result ≡ has_label label.now line.now }
 {
     trim_end_columns(line, 61, 20) == label
 }
 
-/// Returns the identifier in three columns from `first` on, with blanks after the line's end.
+/// Returns the three characters from column `first` on, unchecked, with blanks after the line's end.
 #[inline(always)]
 pub fn identifier(line: &[u8], first: usize) -> [u8; NAME_WIDTH]
     requires from_one { 1 ≤ first }
@@ -57,8 +58,8 @@ pub fn identifier(line: &[u8], first: usize) -> [u8; NAME_WIDTH]
     ]
 }
 
-/// Writes an identifier over the bytes from `at` on. The three bytes are stored singly, because a copy would
-/// test whether the two texts overlap.
+/// Writes `name` over the three bytes from index `at` on. They are stored singly, because a copy would test
+/// whether the two texts overlap.
 #[inline(always)]
 pub fn put_identifier(bytes: &mut [u8], at: usize, name: [u8; NAME_WIDTH])
     requires { at + NAME_WIDTH ≤ length bytes.old }

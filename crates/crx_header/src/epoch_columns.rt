@@ -27,15 +27,15 @@ pub fn is_event_line(line: &[u8]) -> bool
     begins_epoch(line) && is_event_flag(character(line, 32))
 }
 
-/// Returns whether a flag in column 32 marks an event: 2 to 5, or 6 for cycle slip records.
+/// Returns whether `flag`, a character in column 32, marks an event: 2 to 5, or 6 for cycle slip records.
 pub fn is_event_flag(flag: u8) -> bool
     ensures value { result ≡ is_event_flag flag }
 {
     matches!(flag, b'2'..=b'6')
 }
 
-/// Returns how many records follow an event, from columns 33 to 35: 0 if they are blank, and `None` if they
-/// hold no count.
+/// Returns how many records follow an event, from columns 33 to 35 of its first line: 0 if they are blank,
+/// and `None` if they hold no number.
 pub fn records_in(line: &[u8]) -> Option<usize>
     ensures value { result ≡ records_in line.now }
 {
@@ -46,7 +46,7 @@ pub fn records_in(line: &[u8]) -> Option<usize>
     }
 }
 
-/// Returns whether a flag in column 32 marks an observation epoch: 0, or 1 for a power failure.
+/// Returns whether `flag`, a character in column 32, marks an observation epoch: 0, or 1 for a power failure.
 #[inline(always)]
 pub fn is_observation_flag(flag: u8) -> bool
     ensures value { result ≡ is_observation_flag flag }
@@ -54,9 +54,9 @@ pub fn is_observation_flag(flag: u8) -> bool
     matches!(flag, b'0' | b'1')
 }
 
-/// Returns how many satellites columns 1 to 41 announce, or `None` unless they are those of an observation
-/// epoch: `>`, a flag in column 32 of 0, or 1 for a power failure, a count in columns 33 to 35 within the
-/// limit, and only allowed characters.
+/// Returns how many satellites `columns`, columns 1 to 41 of a line, announce. Returns `None` unless they
+/// begin an observation epoch: `>`, the flag 0, or 1 for a power failure, in column 32, a count of at most
+/// [`SATELLITES_LIMIT`] in columns 33 to 35, and only characters from 32 to 126 other than `&`.
 pub fn satellites(columns: &[u8]) -> Option<usize>
     ensures value { result ≡ epoch_count columns.now }
     ensures within { IfSome result (λ count. count ≤ SATELLITES_LIMIT) }
@@ -67,7 +67,8 @@ pub fn satellites(columns: &[u8]) -> Option<usize>
     satellites_by_count(columns)
 }
 
-/// Does the same as [`satellites`] for columns that begin with `>` and have the flag of an observation epoch.
+/// Does the same as [`satellites`] for columns with `>` and the flag of an observation epoch, which it
+/// doesn't test. Returns `None` if a character isn't allowed, or columns 33 to 35 hold no count.
 #[inline(always)]
 pub fn satellites_by_count(columns: &[u8]) -> Option<usize>
     ensures value { result ≡ (if list_all is_kept columns.now then satellites_in columns.now else None) }

@@ -12,8 +12,8 @@ use crx_text::columns::{character, trim_columns};
 /// Checks the first line of a header, `RINEX VERSION / TYPE` (RINEX 3.05, table A2).
 ///
 /// Returns `MissingVersion` if columns 61 to 80 hold another label; otherwise `UnsupportedVersion` if the
-/// version in columns 1 to 9 is none of `3`, `3.0` and `3.0` with one more digit; otherwise `NotObservation` if
-/// column 21 isn't `O`.
+/// version in columns 1 to 9 is none of `3`, `3.0` and `3.0` with one more digit; otherwise `NotObservation`
+/// if column 21 isn't `O`.
 pub fn header_first(line: &[u8]) -> Result<(), Fault>
     ensures fault { MatchResult result
         (λ _. first_header_fault line.now ≡ None)

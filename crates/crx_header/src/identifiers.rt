@@ -46,7 +46,7 @@ impl Identifiers {
         }
     }
 
-    /// Adds an identifier, and returns `false` if it was in the set already.
+    /// Adds `name` and returns `true`. If it was in the set already, returns `false` and changes nothing.
     #[inline(always)]
     pub fn put(&mut self, name: [u8; NAME_WIDTH]) -> bool
         requires named { is_identifier name ≡ true }

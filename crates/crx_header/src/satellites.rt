@@ -9,8 +9,8 @@ ghost use Rattle.crx_header.specs.meaning.Satellites.{is_identifier, types_of_sa
 use crate::types::Types;
 use crx_text::columns::character;
 
-/// Returns how many types the satellite of a line has, or `None` unless the line begins with an identifier of a
-/// system with types.
+/// Returns how many types the satellite of a line has, by its system's letter in column 1. Returns `None` if
+/// this system has no types, column 2 is neither a digit nor a blank, or column 3 is no digit.
 #[inline(always)]
 #[tactic(auto, using(crate::proofs::FirstColumns::identifier_columns))]
 pub fn types_of_satellite(types: &Types, line: &[u8]) -> Option<usize>

@@ -47,7 +47,7 @@ impl Model for Types {
 }
 
 impl Types {
-    /// Returns an empty list of types.
+    /// Returns an empty list: no system has types.
     pub fn new(alloc: Global) -> Types
         ensures empty { result ≡ [] }
     {
@@ -57,12 +57,13 @@ impl Types {
         }
     }
 
-    /// Accepts a header line. A line with the label `SYS / # / OBS TYPES` and a letter in column 1 (RINEX 3.05,
-    /// table A2) replaces the count of its system; any other line, also a continuation, changes nothing.
+    /// Accepts a header line. If its label is `SYS / # / OBS TYPES` and column 1 isn't blank (RINEX 3.05,
+    /// table A2), the count in columns 4 to 6 becomes the count of the system in column 1. Any other line,
+    /// also a continuation, changes nothing.
     ///
-    /// Returns `BadTypesLine` if column 1 of such a line is no system's letter, or columns 4 to 6 hold no count
-    /// from 1 to the limit; and `OutOfMemory` only if such a line is valid and no system has types yet, because
-    /// room for all systems is reserved at once. After either the types are unchanged.
+    /// Returns `BadTypesLine` if column 1 of such a line is no system's letter, or columns 4 to 6 hold no
+    /// count from 1 to [`TYPES_LIMIT`]. Returns `OutOfMemory` only if such a line is valid and no system has
+    /// types yet, because room for all systems is reserved at once. After either the types are unchanged.
     pub fn accept_line(&mut self, line: &[u8]) -> Result<(), Fault>
         // The accepted lines declare the types.
         ensures declared { (lines : List (List ℕ)) → self.old ≡ types_of lines
@@ -90,7 +91,7 @@ impl Types {
         Ok(())
     }
 
-    /// Returns how many types a system has, by its letter, or `None` if it has none.
+    /// Returns how many types the system with this `letter` has, or `None` if it has none.
     #[inline(always)]
     #[tactic(auto, using(crate::proofs::Counts::absent_by_letter, crate::proofs::Counts::present_by_letter))]
     pub fn count(&self, letter: u8) -> Option<usize>
@@ -114,7 +115,7 @@ impl Types {
         self.counts.len()
     }
 
-    /// Returns the letter of the system at place `index`, from 0, and how many types it has.
+    /// Returns the letter and the count of the system at place `index`, from 0, or `None` after the last.
     #[inline(always)]
     pub fn entry(&self, index: usize) -> Option<(u8, usize)>
         ensures value { result ≡ slice_get self.now index }
@@ -125,8 +126,9 @@ impl Types {
     }
 }
 
-/// Replaces the count of a system, or adds it after the other counts. Reserves room for all systems if none has
-/// types yet, or returns `Refused` if memory is refused; later no more room is needed.
+/// Replaces the count of the system with this `letter`, or adds it after the other counts. Reserves room for
+/// all systems if none has types yet, so that later no more room is needed. If that memory is refused, it
+/// returns `Refused` and changes nothing.
 #[tactic(auto, using(crate::proofs::Counts::put_counts))]
 fn put(counts: &mut IndexMap<u8, usize>, letter: u8, count: usize) -> Result<(), Refused>
     requires counts { AreCounts counts.old.entries }
@@ -147,8 +149,8 @@ fn put(counts: &mut IndexMap<u8, usize>, letter: u8, count: usize) -> Result<(),
     Ok(())
 }
 
-/// Returns whether a line begins the list of a system's types: its label is `SYS / # / OBS TYPES`, and column 1
-/// isn't blank (RINEX 3.05, table A2). With a blank it continues such a list.
+/// Returns whether a line begins the list of a system's types: its label is `SYS / # / OBS TYPES`, and column
+/// 1 isn't blank (RINEX 3.05, table A2). With a blank it continues such a list.
 pub fn is_types(line: &[u8]) -> bool
     ensures value { result ≡ is_types_line line.now }
 {
