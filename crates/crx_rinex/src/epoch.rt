@@ -102,7 +102,7 @@ impl Epoch {
         &self.head
     }
 
-    /// Returns the row at place `index`, from 0.
+    /// Returns the row at place `index`, from 0, or `None` if the epoch has no more than `index` rows.
     pub fn row(&self, index: usize) -> Option<&SatRow>
         ensures value { option_copied result ≡ slice_get self.now.rows index }
         ensures sound { IfSome result (λ row. IsSoundRow row.now) }

@@ -39,11 +39,12 @@ impl Model for EpochLine {
 }
 
 impl EpochLine {
-    /// Makes a line of columns 1 to 41 and a receiver clock offset, in units of 10^-12 seconds.
+    /// Makes a line of `columns`, columns 1 to 41, and `clock`, an offset in units of 10^-12 seconds, or
+    /// none.
     ///
-    /// Returns `BadEpoch` unless the columns are those of an observation epoch: `>` in column 1, a flag of 0 or
-    /// 1 in column 32, a count of satellites within the limit in columns 33 to 35, and only characters from 32
-    /// to 126 other than `&` (RINEX 3.05, table A3).
+    /// Returns `BadEpoch` unless the columns begin an observation epoch: `>` in column 1, a flag of 0 or 1 in
+    /// column 32, a count of satellites within the limit in columns 33 to 35, and only characters from 32 to
+    /// 126 other than `&` (RINEX 3.05, table A3).
     pub fn new(columns: [u8; HEAD_WIDTH], clock: Option<i64>) -> Result<EpochLine, Fault>
         requires { ForSome clock IsClock }
         ensures value { MatchResult result
@@ -68,7 +69,7 @@ impl EpochLine {
         &self.head
     }
 
-    /// Returns how many satellites the epoch has.
+    /// Returns how many satellites the line announces.
     pub fn count(&self) -> usize
         ensures value { result ≡ self.now.count }
         ensures sound { IsObservationHead self.now }
@@ -100,12 +101,13 @@ pub enum Head {
 }
 
 impl Head {
-    /// Reads a line where an epoch may begin (RINEX 3.05, table A3).
+    /// Reads the first line of an event or of an observation epoch (RINEX 3.05, table A3).
     ///
     /// Returns `NotAnEpoch` if column 1 isn't `>`; otherwise `BadEpoch` if the flag in column 32 is none of 0
-    /// to 6, if columns 33 to 35 hold no count, or if an observation epoch has a character in columns 1 to 41
-    /// that isn't allowed, or more than blanks after column 56; otherwise `BadClock` if columns 42 to 56 hold
-    /// neither blanks nor a number of format F15.12.
+    /// to 6, if columns 33 to 35 hold no count (blanks are 0 records for an event), or if an observation
+    /// epoch has `&` or a character outside 32 to 126 in columns 1 to 41, or more than blanks after column
+    /// 56; otherwise `BadClock` if columns 42 to 56 of an observation epoch hold neither blanks nor a number
+    /// of format F15.12.
     #[inline(always)]
     #[tactic(auto, using(crate::proofs::HeadColumns::announced, crate::proofs::HeadColumns::unannounced))]
     pub fn read(line: &[u8]) -> Result<Head, Fault>

@@ -35,7 +35,7 @@ impl Model for Printed {
 }
 
 impl Printed {
-    /// Returns the lines of an epoch, all of them pending.
+    /// Returns the lines of `epoch`, all of them pending.
     pub fn new(epoch: Epoch) -> Printed
         ensures value { result ≡ printed_epoch epoch }
     {
@@ -46,7 +46,8 @@ impl Printed {
         }
     }
 
-    /// Returns the next line, without its line end, or `None` if none is pending.
+    /// Borrows the next pending line, without its line end, and removes it from the pending lines. Returns
+    /// `None` if none is pending.
     #[tactic(auto, using(crate::proofs::Lines::each_line))]
     pub fn next_line(&mut self) -> Option<&[u8]>
         ensures value { option_copied result ≡ slice_get self.old 0 }
@@ -62,7 +63,7 @@ impl Printed {
     }
 }
 
-/// Replaces `text` by the printed epoch line, without blanks at its end.
+/// Replaces `text` by the printed epoch line `head`, without blanks at its end.
 pub fn print_head(head: &EpochLine, text: &mut Text)
     ensures value { text.new ≡ printed_head head.now.head head.now.clock }
 {

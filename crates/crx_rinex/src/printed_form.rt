@@ -22,9 +22,10 @@ const AFTER: [u8; CELL_WIDTH] = *b"--0        - ---";
 // The byte in an odd column: a zero, and in the point's column the point.
 const ODD: [u8; CELL_WIDTH] = *b"000000000000.000";
 
-/// Returns `true` only if the satellite line is surely its own printed text, as nearly every one is: it ends
-/// with a field or an indicator that isn't blank, and each field has a digit before its point, and no zero
-/// before its number or after a minus. `false` says nothing.
+/// Returns `true` only if the line, read as a satellite line, is printed as the same bytes, as nearly every
+/// one is: it ends with its identifier, a field or an indicator, which isn't blank, and each field has a
+/// digit before its point, and no zero before its number or after a minus. `false` says nothing, and neither
+/// does `true` if the line can't be read.
 #[inline(always)]
 pub fn has_printed_form(line: &[u8]) -> bool
     ensures form { OnTrue result ((types : List Count) (row : Row) → row_of types line.now ≡ Ok row → printed_row row ≡ line.now) }
@@ -42,7 +43,7 @@ pub fn has_printed_form(line: &[u8]) -> bool
     true
 }
 
-/// Returns `true` only if a field, in the last lanes, is surely the printed text of its value.
+/// Returns `true` only if the field in the last 14 lanes is surely its value's text; `false` says nothing.
 #[inline(always)]
 fn is_printed_field(columns: u8x16) -> bool
     ensures form { OnTrue result ((value : Option ℤ) → observation_of (drop BEFORE columns) ≡ Some value

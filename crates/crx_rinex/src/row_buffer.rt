@@ -25,7 +25,7 @@ use std::simd::prelude::*;
 #[derive(Drop)]
 pub struct RowBuffer {
     name: [u8; NAME_WIDTH],
-    /// How many types the row has.
+    /// The number of types.
     count: usize,
     /// How many of the first cells may have a value or an indicator. All cells after them are empty, so that
     /// the cost of a row depends on its line, and not on its types.
@@ -63,9 +63,12 @@ impl RowBuffer {
         }
     }
 
-    /// Reads a satellite line over the row before, with the counts of types that the header declared. Returns
-    /// the errors of [`SatRow::read`](crate::SatRow::read) except `OutOfMemory`; after one the row may be any
-    /// row.
+    /// Reads a satellite line over the row before. `types`: the counts of types that the header declared.
+    ///
+    /// Returns `BadSatellite` if columns 1 to 3 hold no identifier of a system with types; otherwise
+    /// `BadField` if a field is neither blank nor a number of format F14.3, or more than blanks follow the
+    /// last cell; otherwise `BadFlags` if an indicator is `&` or outside 32 to 126. After an error the row
+    /// may be any row.
     #[inline(always)]
     pub fn read(&mut self, types: &Types, line: Padded<'_>) -> Result<(), Fault>
         ensures ok { OnOk result (row_of types.now (line_in line.entry) ≡ Ok self.new) }
@@ -116,7 +119,8 @@ impl RowBuffer {
         &self.values[..self.count]
     }
 
-    /// Returns a count of first values; all values after them are missing.
+    /// Returns an index from which on all values are missing. It need not be the least one: values before it
+    /// may be missing too.
     #[inline(always)]
     pub fn filled_count(&self) -> usize
         ensures missing { AreMissingFrom result self.now.values }
@@ -160,8 +164,8 @@ impl RowBuffer {
     }
 }
 
-/// Returns whether all indicators are allowed. If `is_seen`, this was found when their cells were read, and
-/// they aren't tested again: a load of many bytes waits until all are stored.
+/// Returns whether all indicators are characters 32 to 126 other than `&`. If `is_seen`, this was found when
+/// their cells were read, and they aren't tested again: a load of many bytes waits until all are stored.
 #[inline(always)]
 fn are_kept(is_seen: bool, flags: &[u8]) -> bool
     requires { is_seen ≡ true → list_all is_kept flags.now ≡ true }
@@ -170,9 +174,10 @@ fn are_kept(is_seen: bool, flags: &[u8]) -> bool
     is_seen || all_kept(flags)
 }
 
-/// Reads the cells that the line reaches, the last of which its end may cut. Returns their number, and whether
-/// all their indicators were seen to be allowed, or `None` if a field is neither blank nor a number or more
-/// than blanks follow the last cell.
+/// Reads the cells that the line reaches, at most `count`, the last of which its end may cut, into `values`
+/// and `flags`. Returns their number, and `true` if all their indicators were seen to be allowed (`false`
+/// says nothing). Returns `None` if a field is neither blank nor a number, or more than blanks follow the
+/// last of `count` cells; then some cells may have been stored.
 #[inline(always)]
 fn read_first_cells(
     line: Padded<'_>,
@@ -205,9 +210,9 @@ fn read_first_cells(
     Some((whole + 1, is_seen & is_last_seen))
 }
 
-/// Stores the value and the indicators of cell `k`, and returns whether these two were seen to be allowed, as
-/// [`obs_read_cell`] does. Returns `None` if the field is neither blank nor a number. The two indicators are
-/// one store.
+/// Stores the value and the indicators of `cell`, of 16 columns, as those of type `k`, from 0. Returns `true`
+/// if the indicators were seen to be allowed, as [`obs_read_cell`] does; `false` says nothing. Returns `None`
+/// and stores nothing if the field is neither blank nor a number. The two indicators are one store.
 #[inline(always)]
 pub(crate) fn read_cell(
     cell: u8x16,
@@ -231,7 +236,7 @@ pub(crate) fn read_cell(
     Some(is_seen)
 }
 
-/// Returns the columns after the last whole cell, with blanks after the line's end.
+/// Returns the 16 columns after the last whole cell, with blanks after the line's end.
 #[inline(always)]
 fn cut_columns(line: Padded<'_>) -> u8x16
     ensures { result ≡ columns (line_in line.entry) (CELL_WIDTH * ((length (line_in line.entry) - NAME_WIDTH) / CELL_WIDTH)
@@ -253,8 +258,7 @@ fn cut_columns(line: Padded<'_>) -> u8x16
         .select(cell, u8x16::splat(b' '))
 }
 
-/// Empties the cells from `first` to `end`, so that all cells from `first` on are empty, if those from the
-/// greater one on were.
+/// Empties the cells from index `first` to before `end`, if any: no value, and blank indicators.
 #[inline(always)]
 fn empty_cells(first: usize, end: usize, values: &mut [Option<i64>], flags: &mut [u8])
     requires others { AreEmptyFrom (max first end) values.old flags.old }

@@ -86,7 +86,8 @@ impl SatRow {
         })
     }
 
-    /// Returns a row of `m` missing values, with blank indicators, or `OutOfMemory`, its only error.
+    /// Returns a row with `m` missing values and blank indicators. Returns `OutOfMemory`, its only error, if
+    /// memory is refused.
     pub fn blank(alloc: Global, name: [u8; NAME_WIDTH], m: usize) -> Result<SatRow, Fault>
         requires named { is_identifier name ≡ true }
         requires allowed { IsAllowedCount m }
@@ -118,7 +119,7 @@ impl SatRow {
         self.values.get(k).copied()
     }
 
-    /// Returns the values, one for each type, as [`SatRow::value`] does.
+    /// Returns the values, one for each type, in thousandths of its unit; `None` is a missing observation.
     pub fn values(&self) -> &[Option<i64>]
         ensures value { result.now ≡ self.now.values }
         ensures sound { IsSoundRow self.now }
@@ -134,7 +135,7 @@ impl SatRow {
         &self.flags
     }
 
-    /// Replaces the value of type `k`, from 0.
+    /// Replaces the value of type `k`, from 0, by `value`, in thousandths of its unit; `None` is missing.
     pub fn set(&mut self, k: usize, value: Option<i64>)
         requires within { k < length self.old.values }
         requires ranged { ForSome value IsObservation }
@@ -143,7 +144,7 @@ impl SatRow {
         self.values[k] = value;
     }
 
-    /// Replaces the indicators; those after `flags` become blank.
+    /// Writes `flags` over the first indicators, two for each type; the other indicators become blank.
     pub fn set_flags(&mut self, flags: &[u8])
         requires fitting { length flags.now ≤ 2 * length self.old.values }
         requires kept { list_all is_kept flags.now ≡ true }
@@ -177,7 +178,7 @@ fn blank_cells(alloc: Global, m: usize) -> Result<(Vec<Option<i64>>, Vec<u8>), R
     Ok((values, flags))
 }
 
-/// Replaces `text` by the printed line of a row, without blanks at its end.
+/// Replaces `text` by the printed satellite line of these parts of a row, without blanks at its end.
 pub(crate) fn print_row(
     name: [u8; NAME_WIDTH],
     values: &[Option<i64>],
@@ -193,7 +194,7 @@ pub(crate) fn print_row(
     text.trim_end_blanks();
 }
 
-/// Prints cells over the bytes from `at` on, each value in its columns, and its two indicators, and returns the
+/// Prints cells over the bytes from index `at` on, each with its value and two indicators, and returns the
 /// index after them.
 fn print_cells(values: &[Option<i64>], flags: &[u8], bytes: &mut [u8], at: usize) -> usize
     requires ranged { All IsValue values.now }
