@@ -58,8 +58,8 @@ impl<const WIDTH: usize> Model for Arc<WIDTH> {
     ghost invariant = { λ arc. IsArcInRange WIDTH arc.order arc.count (take arc.count arc.differences) };
 }
 
-/// Replaces the differences of order 0 to `order`, which are those at the previous value, by those at
-/// `value`. Returns the one of order `order`.
+/// Replaces the first `order` differences, of order 0, 1, .. at the previous value, by the differences of
+/// order 0 to `order` at `value`, and returns the last of these.
 fn advance_differences(differences: &mut [i64; KEPT_LIMIT], order: usize, value: i64) -> i64
     requires few { order ≤ ORDER_LIMIT }
     requires below { AreBelow value_bound (take order differences.old) }
@@ -77,7 +77,7 @@ fn advance_differences(differences: &mut [i64; KEPT_LIMIT], order: usize, value:
     next
 }
 
-/// Replaces the first four differences, which have order 0 to 3.
+/// Replaces the first four differences: `value` has order 0, the others have order 1 to 3.
 #[inline(always)]
 fn put_four(differences: &mut [i64], value: i64, first: i64, second: i64, third: i64)
     requires { 3 < length differences.old }
@@ -89,8 +89,8 @@ fn put_four(differences: &mut [i64], value: i64, first: i64, second: i64, third:
     differences[3] = third;
 }
 
-/// Returns the value after the one that `differences`, of order 0, 1, .., belong to. `number`: its
-/// difference of the next order.
+/// Returns the next value of an arc: the sum of `number`, its next difference, and `differences`, the latest
+/// differences of all lower orders.
 fn value_after(differences: &[i64], number: i64) -> i64
     requires few { length differences.now ≤ ORDER_LIMIT }
     requires below { AreBelow value_bound differences.now }
@@ -150,9 +150,9 @@ impl<const WIDTH: usize> Arc<WIDTH> {
         Code::Step(highest)
     }
 
-    /// Codes `value` like [`Arc::push`] if its coded value is a difference of order 3, and returns that
-    /// difference: no loop, no other coded value to try, and the order and the count aren't written.
-    /// Returns `None` if the arc has another order or fewer than four values; then it is unchanged.
+    /// Codes `value` like [`Arc::push`], but without a loop, if its coded value is a difference of order 3,
+    /// and returns that difference. Returns `None`, with the arc unchanged, if it has another order or fewer
+    /// than four values.
     #[inline(always)]
     pub(crate) fn push_third(&mut self, value: i64) -> Option<i64>
         requires { IsWithin WIDTH value }
@@ -171,11 +171,11 @@ impl<const WIDTH: usize> Arc<WIDTH> {
         Some(third)
     }
 
-    /// Returns the value that `code` stands for, which the arc then contains; `None` for `Missing`, which
-    /// ends the arc. A start begins a new arc, even in the middle of one.
+    /// Returns the value that `code` codes, which the arc then contains, or `None` for `Missing`, which ends
+    /// the arc. A start begins a new arc, even in the middle of one.
     ///
-    /// Returns `NoArc` for a difference if no arc has begun, `OutOfRange` if the value doesn't fit the
-    /// columns. The arc is then unchanged.
+    /// Returns `NoArc` for a difference if the arc has no values, and `OutOfRange` if the value doesn't fit
+    /// `WIDTH` columns. The arc is then unchanged.
     #[inline(always)]
     pub fn apply(&mut self, code: Code) -> Result<Option<i64>, Fault>
         requires { IsPrintable code }
@@ -217,9 +217,9 @@ impl<const WIDTH: usize> Arc<WIDTH> {
         }
     }
 
-    /// Applies the difference `number` like [`Arc::apply`] if it is of order 3, and returns the value: no
-    /// loop, and the order and the count aren't written. Returns `None` if the arc has another order or
-    /// fewer than four values, or if the value doesn't fit the columns; then it is unchanged.
+    /// Applies the difference `number` like [`Arc::apply`], but without a loop, if it is of order 3, and
+    /// returns the value. Returns `None`, with the arc unchanged, if it has another order or fewer than four
+    /// values, or if the value doesn't fit `WIDTH` columns.
     #[inline(always)]
     pub(crate) fn apply_third(&mut self, number: i64) -> Option<i64>
         requires { IsShort number }
@@ -242,7 +242,7 @@ impl<const WIDTH: usize> Arc<WIDTH> {
         Some(value)
     }
 
-    /// Returns the newest value; `None` if the arc has no values.
+    /// Returns the newest value, or `None` if the arc has no values.
     #[inline(always)]
     pub fn value(&self) -> Option<i64>
         ensures value { result ≡ shown_value self.now }

@@ -98,7 +98,7 @@ impl Block {
         })
     }
 
-    /// Drops all lines.
+    /// Drops all lines. Two lines can then be put in front again.
     pub fn clear(&mut self)
         ensures cleared { self.new ≡ no_lines }
     {
@@ -109,7 +109,7 @@ impl Block {
         self.front = FIRST_LINES;
     }
 
-    /// Puts `line` in front of the other lines.
+    /// Puts `line`, without LF, in front of the pending lines. There is space for two such lines.
     pub(crate) fn put_front(&mut self, line: &[u8])
         requires front { 0 < self.old.front }
         requires short { length line.now ≤ EPOCH_TEXT_LIMIT }
@@ -125,7 +125,7 @@ impl Block {
         self.front -= 1;
     }
 
-    /// Appends `line`.
+    /// Appends `line`, without LF, after the other lines.
     pub(crate) fn put(&mut self, line: &[u8])
         requires left { 0 < self.old.left }
         requires short { length line.now ≤ LINE_LIMIT }
@@ -140,7 +140,7 @@ impl Block {
     }
 
     /// Appends the compact line of a row, coded after `satellite`, which then includes the row. Only the
-    /// first `filled` of `values` may be present.
+    /// first `filled` of `values` may be present; `flags` are two indicators for each.
     #[inline(always)]
     pub(crate) fn put_row(
         &mut self,
@@ -194,7 +194,7 @@ impl Block {
         self.handed_out == self.count
     }
 
-    /// Borrows the next pending line, without its line end; returns `None` if none is pending.
+    /// Borrows the next pending line, without LF, and removes it; returns `None` if none is pending.
     pub fn next_line(&mut self) -> Option<&[u8]>
         ensures value { option_copied result ≡ slice_get self.old.lines 0 }
         ensures* after_borrow { sem 𝓛 (Rests the_row self.entry (λ new.
@@ -223,7 +223,7 @@ impl Block {
     }
 }
 
-/// Lengthens the list, if necessary, so that `room` bytes follow its first `filled`.
+/// Lengthens the list, if necessary, so that `room` bytes follow its first `filled`; it has the memory.
 #[inline(always)]
 fn use_bytes(bytes: &mut Vec<u8>, filled: usize, room: usize)
     requires memory { filled + room ≤ vec_capacity bytes.old }

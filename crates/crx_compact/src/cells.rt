@@ -25,8 +25,8 @@ use crx_text::{
 /// three more, because digits are written four at a time. The cell's blank is one of the three.
 pub const CELL_ROOM: usize = DIGITS_LIMIT + 6;
 
-/// Writes the coded value of `value`, the next of `arc`, and a blank from `at` on, and returns the index
-/// after them. It is called for the few values whose coded value isn't a difference of order 3.
+/// Adds `value` to `arc`, writes its coded value and a blank from index `at` on, and returns the index after
+/// them; two more bytes may be overwritten. For the few coded values that aren't differences of order 3.
 #[cold]
 #[inline(never)]
 fn write_value(arc: &mut ObsArc, value: i64, bytes: &mut [u8], at: usize) -> usize
@@ -52,12 +52,13 @@ fn keep_arcs(arcs: &mut Vec<ObsArc>, count: usize)
     }
 }
 
-/// Writes the coded values of the next values of some types, each followed by a blank, from `at` on, adds
-/// the values to the arcs, and returns the index after the last blank. Only the first `filled` values may
-/// be present. A type without a stored arc has one without values. Inlined: no call per line.
+/// Writes the coded values of `values`, one for each type, and a blank after each, from index `at` on, adds
+/// the values to the arcs, and returns the index after the last blank. Only the first `filled` values may be
+/// present, and only their arcs stay stored. A type without a stored arc has one without values. Up to two
+/// more bytes may be overwritten. Inlined: no call per line.
 ///
-/// Most values are missing, or coded as differences of order 3: these are written without a call and
-/// without a test of the coded value.
+/// Most values are missing, or coded as differences of order 3: these are written without a call and without
+/// a test of the coded value.
 #[inline(always)]
 pub(crate) fn write_cells(
     arcs: &mut Vec<ObsArc>,
@@ -100,11 +101,12 @@ pub(crate) fn write_cells(
     blanks
 }
 
-/// Reads the cell at the beginning of `text`, whatever its coded value, applies it to the arc at `index`,
-/// and returns the index after the cell and its blank. It is called for the few cells that
-/// [`read_cell_fast`] doesn't read.
+/// Reads the cell at the beginning of `text`, whatever its coded value, applies it to the arc at `index`, and
+/// returns the index after the cell and its blank. It is called for the few cells that [`read_cell_fast`]
+/// doesn't read.
 ///
-/// Returns `BadField` if the cell is no coded value, `NoArc` and `OutOfRange` like [`ObsArc::apply`].
+/// Returns `BadField` if the cell is no coded value, `NoArc` if it is a difference and the arc has no values,
+/// and `OutOfRange` if the value doesn't fit its columns. The arcs are then unchanged.
 #[inline(never)]
 fn read_cell(arcs: &mut [ObsArc], index: usize, text: &[u8]) -> Result<usize, Fault>
     requires within { index < length arcs.old }
@@ -117,9 +119,10 @@ fn read_cell(arcs: &mut [ObsArc], index: usize, text: &[u8]) -> Result<usize, Fa
     Ok(length)
 }
 
-/// Applies the difference `number` and returns its value. Returns `None` if the value has a fault; then the
-/// arc is unchanged. It is called for the few differences that aren't of order 3 or whose value doesn't
-/// fit, and keeps the `Result` of [`ObsArc::apply`] out of the loop over the cells.
+/// Applies the difference `number` and returns its value. Returns `None` if the arc has no values or the
+/// value doesn't fit its columns; then the arc is unchanged. It is called for the few differences that aren't
+/// of order 3 or whose value doesn't fit, and keeps the `Result` of [`ObsArc::apply`] out of the loop over
+/// the cells.
 #[inline(never)]
 fn apply_step(arc: &mut ObsArc, number: i64) -> Option<i64>
     requires { IsShort number }
@@ -133,12 +136,13 @@ fn apply_step(arc: &mut ObsArc, number: i64) -> Option<i64>
     }
 }
 
-/// Reads the cell at `at` if it is empty or a difference, as most cells are, and returns how much of the
-/// line it takes with its blank. Returns `None` if it has another coded value, more than six digits, or a
-/// fault; then the arcs are unchanged. Differences of order 3 have a form of their own, because most are.
+/// Reads the cell at index `at` of `line` if it is empty or a difference, as most cells are, applies it to
+/// the arc at `index`, and returns how many bytes it takes with its blank. Returns `None` if it has another
+/// coded value, more than six digits, or a fault; then the arcs are unchanged. Differences of order 3 have a
+/// form of their own, because most are.
 ///
-/// The end of the cell is known before its number is read, so that the next cell needn't wait for the
-/// number. The blank after the line makes the last cell like the others: no branch per line.
+/// The end of the cell is known before its number is read, so that the next cell needn't wait for the number.
+/// The blank after the line makes the last cell like the others: no branch per line.
 #[inline(always)]
 fn read_cell_fast(arcs: &mut [ObsArc], index: usize, line: Padded<'_>, at: usize) -> Option<usize>
     requires within { index < length arcs.old }
@@ -164,11 +168,11 @@ fn read_cell_fast(arcs: &mut [ObsArc], index: usize, line: Padded<'_>, at: usize
 }
 
 /// Reads a cell of `line` for each of `count` types, applies it to the type's arc, and returns the index at
-/// which the marks begin. A type without a stored arc has one without values. After the line no more arcs
-/// are stored than it has bytes, because each cell takes one, except empty ones at its end.
+/// which the marks of the indicators begin. A type without a stored arc has one without values. After the
+/// line no more arcs are stored than it has bytes, because each cell takes one, except empty ones at its end.
 ///
-/// The first cell with a fault decides: returns `BadField` if its text is no coded value, then `NoArc` and
-/// `OutOfRange` like [`ObsArc::apply`]. The arcs before it have then changed.
+/// The first cell with a fault decides: returns `BadField`, `NoArc` or `OutOfRange` like [`read_cell`]. The
+/// arcs before it have then changed.
 ///
 /// The calls for the few other cells are in the loop, because a loop without calls cost more
 /// (bench/README.md).

@@ -26,7 +26,7 @@ impl Model for Coded {
 }
 
 impl Coded {
-    /// Borrows the next pending line, without its line end; returns `None` if none is pending.
+    /// Borrows the next pending line, without LF, and removes it; returns `None` if none is pending.
     pub fn next_line(&mut self) -> Option<&[u8]>
         ensures value { option_copied result ≡ slice_get self.old.lines 0 }
         ensures* after_borrow { sem 𝓛 (Rests the_row self.entry
@@ -35,7 +35,7 @@ impl Coded {
         self.lines.next_line()
     }
 
-    /// Returns the epoch.
+    /// Returns the epoch and drops its lines.
     pub fn into_epoch(self) -> Epoch
         ensures epoch { result ≡ self.epoch }
     {

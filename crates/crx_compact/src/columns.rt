@@ -99,18 +99,18 @@ impl Columns {
         forget(&mut self.is_kept, &mut self.is_named, &mut self.expected);
     }
 
-    /// Returns whether no epoch is open: none is read in part.
+    /// Returns whether no epoch is open: the next line has to be an epoch line.
     pub fn is_idle(&self) -> bool
         ensures value { result ≡ is_idle self.now }
     {
         matches!(self.expected, Expected::EpochLine)
     }
 
-    /// Returns the compact lines of an epoch that has all its rows: full if `full` is set or there is no
-    /// history, otherwise as differences from the previous epoch.
+    /// Returns `epoch`, which has all its rows, with its compact lines: full if `full` is set or there is no
+    /// history, otherwise as differences from the previous epoch. The history then includes the epoch.
     ///
-    /// Returns `OutOfMemory` with the epoch if memory is refused; then the columns are unchanged. There is
-    /// no other error.
+    /// Returns `OutOfMemory` with the epoch if memory is refused; then the columns are unchanged. There is no
+    /// other error.
     pub fn encode(&mut self, epoch: Epoch, full: bool) -> Result<Coded, (Epoch, Fault)>
         requires whole { is_full_epoch epoch ≡ true }
         requires idle { is_idle self.old ≡ true }
@@ -152,11 +152,14 @@ impl Columns {
     }
 
     /// Begins an epoch with its epoch line, which is read after the previous epoch, or after nothing if it
-    /// begins with `>`. The counts of types hold for all lines of the epoch.
+    /// begins with `>`. `types`: the counts for all lines of the epoch.
     ///
-    /// Returns `NotAnEpoch` if there is no history and the line doesn't begin with `>`; then `BadEpoch`,
-    /// `BadSatellite` and `RepeatedSatellite`; `OutOfMemory` if memory is refused and the line has no
-    /// fault. After an error every epoch is forgotten.
+    /// Returns `NotAnEpoch` if there is no history and the line doesn't begin with `>`; otherwise `BadEpoch`
+    /// if the line has a character outside 32 to 126, or the text that it makes doesn't begin with an
+    /// observation epoch's columns 1 to 41, or has more than blanks after its identifiers; otherwise, at the
+    /// first identifier with a fault, `BadSatellite` if it isn't well-formed or its system has no types,
+    /// `RepeatedSatellite` if it is repeated, and `OutOfMemory` if memory is refused. After an error every
+    /// epoch is forgotten.
     pub fn begin(&mut self, types: &Types, line: &[u8]) -> Result<(), Fault>
         requires idle { is_idle self.old ≡ true }
         requires short { length line.now ≤ LINE_LIMIT }
@@ -202,10 +205,12 @@ impl Columns {
     /// Reads the next line of the open epoch, which is the clock line, then a line for each satellite.
     /// Returns the epoch with its last line, `None` before.
     ///
-    /// Returns `Truncated` if the line begins with `>`; then `BadClock` for the clock line, `BadField` for
-    /// a satellite line, for both `NoArc` and `OutOfRange`, for a satellite line `BadFlags`; `OutOfMemory`
-    /// if the line is the last one and has no fault, and memory for the epoch is refused. After an error
-    /// every epoch is forgotten.
+    /// Returns `Truncated` if the line begins with `>`. In the clock line, returns `BadClock` if it is no
+    /// coded value. In a satellite line, returns `BadField` if a cell is no coded value, and `BadFlags` if
+    /// its marks have a character outside 32 to 126, or more than blanks after the indicators. In both,
+    /// returns `NoArc` for a difference if its arc has no values, and `OutOfRange` if a value doesn't fit its
+    /// columns. The first of these faults in the line decides. Returns `OutOfMemory` if the line is the last
+    /// one and has no fault, and memory for the epoch is refused. After an error every epoch is forgotten.
     pub fn feed(&mut self, line: &[u8]) -> Result<Option<Epoch>, Fault>
         requires open { is_idle self.old ≡ false }
         requires short { length line.now ≤ LINE_LIMIT }
@@ -250,12 +255,13 @@ impl Columns {
         }
     }
 
-    /// Reads the next line of the open epoch like [`Columns::feed`], but appends its row to `lines`,
-    /// printed, instead of making an epoch. Returns whether the line is the epoch's last one; then its
-    /// printed lines are complete.
+    /// Reads the next line of the open epoch like [`Columns::feed`], but appends its row to `lines`, printed,
+    /// instead of making an epoch. After the clock line, the printed epoch line replaces all `lines`. Returns
+    /// whether the line is the epoch's last one; then its printed lines are complete.
     ///
-    /// Returns the errors of `feed` except `OutOfMemory`, and `NotAnEpoch` if no epoch is open. After an
-    /// error `lines` is empty.
+    /// Returns `NotAnEpoch` if no epoch is open, `Truncated` if the line begins with `>`, and `BadClock`,
+    /// `BadField`, `BadFlags`, `NoArc` or `OutOfRange` like `feed`. After an error `lines` is empty, and
+    /// every epoch is forgotten.
     #[inline(always)]
     pub fn feed_into(&mut self, line: Padded<'_>, lines: &mut Block) -> Result<bool, Fault>
         requires short { length (line_in line) ≤ LINE_LIMIT }
@@ -305,9 +311,12 @@ fn forget(is_kept: &mut bool, is_named: &mut bool, expected: &mut Expected)
     *expected = Expected::EpochLine;
 }
 
-/// Reads the next line of an open epoch, which is the clock line, then a line for each satellite, and
-/// returns whether it is the last one. Returns `NotAnEpoch` if no epoch is open, and the faults of
-/// [`History::read_clock`] and [`History::read_row`]; then the parameters may be inconsistent.
+/// Reads the next line of an open epoch, which is the clock line, then a line for each satellite, and returns
+/// whether it is the last one. `count`: the number of satellite lines read.
+///
+/// Returns `NotAnEpoch` if no epoch is open, `Truncated` if the line begins with `>`, and `BadClock`,
+/// `BadField`, `BadFlags`, `NoArc` or `OutOfRange` like [`Columns::feed`]; then the parameters may be
+/// inconsistent.
 #[inline(always)]
 fn read_line(
     history: &mut History,

@@ -66,8 +66,8 @@ impl Encoder {
     ghost use Rattle.std.specs.Option.{option_copied};
     ghost use Rattle.crx_compact.specs.contracts.encoder.Encoder.{the_row};
 
-    /// Returns an encoder before the first line, with the memory for all lines. Returns `Refused` if memory
-    /// is refused.
+    /// Returns an encoder without epochs and lines, which has the memory for all lines. Returns `Refused` if
+    /// memory is refused.
     pub fn new(alloc: Global) -> Result<Encoder, Refused>
         ensures before { IfOk result (λ e. e.before ≡ None) }
         ensures closed { IfOk result (λ e. e.is_open ≡ false) }
@@ -99,7 +99,7 @@ impl Encoder {
         self.made.clear();
     }
 
-    /// Replaces all lines by the two lines before the header, and forgets every epoch.
+    /// Replaces all lines by the two lines before the header, with this `date`, and forgets every epoch.
     pub fn put_first_lines(&mut self, date: &[u8])
         requires dated { length date.now ≤ DATE_LIMIT }
         ensures put { self.new ≡ forgotten self.old (lines_before_header date.now true) }
@@ -135,7 +135,7 @@ impl Encoder {
 
     /// Adds the compact line of the next row of the open epoch, and returns `true`. Returns `false` and
     /// changes nothing if the epoch has a row of the satellite already. Returns `Refused` if memory is
-    /// refused; then every epoch is forgotten.
+    /// refused; then every epoch is forgotten, the open one included, and no line is left.
     #[inline(always)]
     pub fn encode_row(&mut self, row: &RowBuffer) -> Result<bool, Refused>
         requires open { self.old.is_open ≡ true }
@@ -169,7 +169,7 @@ impl Encoder {
         }
     }
 
-    /// Ends the open epoch, which has all its rows. Its compact lines are then pending.
+    /// Ends the open epoch, which has all its rows; `head`: its epoch line. Its lines are then pending.
     pub fn end(&mut self, head: &EpochLine)
         requires open { self.old.is_open ≡ true }
         requires counted { length self.old.rows ≡ head.now.count }
@@ -182,14 +182,14 @@ impl Encoder {
         self.is_open = false;
     }
 
-    /// Returns whether no line is pending.
+    /// Returns whether no line is pending, as while an epoch is open.
     pub fn is_drained(&self) -> bool
         ensures value { IsTrue result ↔ (self.now.pending ≡ []) }
     {
         self.is_open || self.made.is_drained()
     }
 
-    /// Borrows the next pending line, without its line end; returns `None` if none is pending.
+    /// Borrows the next pending line, without LF, and removes it; returns `None` if none is pending.
     pub fn next_line(&mut self) -> Option<&[u8]>
         ensures value { option_copied result ≡ slice_get self.old.pending 0 }
         ensures* after_borrow { sem 𝓛 (Rests the_row self.entry

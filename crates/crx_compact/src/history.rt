@@ -102,11 +102,11 @@ impl History {
         self.satellites.begin_epoch();
     }
 
-    /// Writes the compact lines of an epoch into `lines`, which is empty: full if `in_full` is set,
-    /// otherwise as differences from the previous epoch. The history then includes the epoch.
+    /// Writes the compact lines of an epoch into `lines`, which is empty: full if `in_full` is set, otherwise
+    /// as differences from the previous epoch. The history then includes the epoch.
     ///
-    /// Returns `Refused` if memory is refused. All memory is reserved first, so that the history is then
-    /// unchanged.
+    /// Returns `Refused` if memory is refused. All memory is reserved first, so that the history and `lines`
+    /// are then unchanged.
     pub(crate) fn encode(
         &mut self,
         epoch: &Epoch,
@@ -147,8 +147,8 @@ impl History {
         Ok(())
     }
 
-    /// Begins an epoch whose rows are written one by one: full if `in_full` is set, otherwise as
-    /// differences from the previous epoch.
+    /// Begins an epoch whose rows are written one by one: full if `in_full` is set, otherwise as differences
+    /// from the previous epoch.
     pub(crate) fn begin_rows(&mut self, in_full: bool)
         ensures begun { AreRowsWritten (if in_full then no_tail else tail_of_history self.old) [] self.new [] }
         ensures rooms { self.new.satellites.rooms ≡ self.old.satellites.rooms }
@@ -160,8 +160,9 @@ impl History {
     }
 
     /// Appends the compact line of the epoch's next row to `lines`, and returns `true`. Only the first
-    /// `filled` of `values` may be present. Returns `false` and changes nothing if the epoch has a row of
-    /// the satellite already. Returns `Refused` if memory is refused; then the history may be inconsistent.
+    /// `filled` of `values` may be present. Returns `false` and changes nothing if the epoch has a row of the
+    /// satellite already. Returns `Refused` if memory is refused; then `lines` is unchanged, but the history
+    /// may be inconsistent.
     #[inline(always)]
     pub(crate) fn write_row(
         &mut self,
@@ -197,8 +198,8 @@ impl History {
         Ok(true)
     }
 
-    /// Ends an epoch whose rows are all written: puts its first two lines in front of theirs. The history
-    /// then includes the epoch.
+    /// Ends an epoch whose rows are all written: puts its epoch line and its clock line, coded, in front of
+    /// their lines. `head`: its epoch line. The history then includes the epoch.
     pub(crate) fn end_rows(&mut self, head: &EpochLine, scratch: &mut Text, lines: &mut Block)
         requires counted { length self.old.satellites.rows ≡ head.now.count }
         requires front { FIRST_LINES ≤ lines.old.front }
@@ -225,9 +226,9 @@ impl History {
     /// satellite named there, with its system's number of types. `is_named`: the satellites of the previous
     /// epoch are those that its text names.
     ///
-    /// Returns `BadEpoch` if the line has a character outside 32 to 126, or the text that it makes isn't
-    /// that of an observation epoch; then the faults of the identifiers; `OutOfMemory` if memory is refused
-    /// and the line has no fault. After an error the satellites may be inconsistent.
+    /// Returns `BadEpoch` if the line has a character outside 32 to 126, or `BadEpoch`, `BadSatellite`,
+    /// `RepeatedSatellite` or `OutOfMemory` for the text that it makes, like [`read_satellites`]. After an
+    /// error the text is unchanged, but the satellites may be inconsistent.
     pub(crate) fn read_epoch_line(
         &mut self,
         types: &Types,
@@ -253,10 +254,11 @@ impl History {
     }
 
     /// Reads a clock line and applies its coded value to the clock's arc. Blanks at the line's end don't
-    /// count.
+    /// count; an empty line ends the arc.
     ///
-    /// Returns `Truncated` if the line begins another epoch, `BadClock` if it is no coded value, then
-    /// `NoArc` and `OutOfRange` like [`ClockArc::apply`].
+    /// Returns `Truncated` if the line begins another epoch, `BadClock` if it is no coded value, `NoArc` for
+    /// a difference if the arc has no values, and `OutOfRange` if the value doesn't fit its columns. After an
+    /// error nothing has changed.
     #[inline(never)]
     pub(crate) fn read_clock(&mut self, line: &[u8]) -> Result<(), Fault>
         ensures ok { OnOk result
@@ -280,7 +282,7 @@ impl History {
         Ok(())
     }
 
-    /// Returns how many satellites the epoch has.
+    /// Returns how many rows the newest epoch has.
     #[inline(always)]
     pub(crate) fn count(&self) -> usize
         ensures value { result ≡ length self.now.satellites.rows }
@@ -288,8 +290,9 @@ impl History {
         self.satellites.placed_count()
     }
 
-    /// Reads the satellite line of the row at `index`. Returns `Truncated` if the line begins another
-    /// epoch; the other faults are those of [`SatelliteHistory::read`].
+    /// Reads the satellite line of the row at `index`, from 0. Returns `Truncated` if the line begins another
+    /// epoch; then nothing changes. Otherwise returns `BadField`, `NoArc`, `OutOfRange` or `BadFlags` like
+    /// [`SatelliteHistory::read`] if a cell or the marks have this fault; then the row may have changed.
     #[inline(always)]
     pub(crate) fn read_row(
         &mut self,
@@ -312,7 +315,7 @@ impl History {
             .read(line, scratch)
     }
 
-    /// Returns the newest epoch. Returns `OutOfMemory` if memory is refused, which can't happen without
+    /// Returns the newest epoch. Returns `OutOfMemory` if memory is refused, which can't happen if it has no
     /// satellites.
     pub(crate) fn epoch(&self) -> Result<Epoch, Fault>
         requires announced { IsAnnounced self.now }
@@ -340,8 +343,8 @@ impl History {
         EpochLine::new(padded(&self.text[..self.length], 1), self.clock.value()).unwrap()
     }
 
-    /// Prints the part of the open epoch that its last line completes. `count`: how many rows have been
-    /// read. If it is 0, the epoch's first line replaces all `lines`; otherwise the last of these rows is
+    /// Prints the part of the open epoch that the line read last completes. `count`: how many rows have been
+    /// read. If it is 0, the printed epoch line replaces all `lines`; otherwise the last of these rows is
     /// appended.
     #[inline(always)]
     pub(crate) fn print(&self, count: usize, lines: &mut Block, scratch: &mut Text)
@@ -358,7 +361,7 @@ impl History {
         lines.put_printed(name, satellite);
     }
 
-    /// Replaces all `lines` by the epoch's first line. Not inlined: no locals to initialize per row.
+    /// Replaces all `lines` by the printed epoch line. Not inlined: no locals to initialize per row.
     #[inline(never)]
     fn print_first_line(&self, lines: &mut Block, scratch: &mut Text)
         requires announced { IsAnnounced self.now }
@@ -375,12 +378,13 @@ impl History {
     }
 }
 
-/// Adds a row for every satellite named in an epoch text, with its system's number of types. `are_same`:
-/// the text names exactly the satellites of the previous epoch, if it announces their number.
+/// Adds a row for every satellite named in an epoch text, with its system's number of types. `are_same`: the
+/// text names exactly the satellites of the previous epoch, if it announces their number.
 ///
-/// Returns `BadEpoch` if columns 1 to 41 aren't those of an observation epoch, or anything but blanks
-/// follows the last identifier; then the faults of the identifiers; `OutOfMemory` if memory is refused and
-/// the text has no fault.
+/// Returns `BadEpoch` if columns 1 to 41 don't begin an observation epoch, or anything but blanks follows the
+/// last announced identifier; otherwise, at the first identifier with a fault, `BadSatellite` if it isn't
+/// well-formed or its system has no types, `RepeatedSatellite` if it is repeated, and `OutOfMemory` if memory
+/// is refused.
 fn read_satellites(
     types: &Types,
     text: &[u8],
@@ -406,8 +410,9 @@ fn read_satellites(
 
 /// Reads `count` identifiers after column 41, from left to right, and adds a row for each.
 ///
-/// Returns `BadSatellite` if one isn't well-formed or its system has no types, then `RepeatedSatellite` if
-/// it is repeated; `OutOfMemory` if memory is refused and none has a fault.
+/// At the first with a fault, returns `BadSatellite` if it isn't well-formed or its system has no types,
+/// `RepeatedSatellite` if it is repeated, and `OutOfMemory` if memory is refused; the rows before it are
+/// added.
 fn read_names(
     types: &Types,
     text: &[u8],

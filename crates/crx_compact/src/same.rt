@@ -6,7 +6,8 @@ ghost use Rattle.std.specs.Bool.{MatchBool};
 
 use std::simd::prelude::*;
 
-/// Returns whether the first `N` characters of two texts are the same, and the last `N`.
+/// Returns whether two texts of one length, `N` to `2 * N`, are the same: their first `N` bytes and their
+/// last.
 #[inline(always)]
 fn has_same_ends<const N: usize>(text: &[u8], other: &[u8]) -> bool
     requires narrow { N ≤ 64 }
@@ -38,8 +39,8 @@ pub fn is_same_text(text: &[u8], other: &[u8]) -> bool
     }
 }
 
-// Returns whether two texts of one length, usually a long one, are the same; those of 17 to 32 types by
-// their two ends too.
+// Returns whether two texts of one length, usually a long one, are the same; those of 17 to 32 types by their
+// two ends too.
 #[inline(never)]
 fn is_same_long(text: &[u8], other: &[u8]) -> bool
     requires same_length { length other.now ≡ length text.now }

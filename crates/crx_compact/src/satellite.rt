@@ -98,7 +98,7 @@ impl SatelliteHistory {
     }
 
     /// Reserves room for `count` types if there is less, and adds none. Returns `Refused` if memory is
-    /// refused. All memory is reserved first, so that the stored types are then unchanged.
+    /// refused. The stored types never change.
     pub(crate) fn make_room(&mut self, count: usize) -> Result<(), Refused>
         requires allowed { count ≤ TYPES_LIMIT }
         ensures { AnswersRoom count self.old self.new result }
@@ -117,8 +117,8 @@ impl SatelliteHistory {
         Ok(())
     }
 
-    /// Sets the number of types to `count`, for which there is room. Types that it has stay, and new ones
-    /// have no arcs and blank indicators.
+    /// Sets the number of types to `count`, for which there is room. Of the types that it has, the first
+    /// `count` stay; new ones have no arcs and blank indicators.
     #[inline(always)]
     pub(crate) fn resize(&mut self, count: usize)
         requires room { count ≤ self.old.room }
@@ -133,8 +133,8 @@ impl SatelliteHistory {
         put_blanks(&mut self.indicators[2 * from..2 * count]);
     }
 
-    /// Replaces the indicators by `flags` and sets the number of types to `count`. Returns `false` if the
-    /// indicators are the same, as usual; otherwise their difference is in `scratch`.
+    /// Sets the indicators to `flags` and the number of types to `count`. Returns `false` if nothing changes,
+    /// as usual; otherwise `true`, and the difference of the indicators is in `scratch`.
     #[inline(always)]
     fn mark(&mut self, count: usize, flags: &[u8], scratch: &mut Text) -> bool
         requires fits { FitsFlags count flags.now self.old }
@@ -148,7 +148,7 @@ impl SatelliteHistory {
         true
     }
 
-    /// Does the work of [`SatelliteHistory::mark`] if the indicators change.
+    /// Does the work of [`SatelliteHistory::mark`] if the indicators change. `scratch` is empty before.
     #[inline(never)]
     fn change_indicators(&mut self, count: usize, flags: &[u8], scratch: &mut Text)
         requires fits { FitsFlags count flags.now self.old }
@@ -161,8 +161,9 @@ impl SatelliteHistory {
         put_first(&mut self.indicators, flags);
     }
 
-    /// Writes the compact line of a row over `bytes` from `at` on, and returns its length. Only the first
-    /// `filled` of `values` may be present. The history then includes the row.
+    /// Writes the compact line of a row over `bytes` from `at` on, without LF, and returns its length; bytes
+    /// after it may be overwritten. Only the first `filled` of `values` may be present. The history then
+    /// includes the row.
     #[inline(always)]
     pub(crate) fn write_line(
         &mut self,
@@ -189,9 +190,10 @@ impl SatelliteHistory {
 
     /// Reads a line of the satellite, and changes its arcs and indicators by it.
     ///
-    /// The first cell with a fault decides: returns `BadField` if its text is no coded value, then `NoArc`
-    /// and `OutOfRange` like [`ObsArc::apply`](crate::ObsArc::apply). Returns `BadFlags` if the marks have
-    /// a character outside 32 to 126, or anything but blanks after two for each type.
+    /// The first cell with a fault decides: returns `BadField` if its text is no coded value, `NoArc` if it
+    /// is a difference and its arc has no values, and `OutOfRange` if its value doesn't fit its columns.
+    /// Otherwise returns `BadFlags` if the marks have a character outside 32 to 126, or anything but blanks
+    /// after two for each type. After an error some arcs may have changed, but no indicators.
     #[inline(always)]
     pub(crate) fn read(&mut self, line: Padded<'_>, scratch: &mut Text) -> Result<(), Fault>
         requires short { length (line_in line) ≤ LINE_LIMIT }
@@ -207,7 +209,7 @@ impl SatelliteHistory {
         patch_indicators(&mut self.indicators, self.count, marks, scratch)
     }
 
-    /// Returns the newest row, with the identifier `name`. Returns `OutOfMemory` if memory is refused.
+    /// Returns the newest row, named `name`. Returns `OutOfMemory`, its only error, if memory is refused.
     pub(crate) fn row(&self, alloc: Global, name: [u8; NAME_WIDTH]) -> Result<SatRow, Fault>
         requires named { is_identifier name ≡ true }
         requires allowed { IsAllowedCount (length self.now.cells) }
@@ -227,8 +229,8 @@ impl SatelliteHistory {
         Ok(row)
     }
 
-    /// Prints the RINEX line of the newest row, with the identifier `name`, over `bytes` from `at` on, and
-    /// returns its length.
+    /// Prints the RINEX line of the newest row, named `name`, over `bytes` from `at` on, without LF and
+    /// blanks at its end, and returns its length; bytes after it may be overwritten.
     #[inline(always)]
     pub(crate) fn print_line(&self, name: [u8; NAME_WIDTH], bytes: &mut [u8], at: usize) -> usize
         requires room { at + (NAME_WIDTH + CELL_WIDTH * length self.now.cells) < length bytes.old }
@@ -249,8 +251,8 @@ impl SatelliteHistory {
     }
 }
 
-/// Prints the cells of `arcs` from `at` on, two per turn of the loop. The two indicators of a cell are one
-/// load and one store.
+/// Prints the cells of `arcs`, each with its newest value and two of `flags`, over `bytes` from `at` on, two
+/// per turn of the loop. The two indicators of a cell are one load and one store.
 #[inline(always)]
 fn print_cells(arcs: &[ObsArc], flags: &[u8], bytes: &mut [u8], at: usize)
     requires paired { 2 * length arcs.now ≤ length flags.now }
@@ -275,8 +277,8 @@ fn print_cells(arcs: &[ObsArc], flags: &[u8], bytes: &mut [u8], at: usize)
     obs_print_cell(arcs[last].value(), flags, 2 * last, bytes, place);
 }
 
-/// Prints the cells from `first` up to `count`, whose values are missing. The first cell of the line is at
-/// `at`.
+/// Prints the cells of the types from index `first` to before `count`, whose values are missing, with their
+/// `flags`. The first cell of the line is at index `at`.
 #[cold]
 #[inline(never)]
 fn print_missing(first: usize, count: usize, flags: &[u8], bytes: &mut [u8], at: usize)
@@ -301,10 +303,10 @@ pub(crate) fn put_first(bytes: &mut [u8], text: &[u8])
     copy_text(&mut bytes[..text.len()], text);
 }
 
-/// Changes the indicators of `count` types by `marks`.
+/// Changes the indicators of the first `count` types by `marks`.
 ///
-/// Returns `BadFlags` if the marks have a character outside 32 to 126, or anything but blanks after the
-/// indicators.
+/// Returns `BadFlags`, with the indicators unchanged, if the marks have a character outside 32 to 126, or
+/// anything but blanks after the indicators.
 #[inline(never)]
 fn patch_indicators(
     indicators: &mut [u8],

@@ -95,7 +95,7 @@ impl Satellites {
         }
     }
 
-    /// Begins an epoch: it has no rows, and those of the previous epoch are expected.
+    /// Begins an epoch: it has no rows, and the satellites of the previous epoch are expected.
     pub(crate) fn begin_epoch(&mut self)
         ensures begun { self.new ≡ record self.old { rows = []; rest = self.old.rows } }
     {
@@ -112,12 +112,13 @@ impl Satellites {
         self.placed
     }
 
-    /// Adds the row of satellite `name` and returns `true`. Returns `false` if the epoch has its row
-    /// already, `None` if the satellite isn't known or has too little room for `count` types; then nothing
-    /// changes.
+    /// Adds a row for satellite `name` after the others and returns `true`. The row continues the satellite's
+    /// history if it was in the previous epoch; otherwise it has no types. Returns `false` if the epoch has
+    /// its row already, and `None` if the satellite isn't known or has too little room for `count` types;
+    /// after either nothing has changed.
     ///
-    /// Usually the next satellite is the one that followed the last one in the previous epoch; one
-    /// comparison confirms it. `name` is borrowed: no copy per row.
+    /// Usually the next satellite is the one that followed the last one in the previous epoch; one comparison
+    /// confirms it. `name` is borrowed: no copy per row.
     #[inline(always)]
     pub(crate) fn place(&mut self, name: &[u8; NAME_WIDTH], count: usize) -> Option<bool>
         ensures { AnswersPlacing name.now count self.old self.new result }
@@ -146,8 +147,9 @@ impl Satellites {
         self.place_by_lookup(name, count)
     }
 
-    /// Does the same as [`Satellites::place`] for any satellite, which it looks for by its hint, then in
-    /// the map.
+    /// Does the same as [`Satellites::place`], but looks for the satellite by its hint, then in the map:
+    /// returns `true` if a row was added, `false` if the epoch has its row already, and `None` if it isn't
+    /// known or has too little room for `count` types.
     #[inline(never)]
     pub(crate) fn place_by_lookup(&mut self, name: &[u8; NAME_WIDTH], count: usize) -> Option<bool>
         ensures { AnswersPlacing name.now count self.old self.new result }
@@ -180,9 +182,9 @@ impl Satellites {
         Some(true)
     }
 
-    /// Adds a row for each satellite of the previous epoch, in their order, if there are `count` and each
-    /// has its system's number of types in `types`. Otherwise returns `false` and changes nothing. No
-    /// identifier is read or looked up.
+    /// Adds a row for each satellite of the previous epoch, in their order, and returns `true`, if there are
+    /// `count` and each has its system's number of types in `types`. Otherwise returns `false` and changes
+    /// nothing. No identifier is looked up.
     pub(crate) fn repeat_rows(&mut self, types: &Types, count: usize) -> bool
         requires none { self.old.rows ≡ [] }
         requires awaited { All IsAwaitedSatellite (map satellite_of self.old.rest) }
@@ -212,8 +214,9 @@ impl Satellites {
         true
     }
 
-    /// Reserves memory for a satellite of `count` types. No row changes, and after `Ok` the satellite is
-    /// known. Returns `Refused` if memory is refused.
+    /// Makes satellite `name` known, with memory for `count` types; if it is known already, only missing
+    /// memory is reserved. The rows of the open epoch don't change. Returns `Refused` if memory is refused;
+    /// the satellite may be known then too.
     #[inline(never)]
     pub(crate) fn prepare(&mut self, name: [u8; NAME_WIDTH], count: usize) -> Result<(), Refused>
         requires allowed { count ≤ TYPES_LIMIT }
@@ -234,7 +237,7 @@ impl Satellites {
         satellite.make_room(count)
     }
 
-    /// Puts the identifiers of the rows after column 41 of `text`.
+    /// Writes the identifiers of the rows over the bytes of `text` after column 41.
     pub(crate) fn put_names(&self, text: &mut [u8])
         requires within { HEAD_WIDTH + NAME_WIDTH * length self.now.rows ≤ length text.old }
         ensures { take (HEAD_WIDTH + NAME_WIDTH * length self.now.rows) text.new
@@ -246,9 +249,8 @@ impl Satellites {
         }
     }
 
-    /// Borrows the history of the satellite whose row is at `index`, to be changed; its row changes with
-    /// it. It always returns `Some`: only within an `Option` can a clause relate the borrow's end to its
-    /// start.
+    /// Borrows the history of the satellite whose row is at `index`, from 0, to change it and so the row. It
+    /// always returns `Some`: only within an `Option` can a clause relate the borrow's end to its start.
     #[inline(always)]
     pub(crate) fn entry_mut(&mut self, index: usize) -> Option<&mut SatelliteHistory>
         requires within { index < length self.old.rows }
@@ -261,7 +263,7 @@ impl Satellites {
         Some(satellite)
     }
 
-    /// Returns the identifier and the history of the satellite whose row is at `index`.
+    /// Returns the identifier and the history of the satellite whose row is at `index`, from 0.
     #[inline(always)]
     pub(crate) fn entry(&self, index: usize) -> (&[u8; NAME_WIDTH], &SatelliteHistory)
         requires within { index < length self.now.rows }
@@ -294,7 +296,7 @@ fn key_at(map: &IndexMap<[u8; NAME_WIDTH], SatelliteHistory>, index: usize) -> [
     map.keys().as_slice()[index]
 }
 
-/// Returns the index of satellite `name`; `None` if it isn't known. It tries the index `near` first.
+/// Returns the index of satellite `name`, or `None` if it isn't known. It tries the index `near` first.
 /// Inlined: no call per satellite in another order.
 #[inline(always)]
 fn find(
@@ -313,9 +315,8 @@ fn find(
     map.get_index_of(&name)
 }
 
-/// Returns the index of satellite `name`, which is added after the others if it isn't known. It tries the
-/// index `near` first. Returns `Refused` if memory is refused; all memory is reserved before anything
-/// changes.
+/// Returns the index of satellite `name`, which is added after the others, in `order` too, if it isn't known.
+/// It tries the index `near` first. Returns `Refused` if memory is refused; then nothing is added.
 fn find_or_add(
     map: &mut IndexMap<[u8; NAME_WIDTH], SatelliteHistory>,
     order: &mut Vec<usize>,
@@ -344,8 +345,8 @@ fn find_or_add(
     Ok(count)
 }
 
-/// Returns the place of the expected satellite after an absent one was added. If it was the first without a
-/// row, it is the last one now.
+/// Returns the place of the expected satellite after an absent one was added: `expected`, or, if it was the
+/// first without a row, the last place in use. `placed`: the number of rows; `live`: of satellites in use.
 #[inline(always)]
 fn place_after(expected: usize, placed: usize, live: usize) -> usize
     requires some { 0 < live }
@@ -357,7 +358,7 @@ fn place_after(expected: usize, placed: usize, live: usize) -> usize
     placed.max(live - 1)
 }
 
-/// Exchanges the indices at two places of an order.
+/// Exchanges the indices at the places `one` and `other` of an order, and the two indices' places.
 #[inline(never)]
 fn exchange(order: &mut Vec<usize>, places: &mut Vec<usize>, one: usize, other: usize)
     requires order { IsOrder order.old.items places.old.items (length order.old.items) }
