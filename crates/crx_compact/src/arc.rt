@@ -150,9 +150,9 @@ impl<const WIDTH: usize> Arc<WIDTH> {
         Code::Step(highest)
     }
 
-    /// Codes `value` like [`Arc::push`], but without a loop, if its coded value is a difference of order 3,
-    /// and returns that difference. Returns `None`, with the arc unchanged, if it has another order or fewer
-    /// than four values.
+    /// Codes `value` like [`Arc::push`], without a loop, if its coded value is a difference of order 3, and
+    /// returns that. Returns `None`, with the arc unchanged, if it has another order or fewer than four
+    /// values.
     #[inline(always)]
     pub(crate) fn push_third(&mut self, value: i64) -> Option<i64>
         requires { IsWithin WIDTH value }

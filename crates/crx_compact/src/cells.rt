@@ -102,8 +102,7 @@ pub(crate) fn write_cells(
 }
 
 /// Reads the cell at the beginning of `text`, whatever its coded value, applies it to the arc at `index`, and
-/// returns the index after the cell and its blank. It is called for the few cells that [`read_cell_fast`]
-/// doesn't read.
+/// returns the index after the cell and its blank. For the few cells that [`read_cell_fast`] doesn't read.
 ///
 /// Returns `BadField` if the cell is no coded value, `NoArc` if it is a difference and the arc has no values,
 /// and `OutOfRange` if the value doesn't fit its columns. The arcs are then unchanged.
@@ -121,8 +120,7 @@ fn read_cell(arcs: &mut [ObsArc], index: usize, text: &[u8]) -> Result<usize, Fa
 
 /// Applies the difference `number` and returns its value. Returns `None` if the arc has no values or the
 /// value doesn't fit its columns; then the arc is unchanged. It is called for the few differences that aren't
-/// of order 3 or whose value doesn't fit, and keeps the `Result` of [`ObsArc::apply`] out of the loop over
-/// the cells.
+/// of order 3 or whose value doesn't fit, and keeps the `Result` of [`ObsArc::apply`] out of the loop.
 #[inline(never)]
 fn apply_step(arc: &mut ObsArc, number: i64) -> Option<i64>
     requires { IsShort number }

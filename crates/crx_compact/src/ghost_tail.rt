@@ -21,7 +21,7 @@ impl Model for GhostTail {
 }
 
 impl GhostTail {
-    /// Returns the tail of the epochs in `_history`.
+    /// Returns the tail of the epochs in `_history`, for contracts only.
     #[inline(always)]
     pub(crate) fn of(_history: &History) -> GhostTail
         ensures { result.tail ≡ tail_of_history _history.now }

@@ -315,8 +315,7 @@ impl History {
             .read(line, scratch)
     }
 
-    /// Returns the newest epoch. Returns `OutOfMemory` if memory is refused, which can't happen if it has no
-    /// satellites.
+    /// Returns the newest epoch. Returns `OutOfMemory` if it has satellites and memory is refused.
     pub(crate) fn epoch(&self) -> Result<Epoch, Fault>
         requires announced { IsAnnounced self.now }
         ensures ok { IfOk result (λ epoch. epoch
@@ -343,9 +342,8 @@ impl History {
         EpochLine::new(padded(&self.text[..self.length], 1), self.clock.value()).unwrap()
     }
 
-    /// Prints the part of the open epoch that the line read last completes. `count`: how many rows have been
-    /// read. If it is 0, the printed epoch line replaces all `lines`; otherwise the last of these rows is
-    /// appended.
+    /// Prints the RINEX line that the line read last completes. `count`: how many rows have been read. If it
+    /// is 0, the printed epoch line replaces all `lines`; otherwise the last of these rows is appended.
     #[inline(always)]
     pub(crate) fn print(&self, count: usize, lines: &mut Block, scratch: &mut Text)
         requires announced { IsAnnounced self.now }
@@ -411,8 +409,7 @@ fn read_satellites(
 /// Reads `count` identifiers after column 41, from left to right, and adds a row for each.
 ///
 /// At the first with a fault, returns `BadSatellite` if it isn't well-formed or its system has no types,
-/// `RepeatedSatellite` if it is repeated, and `OutOfMemory` if memory is refused; the rows before it are
-/// added.
+/// `RepeatedSatellite` if it is repeated, and `OutOfMemory` if memory is refused. Earlier rows stay.
 fn read_names(
     types: &Types,
     text: &[u8],

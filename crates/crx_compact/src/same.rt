@@ -6,8 +6,7 @@ ghost use Rattle.std.specs.Bool.{MatchBool};
 
 use std::simd::prelude::*;
 
-/// Returns whether two texts of one length, `N` to `2 * N`, are the same: their first `N` bytes and their
-/// last.
+/// Returns whether two texts of one length, `N` to `2 * N`, are the same, by their first and last `N` bytes.
 #[inline(always)]
 fn has_same_ends<const N: usize>(text: &[u8], other: &[u8]) -> bool
     requires narrow { N ≤ 64 }
