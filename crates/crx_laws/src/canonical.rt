@@ -18,8 +18,8 @@ pub fn compact_text_is_canonical()
     ensures law { (one other : List ℕ) (choices : Choices) → IsCanonical one other choices }
 {}
 
-/// Shows that the premises can be met: by a date, and by two files that differ in the spelling of a number and have the
-/// same normal form.
+/// Shows that the premises can be met: by a date, and by two files that differ in the spelling of a number
+/// and have the same normal form.
 pub fn premises()
     ensures date { is_date plain_choices.date ≡ true }
     ensures one { HasNormalForm (lines_text (header ++ epoch_line_at 0 1 ∷ codes "G01        01.000" ∷ [])) }

@@ -6,8 +6,8 @@ ghost use Rattle.crx_base.specs.meaning.Lines.{lines_text};
 ghost use Rattle.crx_laws.specs.FilterExamples.{failed, report, reported, found_line_by_line};
 ghost use Rattle.crx_laws.specs.SmallFiles.{header, epoch_line_at, line_at, observed, file_of_five, returned_text};
 
-/// The reports of small files: five epochs; cycle slip records and an event without records; a character that no
-/// indicator may have; only a header.
+/// The reports of small files: five epochs; cycle slip records and an event without records; a character that
+/// no indicator may have; only a header.
 pub fn reports_of_small_files()
     ensures five { report (file_of_five []) ≡ reported (codes "systems G 1")
         (codes "epochs 5") (codes "events 0") (codes "observations 5") (codes "standard yes") 0 }

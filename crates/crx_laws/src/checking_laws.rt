@@ -10,14 +10,14 @@ ghost use Rattle.crx_base.specs.meaning.Lines.{lines_text};
 ghost use Rattle.crx_runs.specs.Lawful.{IsLawful};
 ghost use Rattle.crx_filter.specs.meaning.Standard.{whole_of};
 
-/// A check works line by line: its findings after a line depend only on that line and the findings before it, and its
-/// fault is the fault of reading all lines so far.
+/// A check works line by line: its findings after a line depend only on that line and the findings before it,
+/// and its fault is the fault of reading all lines so far.
 pub fn check_by_line()
     ensures law { (lines : List InputLine) (line : InputLine) → IsCheckedOn lines line }
 {}
 
-/// At the end of the input the fault is the fault of reading the whole file; without a fault the findings are those of
-/// the whole file.
+/// At the end of the input the fault is the fault of reading the whole file; without a fault the findings are
+/// those of the whole file.
 pub fn check_ends()
     ensures law { (lines : List InputLine) → IsCheckEnded lines }
 {}
@@ -27,8 +27,8 @@ pub fn standard_files_are_named()
     ensures law { (input : List ℕ) → IsNamedWhereNot input }
 {}
 
-/// A file that is read to its good end is reported as standard, with status 0, if and only if the expansion of its
-/// compaction restores it byte for byte. The options of both don't matter.
+/// A file that is read to its good end is reported as standard, with status 0, if and only if the expansion
+/// of its compaction restores it byte for byte. The options of both don't matter.
 pub fn standard_exactly_where_same()
     ensures law { (input : List ℕ) (compacting expanding : Choices)
         → IsStandardExactlyWhereSame input compacting expanding }
@@ -39,7 +39,7 @@ pub fn check_keeps_to_its_fault()
     ensures law { IsLawful check_filter }
 {}
 
-/// Shows that the premises can be met: by a date, and by files that are read to their good end, standard or not.
+/// Shows that the premises can be met: by a date, and by files read to their good end, standard or not.
 pub fn premises()
     ensures date { is_date plain_choices.date ≡ true }
     ensures good { (whole_of (lines_text (file_of_five []))).fault ≡ None }

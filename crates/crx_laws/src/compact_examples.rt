@@ -124,7 +124,7 @@ pub fn order_four()
         ∷ epoch_of_one 4 (Some (pos 1015)) ∷ epoch_of_one 5 (Some (pos 1030)) ∷ []) 18 }
 {}
 
-/// An epoch without satellites has an epoch line and a clock line; if nothing changes, the epoch line is empty.
+/// An epoch without satellites has an epoch line and a clock line. If nothing changes, the first is empty.
 pub fn no_satellite()
     ensures written { text_lines no_satellites
         ≡ codes "> 2024 01 01 00 00  0.0000000  0  0" ∷ [] ∷ [] ∷ [] ∷ [] }
@@ -190,8 +190,8 @@ pub fn a_fault_empties()
         (Content (codes "                    1")) ≡ Faulty NotAnEpoch }
 {}
 
-/// Shows that the premises can be met: two epochs of one satellite are whole by the counts of types in force, and their
-/// lines, as they are read, are one for each satellite, with printable marks.
+/// Shows that the premises can be met: two epochs of one satellite are whole by the counts of types in force,
+/// and their lines, as they are read, are one for each satellite, with printable marks.
 pub fn premises_can_be_met()
     ensures counts { AreCounts one_type }
     ensures whole { AreWholeByTypes two_typed }

@@ -25,14 +25,14 @@ pub fn overlay_by_patches()
     ensures law { (marks : List (List ℕ)) → overlaid marks ≡ patched_in_turn marks }
 {}
 
-/// The differences that are kept of an arc determine the next value's code and the differences kept then: this is a
-/// step of the running differences in a compaction, for every order.
+/// The differences that are kept of an arc determine the next value's code and the differences kept then:
+/// this is a step of the running differences in a compaction, for every order.
 pub fn next_code()
     ensures law { (order : ℕ) (value : ℤ) (older : List ℤ) → CodesByTail order value older }
 {}
 
-/// The differences that are kept of an arc determine the value of its next code and the differences kept then: this is
-/// a step of the running differences in an expansion, for every order.
+/// The differences that are kept of an arc determine the value of its next code and the differences kept
+/// then: this is a step of the running differences in an expansion, for every order.
 pub fn next_value()
     ensures law { (order : ℕ) (number before : ℤ) (older : List ℤ) → ValuesByTail order number before older }
 {}
@@ -53,32 +53,32 @@ pub fn printable_codes()
     ensures law { ArePrintable }
 {}
 
-/// A compact line of an epoch has at most 18 bytes for each of `TYPES_LIMIT` types: a code of 15 characters, a blank
-/// and two indicators. So none is longer than a line may be.
+/// A compact line of an epoch has at most 18 bytes for each of `TYPES_LIMIT` types: a code of 15 characters,
+/// a blank and two indicators. So none is longer than a line may be.
 pub fn short_lines()
     ensures law { AreShort }
 {}
 
-/// After any values, some of them missing, the arc is the arc of the values since the last missing one, and has the
-/// code of the newest.
+/// After any values, some of them missing, the arc is the arc of the values since the last missing one, and
+/// has the code of the newest.
 pub fn codes_of_values()
     ensures law { (value : Option ℤ) (older : List (Option ℤ)) → CodesOfValues value older }
 {}
 
-/// After any codes the arc is the arc of the accepted codes since their latest start, and has the value that they
-/// encode; a refused code changes nothing.
+/// After any codes the arc is the arc of the accepted codes since their latest start, and has the value that
+/// they encode; a refused code changes nothing.
 pub fn values_of_codes()
     ensures law { (width : ℕ) (code : Code) (older : List Code) → ValuesOfCodes width code older }
 {}
 
-/// The compact lines of an epoch can be in a file: they have characters 32 to 126, none is an event's first line, and
-/// only a full epoch's first line begins with `>`.
+/// The compact lines of an epoch can be in a file: they have characters 32 to 126, none is an event's first
+/// line, and only a full epoch's first line begins with `>`.
 pub fn lines_can_stand()
     ensures law { AllLinesCanStand }
 {}
 
-/// The state after any number of written epochs is within the limits: the text of one epoch, and for each of its
-/// satellites two indicators per type and at most four differences per cell.
+/// The state after any number of written epochs is within the limits: the text of one epoch, and for each of
+/// its satellites two indicators per type and at most four differences per cell.
 pub fn bounded_tails()
     ensures law { WrittenAreBounded }
 {}

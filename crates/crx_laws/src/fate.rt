@@ -20,8 +20,8 @@ ghost use Rattle.crx_rinex.specs.meaning.Observations.{Epoch};
 ghost use Rattle.crx_rinex.specs.meaning.Places.{Done};
 ghost use Rattle.crx_rinex.specs.meaning.Units.{Observation};
 
-/// An epoch of a RINEX file is read from its epoch line and one line per row. An epoch of compact text is read from its
-/// epoch line, its clock line and one line per row, and these lines have only characters 32 to 126.
+/// An epoch of a RINEX file is read from its epoch line and one line per row; an epoch of compact text from
+/// its epoch line, its clock line and one line per row, which have only characters 32 to 126.
 pub fn the_lines_of_an_epoch()
     ensures file { (items : List (Item Epoch)) (own : List ReadLine) (epoch : Epoch)
         → rinex_place items own ≡ Done (Observation epoch) (length own) → length own ≡ length epoch.rows + 1 }
@@ -36,8 +36,7 @@ pub fn a_warning_drops_one_stretch()
         (Content (codes "> bad") ∷ Content (codes "> good") ∷ []) kept → ⊥ }
 {}
 
-/// A check forecasts a compaction: without `-s` the compaction has the fault and the messages of the check, for every
-/// file.
+/// A check forecasts a compaction: without `-s` a file's compaction has the fault and messages of its check.
 pub fn a_check_tells_of_a_compaction()
     ensures fault { (choices : Choices) (file : List ℕ) → choices.skip ≡ false
         → (compacted file choices).fault ≡ (checked file).fault }
@@ -45,9 +44,9 @@ pub fn a_check_tells_of_a_compaction()
         → (compacted file choices).messages ≡ (checked file).messages }
 {}
 
-/// A cut is noticed: if a file without faults is cut off at the end of a line, either whole units of it are left, or a
-/// compaction without `-s` ends with code 3, 7 or 19 at the line after the last. The same is true of the expansion of
-/// compact text that is cut off after its first two lines.
+/// A cut is noticed: if a file without faults is cut off at the end of a line, either whole units of it are
+/// left, or a compaction without `-s` ends with code 3, 7 or 19 at the line after the last. The same is true
+/// of the expansion of compact text that is cut off after its first two lines.
 pub fn a_cut_is_noticed()
     ensures file { (choices : Choices) (file cut : List ℕ) (more : List InputLine) → choices.skip ≡ false
         → (compacted file choices).fault ≡ None → lines_of file ≡ lines_of cut ++ more
@@ -57,8 +56,8 @@ pub fn a_cut_is_noticed()
         → IsNoticed (read_of_text text choices) (read_of_text cut choices) (length (lines_of cut)) }
 {}
 
-/// Shows that the premises can be met: by a file and a text that are cut off in their second epochs, where each cut is
-/// a fault.
+/// Shows that the premises can be met: by a file and a text that are cut off in their second epochs, where
+/// each cut is a fault.
 pub fn premises()
     ensures skips_nothing { plain_choices.skip ≡ false }
     ensures file { (compacted (lines_text (file_of_five [])) plain_choices).fault ≡ None }

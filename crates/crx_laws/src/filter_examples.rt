@@ -27,7 +27,7 @@ pub fn types_that_change()
         ∷ line_at 1 4 1 ∷ two_types ∷ epoch_line_at 2 1 ∷ observed (codes "3.000          12.500") ∷ []) }
 {}
 
-/// A repeated identifier in an epoch ends the run, and nothing of the epoch is written; with `-s` it is a warning.
+/// A repeated identifier ends the run, and nothing of its epoch is written; with `-s` it is a warning.
 pub fn repeated_satellite()
     ensures ends { compaction_of plain_choices (header ++ epoch_line_at 0 2 ∷ observed (codes "1.000")
         ∷ observed (codes "1.000") ∷ []) ≡ failed (first_two ++ header) 6 RepeatedSatellite }
@@ -44,7 +44,7 @@ pub fn no_arc()
         ≡ failed (header ++ epoch_line_at 0 1 ∷ observed (codes "1.000") ∷ []) 11 NoArc }
 {}
 
-/// A new epoch line cuts an epoch off; with `-s` reading resumes at that line. The end of the input cuts it off too.
+/// A new epoch line, or the end of the input, cuts an epoch off; with `-s` reading resumes at that line.
 pub fn cut_epochs()
     ensures ends { expansion_of plain_choices (first_two ++ header ++ full_line_at 0 1 (codes "G01")
         ∷ [] ∷ full_line_at 1 1 (codes "G01") ∷ [] ∷ codes "3&1000" ∷ []) ≡ failed header 8 Truncated }
@@ -129,8 +129,8 @@ pub fn bad_indicator()
         ∷ [] ∷ codes "102500" ∷ second_changed 4 ∷ [] ∷ codes "1000" ∷ []) (warning 7 BadFlags) }
 {}
 
-/// The answers of a compaction, line by line: the compact lines before the header follow from its first line, an epoch
-/// from its last line.
+/// The answers of a compaction, line by line: the compact lines before the header follow from its first line,
+/// an epoch from its last line.
 pub fn steps_of_a_compaction()
     ensures one { compaction_answers plain_choices (header ++ epoch_line_at 0 1 ∷ codes "G01  20000000.000"
         ∷ []) ≡ (Ready, 3) ∷ (Ready, 1) ∷ (Ready, 1) ∷ (Quiet, 0) ∷ (Ready, 3) ∷ [] }
@@ -138,8 +138,8 @@ pub fn steps_of_a_compaction()
         ∷ epoch_line_at 0 0 ∷ []) ≡ (Ready, 3) ∷ (Ready, 1) ∷ (Ready, 1) ∷ (Ready, 2) ∷ (Ready, 2) ∷ [] }
 {}
 
-/// The answers of an expansion, line by line: no output for the first two lines, a header line at once, and an epoch
-/// with its last line.
+/// The answers of an expansion, line by line: no output for the first two lines, a header line at once, and
+/// an epoch with its last line.
 pub fn steps_of_an_expansion()
     ensures one { expansion_answers plain_choices
         (first_two ++ header ++ full_line_at 0 1 (codes "G01") ∷ [] ∷ codes "3&20000000000" ∷ []) ≡ (Quiet, 0)
@@ -157,7 +157,7 @@ pub fn a_line_that_comes_again()
         ∷ (notice 5 Truncated true, 0) ∷ (notice 5 BadEpoch false, 0) ∷ (Quiet, 0) ∷ (Ready, 3) ∷ [] }
 {}
 
-/// The reports of a standard file with an event, of a file without types, and of a file whose lines end with CR LF.
+/// The reports of a standard file with an event, a file without types, and a file whose lines end in CR LF.
 pub fn reports()
     ensures with_an_event { report (header ++ epoch_line_at 0 1 ∷ observed (codes "1.000")
         ∷ line_at 1 4 1 ∷ two_types ∷ epoch_line_at 2 1 ∷ observed (codes "3.000          12.500") ∷ [])
@@ -192,7 +192,7 @@ pub fn damaged_blocks()
         (header ++ comment_event ++ epoch_line_at 2 1 ∷ codes "G01  20000202.000" ∷ []) (warning 7 BadClock) }
 {}
 
-/// Damage without a warning: a block whose lines read as other epochs, and a last line that is cut off inside a number.
+/// Damage without a warning: a block that reads as other epochs, and a last line cut off inside a number.
 pub fn damage_not_noticed()
     ensures other_epochs { expanded (damaged_by other_block) with_skip
         ≡ good (header ++ epoch_line_at 0 1 ∷ codes "G01  20000000.000" ∷ epoch_line_at 1 1

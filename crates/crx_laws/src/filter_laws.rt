@@ -23,8 +23,8 @@ ghost use Rattle.crx_base.specs.meaning.Lines.{lines_text};
 ghost use Rattle.crx_filter.specs.Laws.{IsReadForward, IsResumed, IsWrittenFirst, IsCompactedOn, IsExpandedOn, IsCompactionEnded, IsExpansionEnded, StaysEnded, ItemsAreRead, AreInPlace, IsReadyWhereHandedOut};
 ghost use Rattle.crx_filter.specs.meaning.Reading.{fault_of_stop};
 
-/// The unit at a line of a RINEX file is certain when its last line is read; so reading more lines continues from the
-/// place where reading the first lines stopped.
+/// The unit at a line of a RINEX file is certain when its last line is read; so reading more lines continues
+/// from the place where reading the first lines stopped.
 pub fn resumed_rinex()
     ensures forward { IsReadForward rinex_place }
     ensures resumed { IsResumed rinex_place }
@@ -36,14 +36,14 @@ pub fn resumed_compact()
     ensures resumed { IsResumed compact_place }
 {}
 
-/// The output of a compaction for some lines is a prefix of its output for every input that begins with these lines.
+/// The output of a compaction for some lines is a prefix of its output for all inputs that begin with them.
 pub fn compaction_goes_on()
     ensures law { (choices : Choices) (lines : List ReadLine)
         → IsWrittenFirst compacted_so_far (λ input (c : Choices). (compacted input c).output) choices lines }
 {}
 
-/// A compaction works line by line: its state, output and messages after each line are those for all lines so far,
-/// computed only from the line and the state before it, with or without `-s`.
+/// A compaction works line by line: its state, output and messages after each line are those for all lines so
+/// far, computed only from the line and the state before it, with or without `-s`.
 pub fn compaction_by_line()
     ensures law { (choices : Choices) (lines : List ReadLine) (line : ReadLine)
         → IsCompactedOn choices lines line }
@@ -61,8 +61,8 @@ pub fn expansion_by_line()
         → IsExpandedOn choices lines line }
 {}
 
-/// The end of the input, after any lines, ends the compaction of all of them: nothing more is written, and the fault or
-/// the warning is the whole reading's.
+/// The end of the input, after any lines, ends the compaction of all of them: nothing more is written, and
+/// the fault or the warning is the whole reading's.
 pub fn compaction_ends()
     ensures law { (choices : Choices) (lines : List ReadLine) → IsCompactionEnded choices lines }
 {}
@@ -88,46 +88,47 @@ pub fn what_was_read()
         → ItemsAreRead compact_place (compact_reading skip lines).items }
 {}
 
-/// The accepted units of a RINEX file are in place: each in its order, and each epoch whole, with the types in force.
+/// The accepted units of a RINEX file are in place: each in its order, and each epoch whole, with the types
+/// in force.
 pub fn what_was_accepted()
     ensures law { (skip : Bool) (lines : List ReadLine) → AreInPlace (rinex_reading skip lines).items }
 {}
 
-/// The state of a compaction between two lines is bounded, however long the input is: at most seven counts of types; of
-/// only the last epoch its text, its satellites' indicators, and four numbers for each of their cells; and of an open
-/// epoch 41 columns, the types at its line, and at most `SATELLITES_LIMIT` rows, each with an identifier of three
-/// characters and at most `TYPES_LIMIT` values, with two indicators each.
+/// The state of a compaction between two lines is bounded, however long the input is: at most seven counts of
+/// types; of only the last epoch its text, its satellites' indicators, and four numbers for each of their
+/// cells; and of an open epoch 41 columns, the types at its line, and at most `SATELLITES_LIMIT` rows, each
+/// with an identifier of three characters and at most `TYPES_LIMIT` values, with two indicators each.
 pub fn bounded_compaction()
     ensures law { (choices : Choices) (lines : List ReadLine)
         → IsBoundedCompaction (compaction_state choices lines) }
 {}
 
-/// The state of an expansion between two lines is bounded in the same way: of the last epoch its text, of 41 columns
-/// and identifiers, at most `SATELLITES_LIMIT` satellites of at most `TYPES_LIMIT` cells, each with two indicators and
-/// numbers up to order `ORDER_LIMIT`; and of an open epoch no more satellites than that, including those whose lines
-/// are awaited.
+/// The state of an expansion between two lines is bounded in the same way: of the last epoch its text, of 41
+/// columns and identifiers, at most `SATELLITES_LIMIT` satellites of at most `TYPES_LIMIT` cells, each with
+/// two indicators and numbers up to order `ORDER_LIMIT`; and of an open epoch no more satellites than that,
+/// including those whose lines are awaited.
 pub fn bounded_expansion()
     ensures law { (choices : Choices) (lines : List ReadLine)
         → IsBoundedExpansion (expansion_state choices lines) }
 {}
 
-/// The borrowed lines of a unit are bounded: at most `SATELLITES_LIMIT` and two lines, of at most `LINE_LIMIT` bytes
-/// each. A line of an epoch has at most 18 bytes for each of `TYPES_LIMIT` types in compact text, and in RINEX at most
-/// the identifier's bytes and `CELL_WIDTH` for each type.
+/// The borrowed lines of a unit are bounded: at most `SATELLITES_LIMIT` and two lines, of at most
+/// `LINE_LIMIT` bytes each. A line of an epoch has at most 18 bytes for each of `TYPES_LIMIT` types in
+/// compact text, and in RINEX at most the identifier's bytes and `CELL_WIDTH` for each type.
 pub fn bounded_lines()
     ensures compaction { (choices : Choices) (lines : List ReadLine) → CompactIsReadyToHandOut choices lines }
     ensures expansion { (choices : Choices) (lines : List ReadLine) → ExpandedIsReadyToHandOut choices lines }
 {}
 
-/// Reading of compact text starts again between two units, if the next line begins with `>` and so does the one after
-/// the events there, if any: whatever was read before, the units from there on depend only on the observation types in
-/// force and on those lines.
+/// Reading of compact text starts again between two units, if the next line begins with `>` and so does the
+/// one after the events there, if any: whatever was read before, the units from there on depend only on the
+/// observation types in force and on those lines.
 pub fn reading_starts_anew()
     ensures law { DependsOnTypes }
 {}
 
-/// Such lines: an event with a record that doesn't begin with `>`, followed by a full epoch; but not by an epoch with
-/// differences.
+/// Shows where reading starts again: at an event whose record doesn't begin with `>` and a full epoch, but
+/// not at this event and an epoch with differences.
 pub fn lines_that_start_anew()
     ensures anew { starts_anew 0 (map Content
         (line_at 1 4 1 ∷ one_type_line ∷ full_line_at 2 1 (codes "G01") ∷ [] ∷ codes "3&2000" ∷ [])) ≡ true }
@@ -141,8 +142,8 @@ pub fn ready_where_borrowed()
     ensures expansion { IsReadyWhereHandedOut expansion }
 {}
 
-/// Both directions are lawful filters: a fault stays once it is found, the output grows with the lines, and the faults
-/// are faults of lines.
+/// Both directions are lawful filters: a fault stays once it is found, the output grows with the lines, and
+/// the faults are faults of lines.
 pub fn lawful_directions()
     ensures compaction { (choices : Choices) → IsLawful (compaction_filter choices) }
     ensures expansion { (choices : Choices) → IsLawful (expansion_filter choices) }

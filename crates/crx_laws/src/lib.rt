@@ -1,6 +1,6 @@
-//! The laws of lines, of RINEX and Compact RINEX, of both filters and of the check, and worked examples of the
-//! definitions. Each is the contract of a function with an empty body, except for the way back through `Columns`, which
-//! reads the lines that were written.
+//! The laws of lines, of RINEX and Compact RINEX, of both filters and of the check, and worked examples of
+//! the definitions. Each is the contract of a function with an empty body, except for the way back through
+//! `Columns`, which reads the lines that were written.
 #![tactic(auto, using(crate::proofs::Theorems::laws), unfolding(crate::proofs::OpenedDefinitions::digits, crate::proofs::OpenedDefinitions::coded_number, crate::proofs::OpenedDefinitions::size_of, crate::proofs::OpenedDefinitions::number_of, crate::proofs::OpenedDefinitions::number_text, crate::proofs::OpenedDefinitions::warning_text))]
 
 pub mod again;

@@ -27,8 +27,8 @@ pub fn last_line()
         → lines_of piece ≡ line_of (record { bytes = piece; is_ended = false }) ∷ [] }
 {}
 
-/// The lines whose LF is among the first bytes of an input are its first lines, whatever follows: the rest of these
-/// bytes has no LF, and the other lines are the lines of that rest and the bytes after it.
+/// The lines whose LF is among the first bytes of an input are its first lines, whatever follows: the rest of
+/// these bytes has no LF, and the other lines are the lines of that rest and the bytes after it.
 pub fn ended_lines_come_first()
     ensures law { (given : List ℕ) → (rest : List ℕ) × HasNoFeed rest
         × ((more : List ℕ) → lines_of (given ++ more) ≡ ended_lines_of given ++ lines_of (rest ++ more)) }
@@ -41,8 +41,8 @@ pub fn reading_starts<R: Source>()
         (record { rest = []; passed = 0; number = 0; phase = Phase.Open }) [] }
 {}
 
-/// From one result of a reader of lines to the next: the bytes read of those that its source gave, and how often the
-/// source failed or reported its end.
+/// States how a reader of lines changes with each result: which bytes of its source it has read, and how
+/// often the source has failed or reported its end.
 pub fn reading_goes_on<R: Source>()
     ensures law { (start before after : R)
         (more : List ℕ) (old new : ReaderState) (answer : Result (Option Line) At) (lines : List InputLine)
@@ -56,8 +56,8 @@ pub fn reading_goes_on<R: Source>()
         (tally_of (R.failures start) (R.ends start)) (tally_of (R.failures after) (R.ends after)) new then }
 {}
 
-/// After the end was reported and no line is pending, the lines are those of all bytes that the source gave. The source
-/// reported its end once.
+/// After the end was reported and no line is pending, the lines are those of all bytes that the source gave.
+/// The source reported its end once.
 pub fn reading_ends<R: Source>()
     ensures law { (start now : R) (r : ReaderState) (lines : List InputLine)
         → HasRead (λ given. R.gave start given now) (R.at_end now)
@@ -68,8 +68,8 @@ pub fn reading_ends<R: Source>()
         × (R.failures now ≡ R.failures start) × (R.ends now ≡ one_more (R.ends start)) }
 {}
 
-/// After a fault ended the reading, the lines are those whose LF is among the bytes that the source gave, within the
-/// limit of an input, and the fault is in the line after them. The end wasn't reported.
+/// After a fault ended the reading, the lines are those whose LF is among the bytes that the source gave,
+/// within the limit of an input, and the fault is in the line after them. The end wasn't reported.
 pub fn reading_stops<R: Source>()
     ensures law { (start now : R) (r : ReaderState) (lines : List InputLine) (at : At)
         → HasRead (λ given. R.gave start given now) (R.at_end now)

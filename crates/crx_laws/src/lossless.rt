@@ -7,8 +7,9 @@ ghost use Rattle.crx_laws.specs.SmallFiles.{header, epoch_line_at, observed, pla
 ghost use Rattle.crx_base.specs.meaning.Choices.{is_date};
 ghost use Rattle.crx_filter.specs.meaning.Standard.{checked};
 
-/// A file that a check passes, with status 0, is restored byte for byte from its compact text, with no message and
-/// status 0, for any options of both: the distance of full epochs, whether faults are skipped, and the date.
+/// A file that a check passes, with status 0, is restored byte for byte from its compact text, with no
+/// message and status 0, for any options of both: the distance of full epochs, whether faults are skipped,
+/// and the date.
 pub fn what_passes_comes_back()
     ensures law { WhatPassesComesBack }
 {}

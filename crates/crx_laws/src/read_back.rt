@@ -15,19 +15,17 @@ use crx_compact::{Coded, Columns};
 use crx_header::Types;
 use crx_rinex::{Epoch, is_event_line};
 
-/// Returns whether a line may be one of an observation epoch: it is within the length limit, and isn't an event's first
-/// line.
+/// Returns whether a line has at most [`LINE_LIMIT`] bytes and isn't an event's first line.
 fn is_readable(line: &[u8]) -> bool
     ensures { IsTrue result ↔ IsReadable line.now }
 {
     line.len() <= LINE_LIMIT && !is_event_line(line)
 }
 
-/// Reads compact lines, borrowed one after another, up to the end of their epoch, and returns it; `None` if more lines
-/// are needed.
+/// Reads the pending lines of `coded` up to the end of their epoch, and returns it, or `None` if they end
+/// before.
 ///
-/// The faults are those of [`Columns::begin`] and [`Columns::feed`], and `NotAnEpoch` at an event's line or a line
-/// above the length limit.
+/// Returns the errors of [`Columns::begin`] and [`Columns::feed`], and `NotAnEpoch` at an unreadable line.
 fn read_coded(
     columns: &mut Columns,
     types: &Types,
@@ -60,17 +58,18 @@ fn read_coded(
 
 /// Reads the compact lines of an encoded epoch, by the counts of types of its rows, and returns the epoch.
 ///
-/// If the columns have the history of the earlier epochs, or the epoch is full, the only fault is `OutOfMemory`.
-/// Otherwise the faults are those of [`Columns::begin`] and [`Columns::feed`], and `NotAnEpoch` at an event's line or a
-/// line above the length limit. After such a fault at a later line than the first, the columns stay inside an epoch.
+/// If the columns have the history of the earlier epochs, or the epoch is full, the only fault is
+/// `OutOfMemory`. Otherwise the faults are those of [`Columns::begin`] and [`Columns::feed`], and
+/// `NotAnEpoch` at an event's line or a line above the length limit. After such a fault at a later line than
+/// the first, the columns stay inside an epoch.
 pub fn read_back(
     columns: &mut Columns,
     types: &Types,
     coded: &mut Coded,
 ) -> Result<Option<Epoch>, Fault>
     requires idle { is_idle columns.old ≡ true }
-    // After any epochs that are written so that they can be read, the lines are read as the newest of them, and the
-    // reader then has the writer's history.
+    // After any epochs that are written so that they can be read, the lines are read as the newest of them,
+    // and the reader then has the writer's history.
     ensures epoch { (m : Marked) (older : List Marked)
         → AreWhole types.now (since_full (m ∷ older)) → coded.old.lines ≡ compact_epoch (m ∷ older)
         → (m.in_full ≡ false → tail_held columns.old ≡ tail_or_nothing older)

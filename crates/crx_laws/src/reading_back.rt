@@ -13,14 +13,15 @@ ghost use Rattle.crx_rinex.specs.meaning.Printing.{printed_row, printed_head, pr
 ghost use Rattle.crx_rinex.specs.meaning.Units.{Observation};
 ghost use Rattle.crx_laws.specs.Examples.{one_type, g02, epoch_of_two};
 
-/// The printed line of a sound row, with a value for each type of its system, is read as that row: its identifier, each
-/// value and each indicator.
+/// The printed line of a sound row, with a value for each type of its system, is read as that row: its
+/// identifier, each value and each indicator.
 pub fn a_row_is_read_back()
     ensures law { (types : List Count) (row : Row)
         → IsSoundRow row → HasItsTypes types row → row_of types (printed_row row) ≡ Ok row }
 {}
 
-/// A printed epoch line is read as its columns 1 to 41, the count of satellites in them, and its receiver clock offset.
+/// A printed epoch line is read as its columns 1 to 41, the count of satellites in them, and its receiver
+/// clock offset.
 pub fn an_epoch_line_is_read_back()
     ensures law { (line : ObservationHead) → IsObservationHead line
         → head_of (printed_head line.head line.clock) ≡ Ok (EpochHead line.head line.count line.clock) }
@@ -33,7 +34,8 @@ pub fn an_epoch_is_read_back()
         ≡ Done (Observation epoch) (length epoch.rows + 1) }
 {}
 
-/// Shows that the premises can be met: by a row of one value with an indicator, and by an epoch of two satellites.
+/// Shows that the premises can be met: by a row with a value and an indicator, and an epoch of two
+/// satellites.
 pub fn premises()
     ensures row { IsSoundRow g02 }
     ensures types { HasItsTypes one_type g02 }

@@ -51,8 +51,8 @@ pub fn next_line_by_open()
         → open_with types lines ≡ Some so_far → IsDecidedByOpen types lines line so_far }
 {}
 
-/// An epoch that is read is whole: its line, its rows and their counts of types are sound, no satellite is repeated,
-/// and it took its epoch line and one line for each satellite.
+/// An epoch that is read is whole: its line, its rows and their counts of types are sound, no satellite is
+/// repeated, and it took its epoch line and one line for each satellite.
 pub fn epochs_are_whole()
     ensures law { (types : List Count) → AreCounts types → (lines : List ReadLine) (epoch : Epoch) (count : ℕ)
         → epoch_place types lines ≡ Done (Observation epoch) count
@@ -64,8 +64,8 @@ pub fn few_systems()
     ensures law { (types : List Count) → AreCounts types → length types ≤ length system_letters }
 {}
 
-/// An epoch of two satellites is open after its first two lines, whole with the third, and cut off by another epoch
-/// line or by its first satellite again.
+/// An epoch of two satellites is open after its first two lines, whole with the third, and cut off by another
+/// epoch line or by its first satellite again.
 pub fn an_epoch_of_two()
     ensures left_open { open_with one_type (first_line_of_two ∷ g01_line ∷ []) ≡ Some half_open }
     ensures wanted { epoch_place one_type (first_line_of_two ∷ g01_line ∷ []) ≡ NeedsMore }

@@ -16,8 +16,8 @@ ghost use Rattle.crx_laws.specs.SmallFiles.{damaged_by, epoch_at_second, epoch_l
 ghost use Rattle.crx_laws.specs.SmallStretches.{second_block};
 ghost use Rattle.crx_rinex.specs.meaning.Units.{Observation};
 
-/// If no fault ends it, a compaction and an expansion account for each line of their input: an accepted unit was read
-/// from it, or a warning drops it. So a status of 0 says that no line was dropped.
+/// If no fault ends it, a compaction and an expansion account for each line of their input: an accepted unit
+/// was read from it, or a warning drops it. So a status of 0 says that no line was dropped.
 pub fn nothing_is_lost_in_silence()
     ensures compaction { (choices : Choices) (file : List ℕ)
         → AccountsForFile choices file (compacted file choices) }
@@ -29,8 +29,9 @@ pub fn blocks_are_short()
     ensures law { (choices : Choices) (file : List ℕ) → HasShortBlocks choices file (compacted file choices) }
 {}
 
-/// Shows that the premises can be met: by a file and a text of which an epoch is dropped with a warning; by another
-/// file that has the lines which no warning drops; and by a block of two epochs if every second one is full.
+/// Shows that the premises can be met: by a file and a text of which an epoch is dropped with a warning; by
+/// another file that has the lines which no warning drops; and by a block of two epochs if every second one
+/// is full.
 pub fn premises()
     ensures file { (compacted (lines_text (header ++ epoch_line_at 0 2 ∷ observed (codes "1.000")
         ∷ observed (codes "1.000") ∷ [])) with_skip).fault ≡ None }

@@ -8,8 +8,8 @@ ghost use Rattle.crx_base.specs.meaning.Choices.{Choices};
 ghost use Rattle.crx_rinex.specs.meaning.Observations.{Epoch};
 ghost use Rattle.crx_rinex.specs.meaning.Units.{Unit};
 
-/// Units that make a file have a RINEX text and a compact text. A compaction makes the second from the first, and an
-/// expansion the first from the second, with any options.
+/// Units that make a file have a RINEX text and a compact text. A compaction makes the second from the first,
+/// and an expansion the first from the second, with any options.
 pub fn units_and_text()
     ensures law { (units : List (Unit Epoch)) (compacting expanding : Choices)
         → TextsOfUnits units compacting expanding }
@@ -20,8 +20,8 @@ pub fn standard_files_are_units()
     ensures law { (file : List ℕ) → IsStandardByUnits file }
 {}
 
-/// Shows that the premises can be met: by a header, two epochs, an event with a record, and one more epoch; and shows
-/// the two texts of these units.
+/// Shows that the premises can be met: by a header, two epochs, an event with a record, and one more epoch;
+/// and shows the two texts of these units.
 pub fn premises()
     ensures met { MakeAFile units_with_event }
     ensures rinex { rinex_text units_with_event ≡ lines_text with_event }

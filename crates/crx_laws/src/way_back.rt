@@ -12,9 +12,10 @@ ghost use Rattle.crx_filter.specs.meaning.Standard.{whole_of, IsStandard};
 ghost use Rattle.crx_filter.specs.WayBack.{ComesBack, NormalFormComesBack, StandardComesBack, IsStandardWhereSame};
 ghost use Rattle.crx_filter.specs.meaning.WayBack.{HaveNoReturns};
 
-/// Compacted units are restored: if no fault ends the compaction, the expansion of its compact text writes each
-/// accepted unit as RINEX prints it, reports nothing, and ends with status 0. Faults may be skipped or not, in both
-/// directions, and any epochs may be full. No content of a header line, event line or record may end in CR.
+/// Compacted units are restored: if no fault ends the compaction, the expansion of its compact text writes
+/// each accepted unit as RINEX prints it, reports nothing, and ends with status 0. Faults may be skipped or
+/// not, in both directions, and any epochs may be full. No content of a header line, event line or record may
+/// end in CR.
 pub fn what_was_compacted_comes_back()
     ensures law { (input : List ℕ) (compacting expanding : Choices) → ComesBack input compacting expanding }
 {}
@@ -25,23 +26,23 @@ pub fn the_normal_form_comes_back()
         → NormalFormComesBack input compacting expanding }
 {}
 
-/// A standard file is restored byte for byte, with any options in both directions: the distance of full epochs, whether
-/// faults are skipped, and the date.
+/// A standard file is restored byte for byte, with any options in both directions: the distance of full
+/// epochs, whether faults are skipped, and the date.
 pub fn a_standard_file_comes_back()
     ensures law { (input : List ℕ) (compacting expanding : Choices)
         → StandardComesBack input compacting expanding }
 {}
 
-/// The converse: if a file that is read to its good end is restored byte for byte, with any options, it is standard. A
-/// file with a header line, event line or record whose content ends in CR never is, because it is restored with fewer
-/// CRs.
+/// The converse: if a file that is read to its good end is restored byte for byte, with any options, it is
+/// standard. A file with a header line, event line or record whose content ends in CR never is, because it is
+/// restored with fewer CRs.
 pub fn what_comes_back_is_standard()
     ensures law { (input : List ℕ) (compacting expanding : Choices)
         → IsStandardWhereSame input compacting expanding }
 {}
 
-/// Shows that the premises can be met: by a date; by a standard file; and, if faults are skipped, by a file with two
-/// warnings, an event and no line that ends in CR.
+/// Shows that the premises can be met: by a date; by a standard file; and, if faults are skipped, by a file
+/// with two warnings, an event and no line that ends in CR.
 pub fn premises()
     ensures date { is_date (plain_choices.date) ≡ true }
     ensures standard { IsStandard (lines_text (header ++ epoch_line_at 0 1 ∷ observed (codes "1.000") ∷ [])) }

@@ -6,14 +6,15 @@ ghost use Rattle.crx_laws.specs.SmallFiles.{damaged_by, of_other_orders, with_re
 ghost use Rattle.crx_base.specs.meaning.Choices.{Choices};
 ghost use Rattle.crx_filter.specs.meaning.Expanded.{expanded};
 
-/// The output of an expansion without a fault is a standard file, unless a line of it ends in CR: for compact text of
-/// any writer, damaged or not, with or without `-s`. A line of the output ends in CR if and only if a copied line does.
+/// The output of an expansion without a fault is a standard file, unless a line of it ends in CR: for compact
+/// text of any writer, damaged or not, with or without `-s`. A line of the output ends in CR if and only if a
+/// copied line does.
 pub fn what_is_expanded_is_standard()
     ensures law { (text : List ℕ) (choices : Choices) → WhatIsExpandedIsStandard text choices }
 {}
 
-/// Shows that the premises can be met: by a damaged text if faults are skipped, and by a text with arcs of the orders 1
-/// and 0. For a text with a copied line that ends in CR, a line of the output ends in CR.
+/// Shows that the premises can be met: by a damaged text if faults are skipped, and by a text with arcs of
+/// the orders 1 and 0. For a text with a copied line that ends in CR, a line of the output ends in CR.
 pub fn premises()
     ensures damaged { (expanded (damaged_by (codes "xyz" ∷ [])) with_skip).fault ≡ None }
     ensures damaged_plain { has_plain_lines
