@@ -58,8 +58,8 @@ pub struct Checking {
 }
 
 /// A check of a RINEX file that takes its lines one at a time. It skips no fault, whatever its options are.
-/// After the whole input was accepted, it lends the lines of the report. Its faults are the faults of a
-/// [`Compactor`](crate::Compactor).
+/// After the whole input was accepted, it lends the lines of the report. Its faults are a
+/// [`Compactor`](crate::Compactor)'s.
 pub type Checker = Lender<Checking>;
 
 impl Model for Checking {
@@ -73,8 +73,9 @@ impl Model for Checking {
 }
 
 impl Noted {
-    /// Counts the observations of the reader's last row and, if `is_last`, the row's epoch. Then notes
-    /// whether `line`, from which the row was read, is standard.
+    /// Counts the observations of the last row of `reader`, read from `line`. `is_last`: its epoch is
+    /// complete, and is counted too. Notes the number of `line` if it is the first that isn't standard: it
+    /// has CR or no LF, or differs from its printed form.
     #[inline(always)]
     fn note_row(&mut self, reader: &RinexReader, is_last: bool, line: Line<'_>)
         requires behind { IsBehindARow self.old.observed (line_shown line).content reader.now }
@@ -104,9 +105,9 @@ impl Noted {
         self.not_standard = Some(line.number());
     }
 
-    /// Notes a line that isn't a satellite line: stores the version, or counts an event or an epoch without
-    /// satellites, and notes whether `line` is standard. Only an epoch line is compared with its printed
-    /// form, because all others are copied. `step`: the reader's answer to `line`.
+    /// Notes `line`, which isn't a satellite line, after the reader's answer `step`: stores the version, or
+    /// counts an event or an epoch without satellites. Notes its number if it is the first that isn't
+    /// standard; only an epoch line is compared with its printed form, because all others are copied.
     fn note(&mut self, reader: &RinexReader, step: RinexStep, line: Line<'_>)
         requires within { self.old.totals.epochs + self.old.totals.events < INPUT_LIMIT }
         requires held { step ≡ RinexStep.Begun → is_some reader.now.head ≡ true }
@@ -152,7 +153,7 @@ impl Noted {
     }
 }
 
-/// Returns the options of every check: none is chosen.
+/// Returns the options of every check: no N for full epochs, no skipping and an empty date.
 pub fn no_options() -> Options
     ensures value { result ≡ no_choices }
 {
@@ -229,6 +230,7 @@ impl Direction for Checking {
         self.reader.stage
     }
 
+    /// Notes a row. Returns `Ok(false)`, `RepeatedSatellite`, or the faults of [`RinexReader::read_row`].
     #[inline(always)]
     fn take_in_epoch(&mut self, line: Line<'_>) -> Result<bool, Fault> {
         self.reader.read_row(line.padded())?;
@@ -250,6 +252,7 @@ impl Direction for Checking {
         self.reader.stage = stage;
     }
 
+    /// Ends the input and returns `true`: all lines of the report are ready.
     fn conclude(&mut self) -> bool {
         self.reader.stage = Stage::Closed;
         self.handed_out = 0;
@@ -274,13 +277,14 @@ impl Direction for Checking {
         None
     }
 
+    /// Returns `None`: the report is lent line by line.
     fn take_text(&mut self) -> Option<&[u8]> {
         None
     }
 }
 
 impl LineEngine<Checking> {
-    /// Returns the number of the first line so far that isn't standard.
+    /// Returns the number of the first line so far that isn't standard, or `None` if all are.
     pub fn not_standard(&self) -> Option<u64>
         ensures value { result ≡ self.now.direction.noted.not_standard }
     {

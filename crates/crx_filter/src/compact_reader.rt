@@ -1,5 +1,4 @@
-//! Compact RINEX 3.0, one line at a time: the kind of each line, the observation types in force, and the open
-//! epoch.
+//! Compact RINEX 3.0, line by line: the kind of each line, the types in force, and the open epoch.
 
 ghost use Rattle.std.specs.Prelude.{◌≡◌, ◌≢◌, ◌≤◌, ◌⊎◌, if◌then◌else◌, [], true, false, length};
 ghost use Rattle.crx_base.specs.declared.limits.TheConstants.{LINE_LIMIT};
@@ -35,10 +34,9 @@ impl CompactReader {
     ghost use Rattle.crx_base.specs.Padded.{line_in};
     ghost use Rattle.crx_filter.specs.CompactReaders.{ReadsCompactLine, line_copied};
 
-    /// Reads a line of the open epoch. `Ok(true)`: it was the last one, and the epoch's lines of RINEX are
-    /// ready.
-    ///
-    /// Returns the faults of [`Columns::feed_into`]; after a fault no epoch is open.
+    /// Reads a line of the open epoch and prints its row into `lines`. `Ok(true)`: it was the last one, and
+    /// `lines` has all the epoch's lines of RINEX. Returns the faults of [`Columns::feed_into`]; after a
+    /// fault all epochs are forgotten, the open one too, and `lines` is empty.
     #[inline(always)]
     pub(crate) fn continue_epoch(
         &mut self,
@@ -65,14 +63,15 @@ impl CompactReader {
         }
     }
 
-    /// Reads a line when no epoch is open. `Ok(true)`: the line is copied into RINEX as it is.
+    /// Reads a line when no epoch is open. `Ok(true)`: the line, of the header or of an event, is copied into
+    /// RINEX as it is. `Ok(false)`: it is one of the first two lines, begins an epoch, or is passed over.
     ///
     /// Returns `NotCompact` if the first line isn't the first line of Compact RINEX 3.0, and `BadProgLine` if
     /// the second line has another label; in the header the faults of its first line, then `BadTypesLine`;
     /// among an event's records `BadTypesLine`, if types lines count there; when an epoch or an event may
     /// begin, `BadEpoch` if an event's count is malformed, or the faults of [`Columns::begin`]. `OutOfMemory`
     /// is returned only at a line without a fault: the first types line that counts, or an epoch's first
-    /// line.
+    /// line. After a fault the stage and the types are unchanged.
     #[inline(never)]
     pub(crate) fn read_between(&mut self, line: &[u8]) -> Result<bool, Fault>
         requires running { is_ended self.old.stage ≡ false }
@@ -119,8 +118,9 @@ impl CompactReader {
         }
     }
 
-    /// Reads a line that may begin an epoch or an event. `Ok(true)`: it begins an event. Returns `BadEpoch`
-    /// if an event's count is malformed, and the faults of [`Columns::begin`].
+    /// Reads a line that has to begin an epoch, which is then open (`Ok(false)`), or an event (`Ok(true)`).
+    /// Returns `BadEpoch` if an event's count is malformed, or the faults of [`Columns::begin`], which forget
+    /// every epoch. After a fault the stage is unchanged.
     #[inline(never)]
     fn begin_unit(&mut self, line: &[u8]) -> Result<bool, Fault>
         requires stage { (self.old.stage ≡ Between)

@@ -28,16 +28,12 @@ pub struct Compaction {
     encoder: Encoder,
 }
 
-/// A compaction into Compact RINEX 3.0. It takes the lines of a RINEX file one at a time and lends the
-/// compact lines.
+/// A compaction into Compact RINEX 3.0. It takes the lines of a RINEX file and lends the compact lines.
 ///
-/// The faults of a line are `MissingVersion`, `UnsupportedVersion` and `NotObservation` at the first line;
-/// `BadTypesLine` in the header, and among an event's records if types lines count there; and, unless faults
-/// are skipped, `NotAnEpoch`, `BadEpoch` and `BadClock` when an epoch or an event may begin, and `Truncated`,
-/// `BadSatellite`, `BadField`, `BadFlags` and `RepeatedSatellite` in an epoch. `OutOfMemory` is returned only
-/// if a growth was refused, at a types line that counts or in an epoch. At the end the fault is
-/// `MissingVersion` before the first line, `NoEndOfHeader` in the header, and `Truncated` among an event's
-/// records and, unless faults are skipped, in an epoch.
+/// The faults of a line are the faults of [`RinexReader::take`] and [`RinexReader::read_row`],
+/// `RepeatedSatellite`, and `OutOfMemory` if a growth was refused, at a types line that counts or in an
+/// epoch. At the end the fault is the one of [`Stage::fault_at_end`]. If faults are skipped, only
+/// `OutOfMemory`, and the faults in the header and among an event's records, are returned.
 pub type Compactor = Lender<Compaction>;
 
 impl Model for Compaction {
@@ -50,7 +46,7 @@ impl Model for Compaction {
     ghost invariant = { λ c. BelongTogether c.reader c.encoder };
 }
 
-/// Returns whether the user's choice of `every` makes the epoch at `index`, counted from 0, a full one.
+/// Returns whether the epoch `index`, from 0, is full because `every` divides it; 0 and `None` never do.
 fn is_at_every(every: Option<u32>, index: u64) -> bool
     ensures { result ≡ is_at_every every index }
 {
@@ -61,8 +57,8 @@ fn is_at_every(every: Option<u32>, index: u64) -> bool
 }
 
 /// Reads a satellite line of the open epoch and encodes its row. `Ok(true)`: it was the epoch's last. Returns
-/// the faults of [`RinexReader::read_row`], `RepeatedSatellite`, and `OutOfMemory`, after which the open
-/// epoch is dropped.
+/// the faults of [`RinexReader::read_row`], and `RepeatedSatellite`, after which the epoch is open without
+/// the row; and `OutOfMemory`, after which every epoch is forgotten and none is open.
 #[inline(always)]
 fn compact_row(
     reader: &mut RinexReader,
@@ -89,7 +85,7 @@ fn compact_row(
     }
 }
 
-/// Makes the compact lines of an epoch whose rows have all been encoded.
+/// Ends the epoch of `reader`, whose rows have all been encoded: its compact lines are then pending.
 fn end_epoch(reader: &RinexReader, encoder: &mut Encoder)
     requires whole { HasWholeEpoch reader.now encoder.old }
     ensures ends { (head : ObservationHead) → reader.now.head ≡ Some head → EndsEpoch head encoder.old encoder.new }
@@ -175,6 +171,8 @@ impl Direction for Compaction {
         Ok(true)
     }
 
+    /// Returns `Lines` at an epoch line without satellites, `AsItIs` at a line of the header or of an event,
+    /// otherwise `Nothing`; or the faults of [`RinexReader::take`].
     fn take_elsewhere(&mut self, options: &Options, line: Line<'_>) -> Result<LineOutput, Fault> {
         match self.reader.take(line.bytes())? {
             RinexStep::Nothing => Ok(LineOutput::Nothing),
@@ -204,6 +202,7 @@ impl Direction for Compaction {
         self.reader.stage = stage;
     }
 
+    /// Ends the input and returns `false`: no line is ready.
     fn conclude(&mut self) -> bool {
         self.reader.stage = Stage::Closed;
         false

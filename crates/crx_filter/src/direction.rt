@@ -70,7 +70,7 @@ pub trait Direction: Drop {
     ghost no_report_when_skipping: { (d : Self) (choices : Choices) (lines : List InputLine)
         → options_used choices ≡ choices → choices.skip ≡ true → report_is_right d lines };
 
-    /// Returns the user's options as the direction uses them.
+    /// Returns the user's options as the direction uses them: unchanged, or for a check none.
     fn options_used(options: Options) -> Options
         ensures value { result ≡ options_used options }
         ensures same { options_used result ≡ result };
@@ -92,7 +92,8 @@ pub trait Direction: Drop {
         ensures lawful { IsLawfulDirection by_line options_used lines_at_end_after state_after_lines filter }
         ensures passes { KnowsStill by_line options_used state_after_lines (parts self.now) (notes_are_right self.now) };
 
-    /// Takes a line of the open epoch. `Ok(true)`: lines are ready. Returns the fault of an invalid line.
+    /// Takes a line of the open epoch. `Ok(true)`: the epoch's lines are ready (never for a check). Returns
+    /// the line's fault, or `OutOfMemory`; the caller then calls [`Direction::end_with`].
     fn take_in_epoch(&mut self, line: Line<'_>) -> Result<bool, Fault>
         requires open { is_open_stage (parts self.old).stage ≡ true }
         requires asked { AwaitsLine (ready self.old) (units_counted self.old) }
@@ -102,7 +103,7 @@ pub trait Direction: Drop {
             (notes_are_right self.old) (notes_are_right self.new) };
 
     /// Takes a line when no epoch is open, and returns its output: nothing, the ready lines, or these and
-    /// then the line itself. Returns the fault of an invalid line.
+    /// then the line itself; or its fault, or `OutOfMemory`, after which the caller calls `end_with`.
     fn take_elsewhere(&mut self, options: &Options, line: Line<'_>) -> Result<LineOutput, Fault>
         requires running { is_ended (parts self.old).stage ≡ false }
         requires closed { is_open_stage (parts self.old).stage ≡ false }
@@ -112,7 +113,7 @@ pub trait Direction: Drop {
             (hands_out result) (handed_out_by result (line_shown line.entry).content (ready self.new)) (parts self.new)
             (epoch_uses self.new) (units_counted self.old) (units_counted self.new) (notes_are_right self.old) (notes_are_right self.new) };
 
-    /// Enters `stage` after a fault and drops all epochs, but not the notes of a check.
+    /// Enters `stage` after a fault and forgets all epochs, but not the types or the notes of a check.
     fn end_with(&mut self, stage: Stage)
         requires settled { is_settled stage ≡ true }
         requires drained { ready self.old ≡ [] }
@@ -125,7 +126,7 @@ pub trait Direction: Drop {
         ensures stays { (choices : Choices) (lines : List InputLine)
             → notes_are_right self.old choices lines → notes_are_right self.new choices lines };
 
-    /// Ends the input without a fault. `true`: lines are ready.
+    /// Ends an input without a fault at its end. `true`: lines are ready (the report of a check).
     fn conclude(&mut self) -> bool
         requires running { is_ended (parts self.old).stage ≡ false }
         requires good { fault_at_end_in (bare_phase (parts self.old).stage) ≡ None }
@@ -152,8 +153,8 @@ pub trait Direction: Drop {
             (epoch_uses self.old) (epoch_uses new) (notes_are_right self.old) (notes_are_right new)
             (report_is_right self.old) (report_is_right new))) };
 
-    /// Lends all ready lines as one text, each followed by LF. After `None` they stay pending, for
-    /// [`Direction::next_line`].
+    /// Lends all ready lines as one text, each followed by LF; then none is pending. Returns `None` for a
+    /// check, whose lines stay pending for [`Direction::next_line`], and for an expansion in an open epoch.
     fn take_text(&mut self) -> Option<&[u8]>
         ensures value { IfSome result (λ text. text.now ≡ lines_text (ready self.old)) }
         ensures* after_borrow { sem 𝓛 (Rests Self.row self.entry (λ new.

@@ -14,8 +14,7 @@ use std::alloc::Global;
 use std::marker::Model;
 
 /// An engine of one direction, as a run uses it. It takes the lines of an input one at a time and lends the
-/// lines that it makes. A copied line isn't kept but output as it is; a [`Lender`](crate::lender::Lender)
-/// keeps a copy.
+/// lines that it makes. A copied line isn't kept: a [`Lender`](crate::lender::Lender) keeps a copy.
 #[derive(Drop)]
 pub struct LineEngine<D: Direction> {
     options: Options,
@@ -51,8 +50,7 @@ impl<D: Direction> LineEngine<D> {
     ghost use Rattle.crx_filter.specs.declared.stage.Stage.{Stage};
     ghost use Rattle.crx_runs.specs.Engines.{IsNextLine, Stays, answer_given, lines_handed_out};
 
-    /// Returns an engine before the first line of its input. Returns `Refused` if the direction's memory is
-    /// refused.
+    /// Returns an engine before the first line, or `Refused` if its memory is refused; a check reserves none.
     pub fn new(alloc: Global, options: Options) -> Result<LineEngine<D>, Refused>
         ensures state { IfOk result (λ e. engine_state D.Direction e ≡ D.state_after_lines (D.options_used options) []) }
         ensures drained { IfOk result (λ e. engine_ready D.Direction e ≡ []) }
@@ -71,9 +69,10 @@ impl<D: Direction> LineEngine<D> {
         }
     }
 
-    /// Stores the answer to `fault` in the current line: a warning if it is skipped, otherwise the end of the
-    /// run. `skips`: faults may be skipped at this stage; `is_open`: an epoch is open; `resumes`: reading may
-    /// resume at this line. Flags instead of the stage need no temporary at each line.
+    /// Stores the answer to `fault` in the current line and forgets all epochs: a warning if it is skipped,
+    /// otherwise the fault, which ends the run. `skips`: faults may be skipped at this stage; `is_open`: an
+    /// epoch is open; `resumes`: the line begins with `>`, and has to be fed again if an open epoch is
+    /// skipped. Flags instead of the stage need no temporary at each line.
     #[cold]
     #[inline(never)]
     fn fail(&mut self, skips: bool, is_open: bool, fault: Fault, resumes: bool)
@@ -102,8 +101,8 @@ impl<D: Direction> LineEngine<D> {
         self.answer = Ok(Step::Warned { notice, again });
     }
 
-    /// Takes a line as [`Lender::feed`](crate::lender::Lender::feed) does and returns its output. After a
-    /// fault it stores the answer and returns `None`: no notice is copied per line.
+    /// Takes the next line and returns its output. After a fault, or once the run has ended, returns `None`
+    /// and stores the answer, a warning or the fault that ended the run: no notice is copied per line.
     #[inline(always)]
     pub(crate) fn answer_line(&mut self, line: Line<'_>) -> Option<LineOutput>
         requires next { IsNextLine (engine_ready D.Direction self.old) self.old.number (line_number line) }
@@ -127,8 +126,8 @@ impl<D: Direction> LineEngine<D> {
         }
     }
 
-    /// Takes a line when no epoch is open, as [`LineEngine::answer_line`] does. A separate call that gets the
-    /// line's parts needs no temporary at each line.
+    /// Takes a line when no epoch is open, as [`LineEngine::answer_line`] does. `content`: the line without
+    /// its end; `is_plain`: only an LF ends it. Passing the parts needs no temporary at each line.
     #[inline(never)]
     fn take_between(
         &mut self,
@@ -163,8 +162,8 @@ impl<D: Direction> LineEngine<D> {
         }
     }
 
-    /// Takes line `number`, which is too long. Returns `Quiet` if the engine is looking for a line that
-    /// begins with `>`; otherwise its fault is `LineTooLong`, which is skipped with a warning or returned.
+    /// Takes line `number`, which is too long. Returns `Quiet` while looking for `>` or after the end;
+    /// otherwise `LineTooLong`, as a warning or the fault that ends the run; or the fault that had ended it.
     pub(crate) fn overlong(&mut self, number: u64) -> Result<Step, At>
         requires next { IsNextLine (engine_ready D.Direction self.old) self.old.number number }
         ensures steps { step_made result [] (engine_state D.Direction self.new)
@@ -187,9 +186,9 @@ impl<D: Direction> LineEngine<D> {
         }
     }
 
-    /// Takes the end of the input. Returns `Ready` if the direction has lines then, as a check does, or
-    /// `Warned` if the fault at the end is skipped; or as an error the fault at the end, or the fault that
-    /// had ended the run.
+    /// Ends the input. Returns `Ready` if lines are ready (a check's report), `Warned` if the fault at the
+    /// end is skipped, otherwise `Quiet`; or as an error the fault at the end, or the fault that had ended
+    /// the run.
     pub(crate) fn end(&mut self) -> Result<Step, At>
         requires drained { engine_ready D.Direction self.old ≡ [] }
         ensures takes { TakesEnd D.Direction self.old result (engine_ready D.Direction self.new) self.new }
@@ -238,11 +237,13 @@ impl<D: Direction> crx_runs::Engine for LineEngine<D> {
 
     ghost answer = { λ e. e.answer };
 
+    /// Takes a line as [`LineEngine::answer_line`] does.
     #[inline(always)]
     fn take(&mut self, line: Line<'_>) -> Option<LineOutput> {
         self.answer_line(line)
     }
 
+    /// Returns the answer to the last line that had a fault; `Quiet` if none had.
     fn answer(&self) -> Result<Step, At> {
         self.answer
     }

@@ -35,18 +35,14 @@ impl Model for Expansion {
     ghost invariant = { λ e. is_open_stage e.reader.stage ≡ true → ArePrinted e.reader.columns.value e.lines };
 }
 
-/// An expansion of Compact RINEX 3.0 into RINEX. It takes the compact lines one at a time and lends the lines
-/// of RINEX.
+/// An expansion of Compact RINEX 3.0 into RINEX. It takes the compact lines and lends the lines of RINEX.
 ///
-/// The faults of a line are `NotCompact` and `BadProgLine` at the first two lines; `MissingVersion`,
-/// `UnsupportedVersion`, `NotObservation` and `BadTypesLine` in the header; `BadTypesLine` among an event's
-/// records, if types lines count there; and, unless faults are skipped, the faults of an event's first line,
-/// of [`Columns::begin`](crx_compact::Columns::begin) and of [`Columns::feed`](crx_compact::Columns::feed).
-/// `OutOfMemory` is returned only at a line without a fault: the first types line that counts, or the first
-/// line of an epoch with a satellite that no accepted epoch had with the same number of types. At the end the
-/// fault is `NotCompact` before the first line, `BadProgLine` before the second, `MissingVersion` before the
-/// header, `NoEndOfHeader` in it, and `Truncated` among an event's records and, unless faults are skipped, in
-/// an epoch.
+/// The faults of a line are the faults of [`CompactReader::read_between`] and
+/// [`CompactReader::continue_epoch`]. `OutOfMemory` is returned only at a line without a fault: the first
+/// types line that counts, or the first line of an epoch with a satellite that no accepted epoch had with the
+/// same number of types. At the end the fault is the one of [`Stage::fault_at_end`]. If faults are skipped,
+/// only `OutOfMemory`, and the faults in the first two lines, in the header and among an event's records, are
+/// returned.
 pub type Expander = Lender<Expansion>;
 
 impl Direction for Expansion {
@@ -116,6 +112,7 @@ impl Direction for Expansion {
         self.reader.continue_epoch(line.padded(), &mut self.lines)
     }
 
+    /// Returns `AsItIs` at a line to copy, otherwise `Nothing`, or a fault of `CompactReader::read_between`.
     fn take_elsewhere(&mut self, _options: &Options, line: Line<'_>) -> Result<LineOutput, Fault> {
         if self.reader.read_between(line.bytes())? {
             return Ok(LineOutput::AsItIs);
@@ -130,11 +127,13 @@ impl Direction for Expansion {
         reader.stage = stage;
     }
 
+    /// Ends the input and returns `false`: no line is ready.
     fn conclude(&mut self) -> bool {
         self.reader.stage = Stage::Closed;
         false
     }
 
+    /// Returns whether no ready line is pending; the printed lines of an open epoch aren't ready.
     fn is_drained(&self) -> bool {
         self.reader.stage.is_in_epoch() || self.lines.is_drained()
     }
@@ -146,6 +145,7 @@ impl Direction for Expansion {
         self.lines.next_line()
     }
 
+    /// Lends all ready lines as one text; `None` in an open epoch, which has no ready line.
     fn take_text(&mut self) -> Option<&[u8]> {
         if self.reader.stage.is_in_epoch() {
             return None;

@@ -28,17 +28,16 @@ use std::alloc::Global;
 
 /// Compacts a RINEX 3.0x observation file into Compact RINEX 3.0. It reads the file once from front to back,
 /// writes each line as soon as it is ready, and reports warnings and the fault that ends the run, one line
-/// each.
+/// each. The status is 1 with a fault, 2 after warnings, otherwise 0.
 ///
-/// If no device failed and memory didn't run out, the output, the messages, the status and the fault are
-/// exactly those of the compaction of the whole input, of at most
-/// [`INPUT_LIMIT`](crx_base::limits::INPUT_LIMIT) bytes. If a device or memory failed or the input is longer,
-/// the fault is `ReadFailed`, `WriteFailed`, `OutOfMemory` or `InputTooLong`, and the output is a prefix of
-/// the defined output.
+/// If no device or memory failed and the input has at most [`INPUT_LIMIT`](crx_base::limits::INPUT_LIMIT)
+/// bytes, the output, the messages, the status and the fault are exactly those of the compaction of the whole
+/// input. Otherwise the fault is `ReadFailed`, `WriteFailed`, `OutOfMemory` or `InputTooLong`, and the output
+/// is a prefix of the defined output.
 ///
-/// The RINEX text of units that make a file becomes their compact text. Files with the same normal form have
-/// the same compact text. If no fault ends the run, each unit is read from its own lines, and a warning drops
-/// the other lines, never past the next `>`. The file without the dropped lines has no fault.
+/// `options`: full epochs, date, and whether faults are skipped. A skipped fault, in an epoch or in the line
+/// that should begin a unit, drops the unit and all lines up to a later `>`, with a warning; others end the
+/// run. Files with the same normal form, their units' printed text, have the same compact text.
 #[inline(never)]
 pub fn compact<R: Source, W: Sink, M: Sink>(
     alloc: Global,
@@ -75,7 +74,7 @@ pub fn compact<R: Source, W: Sink, M: Sink>(
 
 /// Expands Compact RINEX 3.0 into RINEX 3.0x, in the same way: under the conditions of [`compact`] the
 /// output, the messages, the status and the fault are those of the expansion of the whole input. The only
-/// option that it uses is whether faults are skipped.
+/// option that it uses is whether faults are skipped, with warnings; otherwise the first ends the run.
 ///
 /// A file that passes a check is restored byte for byte from its compact text, and the compact text of units
 /// that make a file becomes their RINEX text. Compact text that follows the format is expanded to the file

@@ -14,15 +14,14 @@ ghost use Rattle.crx_filter.specs.declared.lender.Lender.TheInside.{Inside as Le
 ghost use Rattle.crx_filter.specs.declared.checking.Checking.TheInside.{Inside as CheckingInside};
 ghost use Rattle.crx_filter.specs.CheckingParts.{CheckingState};
 
-/// Says that the parts of engines hold nothing but the named fields: a value that takes over these fields
-/// from another equals the other. So no further field exists in which a record of past lines could grow.
+/// Does nothing; its contract proves that options and a reader of RINEX have only the named fields: a value
+/// with these fields of another equals it. So no other field can hold a record of past lines.
 pub fn readers_hold()
     ensures options { (one other : OptionsInside) → options_with one other ≡ other }
     ensures reader { (one other : RinexReader) → rinex_reader_with one other ≡ other }
 {}
 
-/// Says the same of engines and their named parts: no further part exists in which a record of past lines
-/// could grow.
+/// Does nothing; its contract proves the same of engines, lenders and their named parts.
 pub fn engines_hold()
     ensures compaction { (one other : CompactionInside) → compaction_inside_with one other ≡ other }
     ensures compacting { (one other : EngineInside CompactionState)

@@ -49,8 +49,7 @@ impl<D: Direction> Lender<D> {
     ghost use Rattle.crx_filter.specs.contracts.lender.Lender.{the_row};
     ghost use Rattle.crx_runs.specs.Engines.{IsNextLine};
 
-    /// Returns an engine before the first line of its input, with memory for one line. Returns `AllocError`
-    /// if memory is refused.
+    /// Returns an engine before the first line, with memory for a line; `AllocError` if memory is refused.
     pub fn new(alloc: Global, options: Options) -> Result<Lender<D>, AllocError>
         ensures state { IfOk result (λ e. lender_state D.Direction e ≡ D.state_after_lines (D.options_used options) []) }
         ensures drained { IfOk result (λ e. lender_ready D.Direction e ≡ []) }
@@ -65,8 +64,8 @@ impl<D: Direction> Lender<D> {
         })
     }
 
-    /// Takes line `number`, which is too long. Returns `Quiet` if the engine is looking for a line that
-    /// begins with `>`; otherwise the answer of [`Lender::feed`] to the fault `LineTooLong`.
+    /// Takes line `number`, which is too long. Returns `Quiet` while looking for `>` or after the end;
+    /// otherwise `LineTooLong`, as a warning or the fault that ends the run; or the fault that had ended it.
     pub fn overlong(&mut self, number: u64) -> Result<Step, At>
         requires next { IsNextLine (lender_ready D.Direction self.old) self.old.engine.number number }
         ensures steps { step_made result [] (lender_state D.Direction self.new)
@@ -78,9 +77,9 @@ impl<D: Direction> Lender<D> {
         self.engine.overlong(number)
     }
 
-    /// Takes the end of the input. Returns `Ready` if the direction has lines then, as a check does, or
-    /// `Warned` if the fault at the end is skipped; or as an error the fault at the end. A second call
-    /// succeeds with the same lines, or returns the fault that ended the run.
+    /// Ends the input. Returns `Ready` if the direction now has lines (a check's report), `Warned` if the
+    /// fault at the end is skipped, otherwise `Quiet`; or the fault at the end, or the fault that had ended
+    /// the run. A second call returns the same lines or the same fault, and `Quiet` after `Warned`.
     pub fn end(&mut self) -> Result<Step, At>
         requires drained { lender_ready D.Direction self.old ≡ [] }
         ensures takes { TakesEnd D.Direction self.old.engine result (lender_ready D.Direction self.new) self.new.engine }
@@ -117,7 +116,7 @@ impl<D: Direction> Lender<D> {
         !self.is_pending && self.engine.direction.is_drained()
     }
 
-    /// Lends the next ready line, without its line end; `None` if none is pending.
+    /// Lends the next ready line, a copied line last, without its line end; `None` if none is pending.
     pub fn next_line(&mut self) -> Option<&[u8]>
         ensures value { option_copied result ≡ slice_get (lender_ready D.Direction self.old) 0 }
         // The direction changes too: it counts the lines that it has lent.

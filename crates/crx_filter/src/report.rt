@@ -17,7 +17,7 @@ use itoa::Buffer;
 /// The number of lines in a report.
 pub const REPORT_LINES: usize = 6;
 
-/// Sets `text` to `word` followed by `count`.
+/// Sets `text` to `word` followed by `count` in decimal digits.
 fn put_count(text: &mut Text, word: &[u8], count: u64)
     requires { length word.now ≤ 20 }
     ensures { text.new ≡ word.now ++ decimal count }
@@ -27,7 +27,7 @@ fn put_count(text: &mut Text, word: &[u8], count: u64)
     append(text, Buffer::new().format(count).as_bytes());
 }
 
-/// Appends a blank, a system's `letter`, a blank and its `count` of types.
+/// Appends a blank, a system's `letter`, a blank and `count`, its number of types.
 fn append_count(text: &mut Text, letter: u8, count: usize)
     requires { length text.old ≤ 1000 }
     ensures value { text.new ≡ text.old ++ count_text (letter, count) }
@@ -39,7 +39,7 @@ fn append_count(text: &mut Text, letter: u8, count: usize)
     append(text, Buffer::new().format(count).as_bytes());
 }
 
-/// Sets `text` to the report's line of systems, each with its count of types.
+/// Sets `text` to the report's line of systems: each letter in `types` with its count, or `systems none`.
 fn put_systems(text: &mut Text, types: &Types)
     ensures { text.new ≡ codes "systems" ++ systems_text types.now }
 {
@@ -56,7 +56,8 @@ fn put_systems(text: &mut Text, types: &Types)
     }
 }
 
-/// Sets `text` to the report's line at `index`, from 0. Returns `false` if there is no such line.
+/// Sets `text` to the report's line at `index`, from 0; returns `false`, and keeps `text`, if there is none.
+/// `not_standard`: the number of the first line that isn't standard.
 pub fn print_report_line(
     index: usize,
     totals: &Totals,

@@ -79,7 +79,7 @@ impl RinexReader {
     }
 
     /// Reads a line that isn't a satellite line and returns its kind. While the reader is looking for a line
-    /// that begins with `>`, it passes over others.
+    /// that begins with `>`, and after the end, it passes over others.
     ///
     /// Returns, in the header, the faults of [`header_first`](crx_header::header_first) for the first line,
     /// then `BadTypesLine`; among an event's records `BadTypesLine`, if types lines count there; when an
@@ -114,7 +114,8 @@ impl RinexReader {
         }
     }
 
-    /// Reads a line that has to begin an epoch or an event. Returns the faults of [`Head::read`].
+    /// Reads a line that has to begin an epoch or an event, and returns `Begun` or `Event`. Returns the
+    /// faults of [`Head::read`]; then the reader is unchanged.
     #[inline(always)]
     fn begin_unit(&mut self, line: &[u8]) -> Result<RinexStep, Fault>
         requires stage { (self.old.stage ≡ Stage.Between)
@@ -140,9 +141,9 @@ impl RinexReader {
         }
     }
 
-    /// Reads a satellite line of the open epoch. Returns `Truncated` if it begins with `>`, otherwise the
-    /// faults of [`RowBuffer::read`]. The caller then checks whether the satellite is repeated, for the fault
-    /// `RepeatedSatellite`, and calls [`RinexReader::take_row`] if it isn't.
+    /// Reads a satellite line of the open epoch over the last row. Returns `Truncated` if it begins with `>`,
+    /// otherwise the faults of [`RowBuffer::read`], after which the last row may be any. The caller reports a
+    /// repeated satellite as `RepeatedSatellite`, and calls [`RinexReader::take_row`] otherwise.
     #[inline(always)]
     pub fn read_row(&mut self, line: Padded<'_>) -> Result<(), Fault>
         requires open { is_open_stage self.old.stage ≡ true }
@@ -162,7 +163,7 @@ impl RinexReader {
         self.row.read(&self.types, line)
     }
 
-    /// Counts the last row that was read as a row of the open epoch. Returns whether it is the epoch's last.
+    /// Adds the last row to the open epoch. Returns whether it is the epoch's last; then no epoch is open.
     #[inline(always)]
     pub fn take_row(&mut self) -> bool
         requires open { is_open_stage self.old.stage ≡ true }

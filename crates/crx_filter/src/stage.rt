@@ -48,15 +48,16 @@ impl Stage {
         matches!(self, Stage::Open)
     }
 
-    /// Returns whether faults may be skipped: after the header, outside the records of events.
+    /// Returns whether faults may be skipped: between two units, in an epoch, and while looking for `>`.
     pub fn may_skip(&self) -> bool
         ensures value { result ≡ may_skip (bare_phase self.now) }
     {
         matches!(self, Stage::Between | Stage::Open | Stage::Looking)
     }
 
-    /// Returns the fault that an end of the input means at this stage: before the header has ended, among an
-    /// event's records, and in an epoch; otherwise `None`.
+    /// Returns the fault if the input ends at this stage: in a header that isn't complete, `NotCompact`,
+    /// `BadProgLine`, `MissingVersion` or `NoEndOfHeader`, by how far it got; among an event's records and in
+    /// an epoch, `Truncated`; otherwise `None`.
     pub fn fault_at_end(&self) -> Option<Fault>
         ensures value { result ≡ fault_at_end_in (bare_phase self.now) }
         ensures open { is_open_stage self.now ≡ true → result ≡ Some Fault.Truncated }
@@ -72,8 +73,7 @@ impl Stage {
     }
 }
 
-/// Returns the stage with `left` records of an event still to be read. `counted`: types lines among them
-/// count.
+/// Returns the stage before `left` records of an event; 0: after it. `counted`: types lines among them count.
 pub fn with_records_left(left: usize, counted: bool) -> Stage
     ensures stage { IsClosedStage result (with_records_left left counted) (with_records_left left counted) }
 {
@@ -84,8 +84,8 @@ pub fn with_records_left(left: usize, counted: bool) -> Stage
     }
 }
 
-/// Returns whether types lines among an event's records count: the flag in column 32 of `line`, the event's
-/// first line, is from 2 to 5.
+/// Returns whether types lines count among an event's records: column 32 of `line`, its first, is from 2 to
+/// 5.
 pub fn counts_types(line: &[u8]) -> bool
     ensures value { result ≡ counts_types line.now }
 {

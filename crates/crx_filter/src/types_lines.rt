@@ -14,8 +14,8 @@ use crate::stage::Stage;
 use crx_base::Fault;
 use crx_header::{Types, header_first, is_end, is_types};
 
-/// Reads a header line and returns the stage after it. Returns the faults of [`header_first`] if `is_first`,
-/// then `BadTypesLine`, and `OutOfMemory` only at a types line. After a fault `types` is unchanged.
+/// Reads a header line into `types` and returns the next stage. Returns the faults of [`header_first`] if
+/// `is_first`, then `BadTypesLine`, and `OutOfMemory` only at a types line; then `types` is unchanged.
 pub fn accept_header_line(types: &mut Types, is_first: bool, line: &[u8]) -> Result<Stage, Fault>
     ensures stage { IfOk result (λ stage. IsClosedStage stage
         (if is_end_of_header line.now then BetweenUnits else InHeader false)
@@ -37,8 +37,8 @@ pub fn accept_header_line(types: &mut Types, is_first: bool, line: &[u8]) -> Res
 }
 
 /// Reads a record of an event. `counted`: types lines among the records count. Returns whether the record is
-/// a types line that counts; at such a line `BadTypesLine` or `OutOfMemory`. After a fault `types` is
-/// unchanged.
+/// a types line that counts, whose count it then stores, or at such a line `BadTypesLine` or `OutOfMemory`.
+/// After a fault `types` is unchanged.
 pub fn accept_record(types: &mut Types, counted: bool, line: &[u8]) -> Result<bool, Fault>
     ensures types { IfOk result (λ is_accepted. is_accepted ≡ empties_state counted line.now) }
     ensures good { OnOk result ((if counted then types_fault line.now else None) ≡ None) }
