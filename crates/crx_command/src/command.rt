@@ -90,7 +90,7 @@ const COMPACT_FILE: &str = "One Compact RINEX file; `-` writes to standard outpu
 
 const CHECKED_FILE: &str = "One RINEX file; `-` changes nothing";
 
-/// Returns the option `-e N`.
+/// Returns the option `-e N`, which takes numbers from 1 to 1000000.
 fn every_option<'a>(alloc: Global) -> Arg<'a>
     ensures { HasRule result every_rule }
 {
@@ -101,7 +101,7 @@ fn every_option<'a>(alloc: Global) -> Arg<'a>
         .help("Store every N-th epoch in full, at most 1000000")
 }
 
-/// Returns the option `--date TEXT`.
+/// Returns the option `--date TEXT`. It takes any text; `plan` refuses a bad date.
 fn date_option<'a>(alloc: Global) -> Arg<'a>
     ensures { HasRule result date_rule }
 {
@@ -110,7 +110,8 @@ fn date_option<'a>(alloc: Global) -> Arg<'a>
     )
 }
 
-/// Returns the argument for `-` and a file's name, in any order.
+/// Returns the argument for any number of names of files, of which `-` is one, in any order. `plan` refuses a
+/// second file and a second `-`. `help`: the argument's help text.
 fn names_of_files<'a>(alloc: Global, help: &'a str) -> Arg<'a>
     ensures { HasRule result names_rule }
 {
@@ -121,14 +122,14 @@ fn names_of_files<'a>(alloc: Global, help: &'a str) -> Arg<'a>
         .help(help)
 }
 
-/// Returns a command without arguments: its name, a line about it, and more help.
+/// Returns a command without arguments. `about`: a line about it; `help`: the text after its options.
 fn with_title<'a>(alloc: Global, name: &'a str, about: &'a str, help: &'a str) -> Command<'a>
     ensures { app_of result ≡ new_app name.now }
 {
     Command::new(alloc, name).about(about).after_help(help)
 }
 
-/// Returns a flag of one letter.
+/// Returns the flag `-letter`, which takes no value. `id`: its name in the results; `help`: its help text.
 fn flag<'a>(alloc: Global, id: &'a str, letter: char, help: &'a str) -> Arg<'a>
     ensures { HasRule result (flag_rule id.now letter) }
 {
@@ -138,7 +139,7 @@ fn flag<'a>(alloc: Global, id: &'a str, letter: char, help: &'a str) -> Arg<'a>
         .help(help)
 }
 
-/// Adds `-s` and `-f` to a command after its other arguments, or returns `AllocError`.
+/// Adds `-s` and `-f` after a command's other arguments. Returns `AllocError` if memory is refused.
 fn with_flags<'a>(alloc: Global, command: Command<'a>) -> Result<Command<'a>, AllocError>
     ensures { IfOk result (λ c. app_of c ≡ with_rule (with_rule (app_of command.entry)
         (flag_rule (codes "skip") 115)) (flag_rule (codes "force") 102)) }
@@ -148,7 +149,7 @@ fn with_flags<'a>(alloc: Global, command: Command<'a>) -> Result<Command<'a>, Al
         .arg(flag(alloc, "force", 'f', "Overwrite the output file"))
 }
 
-/// Returns the subcommand `rnx2crx`, or `AllocError`.
+/// Returns the subcommand `rnx2crx`, or `AllocError` if memory is refused.
 fn rnx2crx<'a>(alloc: Global) -> Result<Command<'a>, AllocError>
     ensures { IfOk result (λ c. shape_of c ≡ rnx2crx) }
 {
@@ -160,7 +161,7 @@ fn rnx2crx<'a>(alloc: Global) -> Result<Command<'a>, AllocError>
         .arg(names_of_files(alloc, OBSERVATION_FILE))
 }
 
-/// Returns the subcommand `crx2rnx`, or `AllocError`.
+/// Returns the subcommand `crx2rnx`, or `AllocError` if memory is refused.
 fn crx2rnx<'a>(alloc: Global) -> Result<Command<'a>, AllocError>
     ensures { IfOk result (λ c. shape_of c ≡ crx2rnx) }
 {
@@ -170,7 +171,7 @@ fn crx2rnx<'a>(alloc: Global) -> Result<Command<'a>, AllocError>
     with_flags(alloc, start)?.arg(names_of_files(alloc, COMPACT_FILE))
 }
 
-/// Returns the subcommand `check`, or `AllocError`.
+/// Returns the subcommand `check`, or `AllocError` if memory is refused.
 fn checker<'a>(alloc: Global) -> Result<Command<'a>, AllocError>
     ensures { IfOk result (λ c. shape_of c ≡ checker) }
 {
@@ -179,8 +180,8 @@ fn checker<'a>(alloc: Global) -> Result<Command<'a>, AllocError>
         .arg(names_of_files(alloc, CHECKED_FILE))
 }
 
-/// Returns the whole command line, or `AllocError`: `rnx2crx`, `crx2rnx` and `check`, each with its options and
-/// its help. Its arguments don't include the program's name.
+/// Returns the whole command line: `rnx2crx`, `crx2rnx` and `check`, each with its options and its help; or
+/// `AllocError` if memory is refused. Its arguments don't include the program's name.
 pub(crate) fn command<'a>(alloc: Global) -> Result<Command<'a>, AllocError>
     ensures { IfOk result (λ c. app_of c ≡ program) }
 {

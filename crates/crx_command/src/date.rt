@@ -14,7 +14,7 @@ static MONTHS: [&str; 12] = [
     "Jan", "Feb", "Mar", "Apr", "May", "Jun", "Jul", "Aug", "Sep", "Oct", "Nov", "Dec",
 ];
 
-/// Appends a number in two digits.
+/// Appends `number`, which is below 100, in two digits. Returns `AllocError` if memory is refused.
 fn push_two_digits(text: &mut String, number: u8) -> Result<(), AllocError>
     requires { number < 100 }
     ensures { OnOk result (string_bytes text.new ≡ string_bytes text.old ++ two_digits number) }
@@ -23,16 +23,16 @@ fn push_two_digits(text: &mut String, number: u8) -> Result<(), AllocError>
     text.push((b'0' + number % 10) as char)
 }
 
-/// Returns the English name of a month in three letters.
+/// Returns the English name of the month of `at` in three letters, such as `Jan`.
 fn month_name(at: DateTime) -> &'static str
     ensures { result.now ≡ slice_index_or months (at.date.month - 1) [] }
 {
     MONTHS[at.month() as usize - 1]
 }
 
-/// Returns a moment in UTC, as `31-Dec-23 23:59`: the day, the English name of the month in three letters, the
-/// last two digits of the year (without its sign), the hour and the minute. Seconds are left out, so each text
-/// means the minute that it names, also before 1970. Returns `AllocError` if memory is refused.
+/// Returns a moment in UTC, as `31-Dec-23 23:59`: the day, the English name of the month in three letters,
+/// the last two digits of the year (without its sign), the hour and the minute. Seconds are left out, so each
+/// text means the minute that it names, also before 1970. Returns `AllocError` if memory is refused.
 pub fn date_text(alloc: Global, at: Timestamp) -> Result<String, AllocError>
     ensures date { IfOk result (λ text. IsDateText at.nanosecond (string_bytes text)) }
 {
@@ -50,7 +50,7 @@ pub fn date_text(alloc: Global, at: Timestamp) -> Result<String, AllocError>
     Ok(text)
 }
 
-/// Returns the date of a moment as [`date_text`] does, or an empty text if there is none, or `AllocError`.
+/// Returns `moment` as [`date_text`] does, `None` as an empty text; `AllocError` if memory is refused.
 pub fn date_of(alloc: Global, moment: Option<Timestamp>) -> Result<String, AllocError>
     ensures date { IfOk result (λ text. IsDateOf moment (string_bytes text)) }
 {
@@ -60,12 +60,12 @@ pub fn date_of(alloc: Global, moment: Option<Timestamp>) -> Result<String, Alloc
     }
 }
 
-/// Returns the clock's moment, or `None` if that has no date.
+/// Returns the clock's moment, or `None` if the clock fails or its time is later than a [`Timestamp`] can be.
 pub fn moment_now<C: Clock>(clock: &C) -> Option<Timestamp> {
     Timestamp::now(clock).ok()
 }
 
-/// Returns the date of the clock's moment, or an empty text if it has none, or `AllocError`.
+/// Returns the date of the clock's moment, empty if it has none; `AllocError` if memory is refused.
 pub fn default_date<C: Clock>(clock: &C, alloc: Global) -> Result<String, AllocError>
     ensures date { IfOk result (λ text. IsDefaultDate (string_bytes text)) }
 {

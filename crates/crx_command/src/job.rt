@@ -52,8 +52,8 @@ pub enum Decision {
 #[derive(Debug, Drop, Error)]
 #[error("{}{}", self.words(), self.subject())]
 pub enum UsageFault {
-    /// The arguments aren't those of the program, or an option has a value that it doesn't take. Holds the text
-    /// for the user.
+    /// The arguments aren't those of the program, or an option has a value that it doesn't take. Holds the
+    /// text for the user.
     Parse(Word),
     /// `-` is given twice.
     DashTwice,
@@ -97,6 +97,7 @@ impl UsageFault {
 impl From<Refused> for UsageFault {
     ghost from_gives = { λ _ fault. fault ≡ usage_fault.Memory };
 
+    /// Returns `Memory`.
     fn from(_refused: Refused) -> UsageFault {
         UsageFault::Memory
     }

@@ -62,7 +62,7 @@ static EXPANDING: [Ending; 4] = [
     },
 ];
 
-/// Returns whether the last three bytes are a point and two digits.
+/// Returns whether the last three bytes of `stem` are a point and two digits; `false` if it has fewer bytes.
 fn ends_in_year(stem: &str) -> bool
     ensures { result ≡ ends_in_year stem.now }
 {

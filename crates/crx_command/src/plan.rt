@@ -30,7 +30,7 @@ struct Arguments<'a> {
     date: Option<&'a str>,
 }
 
-/// Returns the first name that isn't `-`.
+/// Returns the first name that isn't `-`, or `None`.
 fn file_among<'a>(names: &[&'a str]) -> Option<&'a str>
     ensures { option_map (λ name. name.now) result ≡ find is_file (map (λ name. name.now) names.now) }
 {
@@ -42,7 +42,7 @@ fn file_among<'a>(names: &[&'a str]) -> Option<&'a str>
     None
 }
 
-/// Returns whether a flag was given.
+/// Returns whether the flag with the id `flag` was given.
 fn is_set(found: &ArgMatches<'_>, flag: &str) -> bool
     ensures { result ≡ is_set flag.now (rows_of (found_of found.now)) }
 {
@@ -52,7 +52,7 @@ fn is_set(found: &ArgMatches<'_>, flag: &str) -> bool
     }
 }
 
-/// Returns the arguments after a subcommand.
+/// Returns the arguments after a subcommand from clap's result; those not given are 0, `None` or `false`.
 fn arguments_of<'a>(found: &ArgMatches<'a>) -> Arguments<'a>
     ensures { given_of result ≡ given_in (rows_of (found_of found.now)) }
 {
@@ -69,7 +69,7 @@ fn arguments_of<'a>(found: &ArgMatches<'a>) -> Arguments<'a>
     }
 }
 
-/// Returns a copy of a text, if there is one, or `Refused`.
+/// Returns a copy of `text`, or `None` if there is none; or `Refused` if memory is refused.
 fn copy_word(alloc: Global, text: Option<&str>) -> Result<Option<Word>, Refused>
     ensures { IfOk result (λ word. word ≡ option_map (λ text. text.now) text.entry) }
 {
@@ -79,7 +79,8 @@ fn copy_word(alloc: Global, text: Option<&str>) -> Result<Option<Word>, Refused>
     }
 }
 
-/// Returns the run of a tool with these arguments, its input and its output, or `Refused`.
+/// Returns the run of `tool` with the options in `given`. `source`, `target`: the files to read and to write,
+/// `None` for standard input and output. Returns `Refused` if memory is refused.
 fn job(
     alloc: Global,
     tool: Tool,
@@ -101,7 +102,8 @@ fn job(
     })
 }
 
-/// Returns the decision for a subcommand's arguments: the first fault that fits, otherwise the run.
+/// Returns the run for a subcommand's arguments, or the first fault: `DashTwice`, `TwoFiles`, `BadDate`,
+/// `NoName` (see [`plan`]), or `Memory` when memory is refused.
 fn decide_for(alloc: Global, tool: Tool, given: &Arguments<'_>) -> Result<Decision, UsageFault>
     ensures { IfSome (plan_in result) (λ plan. plan ≡ decide tool (given_of given.now)) }
 {
@@ -129,7 +131,7 @@ fn decide_for(alloc: Global, tool: Tool, given: &Arguments<'_>) -> Result<Decisi
     }
 }
 
-/// Returns the tool that a subcommand names.
+/// Returns the tool of the subcommand `name`; `Check` unless it is `rnx2crx` or `crx2rnx`.
 fn tool_named(name: &str) -> Tool
     ensures { result ≡ tool_named name.now }
 {
@@ -140,8 +142,7 @@ fn tool_named(name: &str) -> Tool
     }
 }
 
-/// Returns each argument of a process once, in order, except the first, which is the program's name; or
-/// `AllocError`.
+/// Returns a process's arguments in order, without the first, its name; `AllocError` if memory is refused.
 pub fn words_given(alloc: Global, arguments: Args) -> Result<Vec<String>, AllocError>
     ensures words { IfOk result (λ words. words.items ≡ drop 1 (into_iter_items arguments)) }
 {

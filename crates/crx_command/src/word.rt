@@ -24,14 +24,14 @@ impl Model for Word {
 }
 
 impl Word {
-    /// Returns a copy of a text, or `Refused`.
+    /// Returns a copy of `text`, or `Refused` if memory is refused.
     pub fn new(alloc: Global, text: &str) -> Result<Word, Refused>
         ensures value { IfOk result (λ w. w ≡ text.now) }
     {
         Word::join(alloc, text, "")
     }
 
-    /// Returns `start` followed by `end`, or `Refused`.
+    /// Returns `start` followed by `end`, or `Refused` if memory is refused.
     pub fn join(alloc: Global, start: &str, end: &str) -> Result<Word, Refused>
         ensures value { IfOk result (λ w. w ≡ start.now ++ end.now) }
     {
@@ -41,8 +41,8 @@ impl Word {
         Ok(Word { text })
     }
 
-    /// Returns the line of an error, as `ERROR: file exists: a.crx`, with its LF, from its words and a name; or
-    /// `Refused`.
+    /// Returns `ERROR: `, `words`, `name` and LF as one line, such as `ERROR: file exists: a.crx`; or
+    /// `Refused` if memory is refused.
     pub fn error_line(alloc: Global, words: &str, name: &str) -> Result<Word, Refused>
         ensures value { IfOk result (λ w. w ≡ error_line words.now name.now) }
     {
@@ -54,7 +54,7 @@ impl Word {
         Ok(Word { text })
     }
 
-    /// Returns the text that clap shows for an error or for its help, or clap's refusal.
+    /// Returns the text that `value`, clap's error or help, shows, or `AllocError` if memory is refused.
     pub fn display<T: fmt::Display>(alloc: Global, value: &T) -> Result<Word, AllocError> {
         Ok(Word {
             text: format!(in alloc; "{value}")?,
