@@ -1,4 +1,4 @@
-//! A whole run of the program over a machine that the caller passes, and the messages of a run without a filter.
+//! Whole runs of the program over a machine that the caller passes, and messages of runs without a filter.
 #![tactic(auto)]
 
 pub mod late_writer;

@@ -1,5 +1,5 @@
-//! Devices with a log of the bytes that passed through them and of the name that opened them. Only contracts read these
-//! logs.
+//! Devices with a log of the bytes that passed through them and of the name that opened them. Only contracts
+//! read these logs.
 ghost use Rattle.std.specs.Prelude.{◌≡◌, ◌<◌, List, ℕ, [], None, ◌++◌};
 ghost use Rattle.std.specs.Borrow.{ftrue};
 ghost use Rattle.std.proofs.Common.{◌∙◌, refl};
@@ -15,12 +15,12 @@ use std::fs::OpenOptions;
 use std::io::BufWriter;
 use std::marker::{Model, PhantomData};
 
-/// The size of the output's buffer, in bytes, which avoids a system call per line. The reader of lines reads pieces of
-/// the same size.
+/// The size of the output's buffer, in bytes, which avoids a system call per line. The reader of lines reads
+/// pieces of the same size.
 pub const OUTPUT_BUFFER: usize = 65536;
 
-/// Bytes, and the calls that opened files or failed to, in order. Only contracts read them: the log needs no memory,
-/// and its methods do nothing at run time.
+/// Bytes, and the calls that opened files or failed to, in order. Only contracts read them: the log needs no
+/// memory, and its methods do nothing at run time.
 #[derive(Drop)]
 pub struct Log {
     marker: PhantomData<u8>,
@@ -42,13 +42,13 @@ impl Log {
         }
     }
 
-    /// Adds bytes at the end.
+    /// Adds `_more` to the end of the log's bytes; does nothing at run time.
     #[inline(always)]
     pub(crate) fn add(&mut self, _more: &[u8])
         ensures { self.new.bytes ≡ self.old.bytes ++ _more.now }
     {}
 
-    /// Adds a call with this name and these options.
+    /// Adds a call that opens `_name` with the options `_how` to the log; does nothing at run time.
     #[inline(always)]
     fn add_call(&mut self, _name: &[u8], _how: &OpenOptions)
         ensures { self.new.calls ≡ with_call self.old.calls _name.now _how.now }
@@ -64,8 +64,7 @@ pub struct Opening {
     how: Option<OpenOptions>,
 }
 
-/// A device with a log of its bytes and of how it was opened. Each read, write and flush is one call of the inner
-/// device.
+/// A device with a log of its bytes and of its opening. Each call is one call of the inner device.
 #[derive(Drop)]
 pub struct Logged<S> {
     inner: S,
@@ -74,8 +73,8 @@ pub struct Logged<S> {
     opening: Opening,
 }
 
-/// A file or stream that is read, or a stream that is written without a buffer, with a log. An interrupted call is
-/// repeated.
+/// A file or stream that is read, or a stream that is written without a buffer, with a log. An interrupted
+/// call is repeated.
 pub type SourceFile<F> = Logged<Std<Uninterrupted<F>>>;
 
 /// The buffer of an output file, which can be made before the file.
@@ -84,7 +83,7 @@ pub type FileBuffer<F> = BufWriter<LateWriter<UntilFailure<Uninterrupted<F>>>>;
 /// A stream that is written through a buffer, with a log. An interrupted call is repeated.
 pub type TargetStream<F> = Logged<Std<BufWriter<UntilFailure<Uninterrupted<F>>>>>;
 
-/// A file that is written through a buffer, with a log that has the file's name. An interrupted call is repeated.
+/// A file that is written through a buffer, with a log of its name too. An interrupted call is repeated.
 pub type TargetFile<F> = Logged<Std<FileBuffer<F>>>;
 
 impl<S> Logged<S> {
@@ -105,7 +104,7 @@ impl<S> Logged<S> {
         }
     }
 
-    /// Returns the inner device.
+    /// Returns the inner device, without the log.
     pub fn into_inner(self) -> S
         ensures inner { result ≡ self.inner }
     {
@@ -139,6 +138,7 @@ impl<S: Source> Source for Logged<S> {
         self.inner.may_wait()
     }
 
+    /// Reads from the inner device and logs the bytes read: none if it returns `ReadFailed`.
     fn read(&mut self, buffer: &mut [u8]) -> Result<usize, ReadFailed> {
         let count = self.inner.read(buffer)?;
         self.log.add(&buffer[..count]);
@@ -171,6 +171,7 @@ impl<S: Sink> Sink for Logged<S> {
 
     ghost is_broken = { λ s. S.is_broken s.inner };
 
+    /// Writes to the inner device and logs the bytes that it took: none if it returns `WriteFailed`.
     fn write(&mut self, bytes: &[u8]) -> Result<usize, WriteFailed> {
         let count = self.inner.write(bytes)?;
         self.log.add(&bytes[..count]);

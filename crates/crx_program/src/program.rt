@@ -36,9 +36,9 @@ pub struct Ended<F: Write + Drop> {
     pub target: Option<TargetFile<F>>,
 }
 
-/// Flushes a device's buffer, drops the device and returns its log. Output is left only after a run with status 1, so a
-/// failure of this flush adds nothing: if a message couldn't be written, the output before it is written now; after a
-/// failed write nothing is.
+/// Flushes the buffer of `device`, drops it and returns the log of its bytes. Ignores an error, because bytes
+/// are left only if the status is 1 already: after a message that couldn't be written, the output before it
+/// is written now; after a failed write nothing is.
 pub(crate) fn close_buffer<W: Write + Drop>(device: Logged<Std<BufWriter<W>>>) -> Log
     ensures { result.bytes ≡ device.log.bytes }
 {
@@ -50,7 +50,7 @@ pub(crate) fn close_buffer<W: Write + Drop>(device: Logged<Std<BufWriter<W>>>) -
 }
 
 impl<F: Write + Drop> Ended<F> {
-    /// Flushes the output file's buffer, closes the files and returns the exit status.
+    /// Flushes the output file's buffer (see [`close_buffer`]), closes the files and returns the exit status.
     fn close(self) -> u8
         ensures status { result ≡ self.status }
     {
@@ -65,7 +65,7 @@ impl<F: Write + Drop> Ended<F> {
         status
     }
 
-    /// Makes a run that opened no file.
+    /// Returns a run with this exit status that opened no file.
     fn without_files(status: u8) -> Ended<F>
         ensures status { result.status ≡ status }
         ensures source { result.source ≡ None }
@@ -79,8 +79,8 @@ impl<F: Write + Drop> Ended<F> {
     }
 }
 
-/// Returns the options of a job. The date is the job's, or for a compaction the date of `moment`. Returns `AllocError`
-/// if memory for that date is refused.
+/// Returns the options of a job. The date is the job's; without one, a compaction has the date of `moment`,
+/// or an empty date if there is no moment. Returns `AllocError` if memory for that date is refused.
 fn options_of(alloc: Global, moment: Option<Timestamp>, job: &Job) -> Result<Options, AllocError>
     requires { option_map_or is_date job.now.date true ≡ true }
     ensures { IfOk result (λ options.
@@ -98,7 +98,7 @@ fn options_of(alloc: Global, moment: Option<Timestamp>, job: &Job) -> Result<Opt
     Ok(options.unwrap())
 }
 
-/// Runs a filter and returns the exit status of its outcome.
+/// Runs the filter or check `tool` and returns the exit status of its outcome. A check uses no options.
 fn filter<R: Source, W: Sink, M: Sink>(
     alloc: Global,
     tool: Tool,
@@ -117,9 +117,9 @@ fn filter<R: Source, W: Sink, M: Sink>(
     }
 }
 
-/// Runs the job's filter into its output file, or into `output` if it names none. The file isn't made if memory for its
-/// buffer is refused. A file that exists is overwritten only if the job says so; otherwise, and if the file can't be
-/// made, this is reported with status 1.
+/// Runs the job's filter into its output file, or into `output` if it names none. A file that exists is
+/// overwritten only if the job says so. If memory for the file's buffer is refused, or then the file can't be
+/// made or exists, nothing is read; only this is reported, and the status is 1.
 fn run_to_target<H: Files, R: Source, W: Sink, M: Sink>(
     files: &mut Opener<'_, H>,
     alloc: Global,
@@ -163,8 +163,8 @@ fn run_to_target<H: Files, R: Source, W: Sink, M: Sink>(
     }
 }
 
-/// Runs a job: makes the default date if it is needed, opens the input file, makes the output file, and runs the
-/// filter.
+/// Runs a job: makes the default date if needed, opens the input file, makes the output file, and runs the
+/// filter. The first step before the filter that fails is reported, with status 1, and ends the run.
 fn run_job<H: Files, R: Source, W: Sink, M: Sink>(
     files: &mut Opener<'_, H>,
     alloc: Global,
@@ -210,7 +210,7 @@ fn run_job<H: Files, R: Source, W: Sink, M: Sink>(
     }
 }
 
-/// Writes the help, flushes it and returns the exit status: 0, or 1 if the output fails.
+/// Writes the help, flushes it and returns status 0. If `output` fails, reports fault 21 at line 0: status 1.
 fn show_help<W: Sink, M: Sink>(text: &Word, output: &mut W, messages: &mut M) -> u8
     ensures { IsHelped (span W.Sink output.old output.new) (span M.Sink messages.old messages.new) result }
 {
@@ -223,18 +223,19 @@ fn show_help<W: Sink, M: Sink>(text: &Word, output: &mut W, messages: &mut M) ->
     }
 }
 
-/// Runs the program and returns the exit status. `words`: the arguments, without the program's name; `input` and
-/// `output`: standard input and standard output. The clock of `rt` gives the default date.
+/// Runs the program and returns the exit status. `words`: the arguments, without the program's name; `input`
+/// and `output`: standard input and standard output; `rt`: the files, and the clock for the default date.
 ///
-/// The status is the filter's: 0 without messages, 1 after an error, 2 if there were only warnings or, for `check`, if
-/// the file isn't standard. Help is written to `output`, with status 0. In all other cases one line is reported, with
-/// status 1: refused arguments (see [`plan`]), `ERROR: cannot read NAME`, `ERROR: file exists: NAME` if the output file
-/// exists and `-f` isn't given, and `ERROR: cannot create NAME`. If the system refuses memory before the filter runs,
-/// that is fault 22 at line 0; if the help can't be written, that is fault 21 at line 0.
+/// The status is the filter's: 0 without messages, 1 after an error, 2 if there were only warnings or, for
+/// `check`, if the file isn't standard. Help is written to `output`, with status 0. In all other cases one
+/// line is reported, with status 1: refused arguments (see [`plan`]), `ERROR: cannot read NAME`,
+/// `ERROR: file exists: NAME` if the output file exists and `-f` isn't given, and
+/// `ERROR: cannot create NAME`. If the system refuses memory before the filter runs, that is fault 22 at line
+/// 0; if the help can't be written, that is fault 21 at line 0.
 ///
-/// The default date is made first, if it is needed; then the input file is opened; then memory for the output's buffer
-/// is reserved and the output file is made. If `input` may have to wait, as everything but a regular file may, all
-/// output is passed on before each read and before each warning.
+/// The default date is made first, if it is needed; then the input file is opened; then memory for the
+/// output's buffer is reserved and the output file is made. If `input` may have to wait, as everything but a
+/// regular file may, all output is passed on before each read and before each warning.
 pub fn run<H: Files + Clock, R: Source, W: Sink, M: Sink>(
     rt: &H,
     alloc: Global,
@@ -264,8 +265,8 @@ pub fn run<H: Files + Clock, R: Source, W: Sink, M: Sink>(
     run_with_files(&mut files, alloc, moment, words, input, output, messages).close()
 }
 
-/// Does the same as [`run`], opens files only by `files`, and returns the devices of these files too. The default date
-/// is the date of `moment`, empty if there is none.
+/// Does the same as [`run`], opens files only by `files`, and returns these files' devices, still open, with
+/// the status. `moment`: the time for the default date, which is empty if there is none.
 pub fn run_with_files<H: Files, R: Source, W: Sink, M: Sink>(
     files: &mut Opener<'_, H>,
     alloc: Global,

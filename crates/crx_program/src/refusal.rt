@@ -17,7 +17,8 @@ use std::alloc::Global;
 /// The exit status after an error.
 pub const FAILED: u8 = 1;
 
-/// Writes a line to the messages. If `messages` fails, the line ends there.
+/// Writes `line`, which has its LF, to `messages`. If `messages` fails, the rest of the line is lost and
+/// nothing else.
 fn show<M: Sink>(messages: &mut M, line: &[u8])
     ensures { IsShown (span M.Sink messages.old messages.new) line.now }
 {
@@ -27,7 +28,7 @@ fn show<M: Sink>(messages: &mut M, line: &[u8])
     }
 }
 
-/// Reports a fault before the first line, and returns the exit status, which is 1.
+/// Reports `fault` as the error of a run at line 0, and returns the exit status, which is 1.
 #[inline(never)]
 pub fn report_at_start<M: Sink>(messages: &mut M, fault: Fault) -> u8
     ensures shown { IsShown (span M.Sink messages.old messages.new) (at_start fault) }
@@ -40,7 +41,7 @@ pub fn report_at_start<M: Sink>(messages: &mut M, fault: Fault) -> u8
     FAILED
 }
 
-/// Reports that memory was refused before the first line, and returns the exit status, which is 1.
+/// Reports `OutOfMemory` at line 0, and returns the exit status, which is 1.
 pub fn report_no_memory<M: Sink>(messages: &mut M) -> u8
     ensures shown { IsShown (span M.Sink messages.old messages.new) (at_start Fault.OutOfMemory) }
     ensures status { result ≡ 1 }
@@ -48,8 +49,8 @@ pub fn report_no_memory<M: Sink>(messages: &mut M) -> u8
     report_at_start(messages, Fault::OutOfMemory)
 }
 
-/// Reports an error with a name, such as `ERROR: file exists: a.crx`, and returns the exit status, which is 1. If
-/// memory for the line is refused, reports that instead.
+/// Reports `ERROR: `, `words` and `name` in one line, such as `ERROR: file exists: a.crx`, and returns the
+/// exit status, which is 1. If memory for the line is refused, reports `OutOfMemory` at line 0 instead.
 pub fn report<M: Sink>(alloc: Global, messages: &mut M, words: &str, name: &str) -> u8
     ensures shown { IsShownOr (span M.Sink messages.old messages.new) (error_line words.now name.now) }
     ensures status { result ≡ 1 }
@@ -63,7 +64,7 @@ pub fn report<M: Sink>(alloc: Global, messages: &mut M, words: &str, name: &str)
     }
 }
 
-/// Reports why the arguments are refused, and returns the exit status, which is 1.
+/// Reports why the arguments are refused (`Memory`: as `OutOfMemory` at line 0), and returns status 1.
 pub fn refuse<M: Sink>(alloc: Global, messages: &mut M, fault: &UsageFault) -> u8
     ensures memory { fault.now ≡ UsageFault.Memory
         → IsShown (span M.Sink messages.old messages.new) (at_start Fault.OutOfMemory) }

@@ -30,7 +30,7 @@ pub type OutputDevice<O> = TargetStream<O>;
 /// Standard error, with a log of the bytes written.
 pub type MessageDevice<E> = SourceFile<E>;
 
-/// A finished run over standard streams: its exit status, and each device that it read or wrote, with its log.
+/// A finished run over standard streams: its exit status, and each device with its log.
 #[derive(Drop)]
 pub struct Whole<I, O: Write + Drop, E, F: Write + Drop> {
     /// The exit status.
@@ -47,7 +47,7 @@ pub struct Whole<I, O: Write + Drop, E, F: Write + Drop> {
     pub target: Option<TargetFile<F>>,
 }
 
-/// Ends a run whose arguments were refused memory: reports that, with status 1, and neither reads nor writes anything.
+/// Ends a run whose arguments were refused memory: reports only that, with status 1, and returns the streams.
 pub fn without_memory<I: Read, O: Write + Drop, E: Write, F: Write + Drop>(
     stdin: Uninterrupted<I>,
     stdout: BufWriter<UntilFailure<Uninterrupted<O>>>,
@@ -72,8 +72,9 @@ pub fn without_memory<I: Read, O: Write + Drop, E: Write, F: Write + Drop>(
     }
 }
 
-/// Runs the program over standard streams (see [`run`](crate::program::run)) and returns them. Files are opened only by
-/// `files`. `may_wait`: whether standard input may have to wait for more bytes.
+/// Runs the program over standard streams (see [`run`](crate::program::run)) and returns its status, streams
+/// and files, still open. Opens files only by `files`. `moment`: the time for a compaction's date, if known;
+/// `words`: the arguments without the program's name; `may_wait`: reads of `stdin` may have to wait.
 pub fn run_over<H: Files, I: Read, O: Write + Drop, E: Write>(
     files: &mut Opener<'_, H>,
     alloc: Global,
@@ -147,8 +148,8 @@ pub struct Closed {
 }
 
 impl<I: Drop, O: Write + Drop, E: Drop, F: Write + Drop> Whole<I, O, E, F> {
-    /// Flushes the output's buffers, closes the files and returns the exit status with the logs. It reads and reports
-    /// nothing more.
+    /// Flushes the output's buffers (see `close_buffer`), closes the files and streams, and returns the exit
+    /// status with the logs. It reads and reports nothing more.
     pub fn close(self) -> Closed
         ensures status { result.status ≡ self.status }
         ensures nothing_more { HasLogsOf self result }

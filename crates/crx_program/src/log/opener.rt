@@ -13,8 +13,8 @@ use std::fs::OpenOptions;
 use std::io;
 use std::rt::Files;
 
-/// The files of a machine, and a log of the calls that opened one. Code that has this value but not the machine can't
-/// open a file without the log.
+/// The files of a machine, and a log of the calls that opened one. Code that has this value but not the
+/// machine can't open a file without the log.
 #[derive(Drop)]
 pub struct Opener<'a, H: Files> {
     files: &'a H,
@@ -32,8 +32,9 @@ impl<'a, H: Files> Opener<'a, H> {
         }
     }
 
-    /// Opens the file `name` for reading. Only this call and [`Opener::open_to_write`] make a device with a name, which
-    /// is the one that they pass to the machine. Returns the system's error.
+    /// Opens the file `name` for reading, and logs the call and its name. Returns the system's error, or
+    /// `IsADirectory` for a folder. Only this call and [`Opener::open_to_write`] return a device with a name,
+    /// the one passed to the system.
     pub fn open_to_read(&mut self, name: &str) -> io::Result<SourceFile<H::File>>
         ensures calls { self.new.log.calls ≡ with_call self.old.log.calls name.now options_to_read }
         ensures opened { IfOk result (IsFreshlyOpened name.now None) }
@@ -49,8 +50,9 @@ impl<'a, H: Files> Opener<'a, H> {
         Ok(device)
     }
 
-    /// Opens the file `name` for writing through `buffer`. A file that exists is emptied if `force` is set; otherwise
-    /// the call fails with `AlreadyExists`. Returns the system's error.
+    /// Opens the file `name` for writing through `buffer`, which is empty, and logs the call. A file that
+    /// exists is emptied if `force` is set; otherwise `AlreadyExists` is returned. A missing file is made.
+    /// Returns the system's error; then `buffer` is dropped.
     pub fn open_to_write(
         &mut self,
         force: bool,
