@@ -35,9 +35,9 @@ const NO_STREAM: &str = "/";
 /// The name of standard input as a file.
 const STANDARD_INPUT: &str = "/dev/stdin";
 
-/// Runs the program over the standard streams (see [`run_over`]) and returns them. `arguments`: the arguments of the
-/// process, the first of which is the program's name; all the others are the words, in order. Files are opened only by
-/// `files`. `waits`: whether standard input may have to wait for more bytes.
+/// Runs the program (see [`run_over`]) with all `arguments` except the first, its own name, and returns its
+/// status, streams and files. `moment`: the time for a compaction's date, if known; `waits`: reads of `stdin`
+/// may have to wait. If memory for the arguments is refused, only that is reported, and the status is 1.
 pub fn run_streams(
     files: &mut Opener<'_, HostRuntime>,
     alloc: Global,
@@ -80,9 +80,9 @@ pub fn run_streams(
 
 /// Runs the program over the standard streams, with a buffer for the output, and returns the exit status.
 ///
-/// If the system refuses memory for the arguments or the buffer, that is fault 22 at line 0, with status 1. Arguments
-/// that aren't UTF-8 are refused with their own message. A standard stream that was closed before the program began
-/// stays closed, so that no file takes its place.
+/// If the system refuses memory for the arguments or the buffer, that is fault 22 at line 0, with status 1.
+/// Arguments that aren't UTF-8 are refused with their own message and status 1. A standard stream that was
+/// closed before the program began stays closed, so that no file takes its place.
 pub fn run_host(rt: &HostRuntime) -> ExitCode {
     // The system gives the lowest free number, and 0 to 2 are the standard streams.
     let place = fs::open(rt, NO_STREAM);
