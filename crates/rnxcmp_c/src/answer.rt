@@ -34,7 +34,7 @@ pub struct Answer {
     pub code: u32,
 }
 
-/// Returns an answer without texts.
+/// Returns an answer with these numbers, and 0 as the length of both texts.
 pub(crate) fn answer_without_texts(status: u32, line: u64, code: u32) -> Answer
     ensures { result ≡ bare_answer status line code }
 {
@@ -47,14 +47,14 @@ pub(crate) fn answer_without_texts(status: u32, line: u64, code: u32) -> Answer
     }
 }
 
-/// Returns the answer of a run that a fault ended at `line`, without texts.
+/// Returns the answer of a run that `fault` ended at `line`: status 1, and 0 as the length of both texts.
 pub(crate) fn answer_of_fault(line: u64, fault: Fault) -> Answer
     ensures { result ≡ bare_answer 1 line (code_of_fault fault) }
 {
     answer_without_texts(1, line, u32::from(fault.code()))
 }
 
-/// Returns the fault of a run whose output or messages couldn't be kept at `line`, because the system refused memory.
+/// Returns the fault of a run whose output or messages couldn't be kept: `OutOfMemory` at `line`.
 pub(crate) fn no_memory_at(line: u64) -> At
     ensures { result ≡ record { line = line; fault = Fault.OutOfMemory } }
 {
@@ -75,7 +75,7 @@ pub(crate) fn line_and_code(fault: Option<At>) -> (u64, u32)
     }
 }
 
-/// Copies a text to the front of the caller's buffer, as far as it fits.
+/// Copies the text to the front of `room`, as far as it fits; the rest of `room` doesn't change.
 pub(crate) fn place(text: &[u8], room: &mut [u8])
     ensures { room.new ≡ placed text.now room.old }
 {

@@ -1,4 +1,5 @@
-//! The devices of a run over memory: the source of the caller's input, and sinks for the output and the messages.
+//! The devices of a run over memory: the source of the caller's input, and sinks for the output and the
+//! messages.
 
 ghost use Rattle.std.specs.Prelude.{⊤, ◌≡◌, ◌≢◌, ◌<◌, ◌≤◌, ◌+◌, ◌-◌, ◌++◌, ℕ, [], Ok, Some, false, length, min, take, true, vec_capacity, IfOk, OnErr, OnOk};
 ghost use Rattle.crx_lines.specs.meaning.Devices.{ends_after, one_more};
@@ -15,7 +16,7 @@ pub struct Given<'a> {
 }
 
 impl<'a> Given<'a> {
-    /// Makes a source of these bytes.
+    /// Returns a source of these bytes.
     pub(crate) fn new(bytes: &'a [u8]) -> Self
         ensures { result.left.now ≡ bytes.now }
     {
@@ -41,6 +42,7 @@ impl Source for Given<'_> {
         true
     }
 
+    /// Copies the next bytes to the front of `buffer` and returns how many, 0 at the end. Never fails.
     fn read(&mut self, buffer: &mut [u8]) -> Result<usize, ReadFailed>
         ensures all { result ≡ Ok (min (length buffer.new) (length self.old.left.now)) }
         ensures bound { IfOk result (λ n. n ≤ length buffer.new) }
@@ -67,8 +69,8 @@ impl Source for Given<'_> {
     ghost gave_both = { λ a b c xs ys p q. Consumes-trans (Some a.left.now) (Some b.left.now) (Some c.left.now) xs ys p q };
 }
 
-/// A sink that keeps the first bytes, as far as there is room, and counts all. A write fails if memory is refused, or
-/// if no more bytes may be taken.
+/// A sink that keeps the first bytes, as far as there is room, and counts all. A write fails if memory is
+/// refused, or if no more bytes may be taken.
 #[derive(Drop)]
 pub struct Counted {
     /// The bytes kept.
@@ -95,8 +97,8 @@ impl Counted {
     ghost use Rattle.rnxcmp_c.specs.Collecting.{IsEmpty, taken_of};
     ghost use Rattle.rnxcmp_c.specs.Counting.{Took};
 
-    /// Makes an empty sink that keeps up to `room` bytes of a text of at most `limit` bytes; 0: no limit. It takes one
-    /// byte more than `limit`, so that a longer text is noticed.
+    /// Returns an empty sink that keeps up to `room` bytes of a text of at most `limit` bytes; 0: no limit.
+    /// It takes one byte more than `limit`, so that a longer text is noticed.
     pub(crate) fn new(alloc: Global, room: usize, limit: u64) -> Self
         ensures { IsEmpty room (taken_of limit) result }
     {
@@ -135,6 +137,8 @@ impl Sink for Counted {
 
     ghost is_broken = { λ s. false };
 
+    /// Takes and counts the first of `bytes`, and returns how many. Returns `WriteFailed`, and takes none, if
+    /// no more may be taken, or once memory was refused.
     fn write(&mut self, bytes: &[u8]) -> Result<usize, WriteFailed>
         ensures all { IfOk result (λ n. n ≡ min (length bytes.now) (self.old.most - self.old.count)) }
         ensures asked { OnErr result (CannotTake self.old (length bytes.now)) }
@@ -166,6 +170,7 @@ impl Sink for Counted {
         Err(WriteFailed)
     }
 
+    /// Counts the flush. Never fails.
     fn flush(&mut self) -> Result<(), WriteFailed> {
         self.flushed = true;
         self.flushes = self.flushes.saturating_add(1);
@@ -174,6 +179,7 @@ impl Sink for Counted {
 
     fn await_output(&mut self) {}
 
+    /// Returns `true`: nothing has to be passed on.
     fn pass_on(&mut self) -> bool {
         true
     }

@@ -26,8 +26,7 @@ pub enum AnyEngine {
     Checking(LineEngine<Checking>),
 }
 
-/// Feeds `bytes` to the engine of a run until [`READY_LIMIT`](crate::limits::READY_LIMIT) bytes wait to be taken.
-/// Returns how many bytes were used, or why the run ended.
+/// Feeds `bytes` to the engine as [`take_bytes`] does. Returns how many were used, or why the run ended.
 pub(crate) fn feed_engine(
     engine: &mut AnyEngine,
     held: &mut HandleState,
@@ -46,7 +45,7 @@ pub(crate) fn feed_engine(
     }
 }
 
-/// Passes the end of the input to the engine of a run. An error is the reason why the run ended early.
+/// Ends the input of the engine as [`take_last`] does. An error is the reason why the run ended early.
 pub(crate) fn end_engine(engine: &mut AnyEngine, held: &mut HandleState) -> Result<(), Stop>
     requires { EngineCanBeFed engine.old held.old 0 }
     ensures keeps { (task : Task) → IsOf task engine.old → IsOf task engine.new }
@@ -59,7 +58,8 @@ pub(crate) fn end_engine(engine: &mut AnyEngine, held: &mut HandleState) -> Resu
     }
 }
 
-/// Returns the status after the end of an input without a fault.
+/// Returns the status without a fault: 2 if `warned`, but for a check if the file isn't standard; otherwise
+/// 0.
 pub(crate) fn status_at_end(engine: &AnyEngine, warned: bool) -> u8
     ensures { result ≡ status_at_end engine.now warned }
 {

@@ -1,10 +1,10 @@
-//! The calls over a whole input, for C programs. A slice is a pointer and then its length, which may be 0; `alloc` is
-//! no argument in C.
+//! The calls over a whole input, for C programs. A slice is a pointer and then its length, which may be 0;
+//! `alloc` is no argument in C.
 //!
-//! If memory isn't refused, the input has at most [`INPUT_LIMIT`] bytes and the date isn't refused, then the output,
-//! messages, status, fault and lengths are the defined result of the input, for any options. A text that is longer than
-//! its buffer is copied as far as it fits. In all other cases, and if the output is longer than its limit, the caller's
-//! buffers aren't changed.
+//! If memory isn't refused, the input has at most [`INPUT_LIMIT`] bytes and the date isn't refused, then the
+//! output, messages, status, fault and lengths are the defined result of the input, for any options. A text
+//! that is longer than its buffer is copied as far as it fits. In all other cases, and if the output is
+//! longer than its limit, the caller's buffers aren't changed.
 
 ghost use Rattle.std.specs.Prelude.{◌≡◌, ◌≤◌, length, Some, true, false};
 ghost use Rattle.crx_filter.specs.meaning.ByResults.{CompactionKeeps, ExpansionKeeps};
@@ -29,9 +29,11 @@ use crx_base::limits::INPUT_LIMIT;
 use crx_filter::{Options, check, compact, expand};
 use std::alloc::Global;
 
-/// Compacts RINEX 3.0x. `every`: an epoch is full if `every` divides its index (0: only if it must be); `skip`: an
-/// epoch with a fault is skipped with a warning; `date`: the date in the second line; `max_output`: the most bytes of
-/// output (0: no limit). The status is `BAD_DATE` if the date is refused.
+/// Compacts RINEX 3.0x. `every`: an epoch is full if `every` divides its index (0: only if it must be);
+/// `skip`: an epoch with a fault is skipped with a warning; `date`: the date in the second line;
+/// `max_output`: the most bytes of output (0: no limit). The status is `BAD_DATE` if the date is refused, 1
+/// after a fault (also an input above [`INPUT_LIMIT`], or refused memory), `OUTPUT_LIMIT` if the output is
+/// above `max_output`, `NO_ROOM` if `output` is too short, 2 after warnings, otherwise 0.
 #[unsafe(no_mangle)]
 pub extern "C" fn rnxcmp_c_compact(
     alloc: Global,
@@ -68,8 +70,8 @@ pub extern "C" fn rnxcmp_c_compact(
     answer_of(outcome, written, reported, max_output, output, messages)
 }
 
-/// Expands Compact RINEX 3.0. `skip`: an epoch with a fault is skipped with a warning; `max_output`: the most bytes of
-/// output (0: no limit).
+/// Expands Compact RINEX 3.0. `skip`: an epoch with a fault is skipped with a warning; `max_output`: the most
+/// bytes of output (0: no limit). The status is as in [`rnxcmp_c_compact`], except `BAD_DATE`.
 #[unsafe(no_mangle)]
 pub extern "C" fn rnxcmp_c_expand(
     alloc: Global,
@@ -114,7 +116,8 @@ pub extern "C" fn rnxcmp_c_expand(
     answer_of(outcome, written, reported, max_output, output, messages)
 }
 
-/// Checks RINEX 3.0x: the output is the report.
+/// Checks RINEX 3.0x: the output is the report. The status is 0 if the file is standard, 2 if it isn't, 1
+/// after a fault, without a report, and `NO_ROOM` if the report doesn't fit.
 #[unsafe(no_mangle)]
 pub extern "C" fn rnxcmp_c_check(
     alloc: Global,

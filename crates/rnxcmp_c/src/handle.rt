@@ -1,9 +1,9 @@
 //! Handles, for C programs: a run that continues from call to call.
 //!
-//! A closed handle is all zeros. From the call that opens a handle to the call that closes it, only these calls touch
-//! it, one at a time. All bytes fed have a defined result. While the run continues, the texts taken and the texts kept
-//! are together the output and messages of the lines fed, which are prefixes of the result's; after its end they are
-//! the whole result, unless memory or a limit ended the run.
+//! A closed handle is all zeros. From the call that opens a handle to the call that closes it, only these
+//! calls touch it, one at a time. All bytes fed have a defined result. While the run continues, the texts
+//! taken and the texts kept are together the output and messages of the lines fed, which are prefixes of the
+//! result's; after its end they are the whole result, unless memory or a limit ended the run.
 
 ghost use Rattle.std.specs.Prelude.{◌≡◌, ◌⊎◌, ◌++◌, ℕ, List, [], drop, length, take, Some, true, false};
 ghost use Rattle.crx_base.specs.meaning.Choices.{Choices, choices_of, is_date};
@@ -43,7 +43,7 @@ pub struct Handle {
     is_open: bool,
 }
 
-/// Closes a handle and returns its reader.
+/// Closes an open handle and returns its reader.
 fn take_out(handle: &mut Handle, alloc: Global) -> Box<Reader>
     requires { (reader : Reader) × Holds handle.old reader }
     ensures reader { Holds handle.old result.value }
@@ -69,8 +69,8 @@ fn put_in(handle: &mut Handle, reader: Box<Reader>)
     };
 }
 
-/// Opens a closed handle for a run of `engine`. `max_output`: the most bytes of output (0: no limit). If memory is
-/// refused, the status is 1 and the handle stays closed.
+/// Opens a closed handle for a run of `engine`. `max_output`: the most bytes of output (0: no limit). The
+/// status is 0, or 1 if memory is refused; then the handle doesn't change.
 fn open(alloc: Global, handle: &mut Handle, engine: AnyEngine, max_output: u64) -> Answer
     ensures opened { (task : Task) → IsFresh task engine → (run_for task).limit ≡ max_output
         → result.status ≡ 0 → HandleStands task handle.new [] (rooms [] []) }
@@ -97,8 +97,9 @@ fn open(alloc: Global, handle: &mut Handle, engine: AnyEngine, max_output: u64) 
     }
 }
 
-/// Opens a closed handle for a compaction, with the options of [`rnxcmp_c_compact`](crate::exports::rnxcmp_c_compact).
-/// The status is `MISUSED` if the handle is open, `BAD_DATE` if the date is refused, and 1 if memory is refused.
+/// Opens a closed handle for a compaction, with the options of `rnxcmp_c_compact`. The status is 0, `MISUSED`
+/// if the handle is open, `BAD_DATE` if the date is refused, or 1 if memory is refused; unless it is 0, the
+/// handle doesn't change.
 #[unsafe(no_mangle)]
 pub extern "C" fn rnxcmp_c_open_compact(
     alloc: Global,
@@ -128,7 +129,8 @@ pub extern "C" fn rnxcmp_c_open_compact(
     }
 }
 
-/// Opens a closed handle for an expansion. The status is `MISUSED` if the handle is open, and 1 if memory is refused.
+/// Opens a closed handle for an expansion, with the options of `rnxcmp_c_expand`. The status is 0, `MISUSED`
+/// if the handle is open, or 1 if memory is refused; unless it is 0, the handle doesn't change.
 #[unsafe(no_mangle)]
 pub extern "C" fn rnxcmp_c_open_expand(
     alloc: Global,
@@ -154,7 +156,8 @@ pub extern "C" fn rnxcmp_c_open_expand(
     }
 }
 
-/// Opens a closed handle for a check. The status is `MISUSED` if the handle is open, and 1 if memory is refused.
+/// Opens a closed handle for the check of a RINEX file. The status is 0, `MISUSED` if the handle is open, or
+/// 1 if memory is refused; unless it is 0, the handle doesn't change.
 #[unsafe(no_mangle)]
 pub extern "C" fn rnxcmp_c_open_check(alloc: Global, handle: &mut Handle) -> Answer
     ensures opened { result.status ≡ 0 → HandleStands Task.Check handle.new [] (rooms [] []) }
@@ -171,10 +174,10 @@ pub extern "C" fn rnxcmp_c_open_check(alloc: Global, handle: &mut Handle) -> Ans
     }
 }
 
-/// Feeds bytes of the input, which may end anywhere, until [`READY_LIMIT`](crate::limits::READY_LIMIT) bytes wait to be
-/// taken, and sets `used` to the number of bytes used. A fault, refused memory, a byte above the input's limit and the
-/// limit of the output end the run. The status is the run's, or `MISUSED` if the handle isn't open or its run had
-/// ended.
+/// Feeds bytes of the input, which may end anywhere, until [`READY_LIMIT`](crate::limits::READY_LIMIT) bytes
+/// wait to be taken, and sets `used` to the number of bytes used. A fault, refused memory, a byte above the
+/// input's limit and the limit of the output end the run. The status is the run's (0 while it continues), or
+/// `MISUSED`, with 0 bytes used, if the handle isn't open or its run had ended.
 #[unsafe(no_mangle)]
 pub extern "C" fn rnxcmp_c_feed(
     alloc: Global,
@@ -211,7 +214,8 @@ pub extern "C" fn rnxcmp_c_feed(
     answer
 }
 
-/// Ends the input. The status is the run's, or `MISUSED` if the handle isn't open or its run had ended.
+/// Ends the input, whose last line needs no LF; waiting texts can still be taken. The status is the run's, or
+/// `MISUSED`, with no change, if the handle isn't open or its run had ended.
 #[unsafe(no_mangle)]
 pub extern "C" fn rnxcmp_c_end(alloc: Global, handle: &mut Handle) -> Answer
     requires sound { IsSoundHandle handle.old }
@@ -245,8 +249,8 @@ pub extern "C" fn rnxcmp_c_end(alloc: Global, handle: &mut Handle) -> Answer
     answer
 }
 
-/// Moves the waiting output and messages into two buffers, as far as they fit. Returns the run's status and fault and
-/// how many bytes still wait; the status is `MISUSED` if the handle isn't open.
+/// Moves the waiting output and messages into two buffers, as far as they fit. Returns the run's status and
+/// fault and how many bytes still wait; or `MISUSED`, with no change, if the handle isn't open.
 #[unsafe(no_mangle)]
 pub extern "C" fn rnxcmp_c_take(
     alloc: Global,
@@ -294,7 +298,7 @@ pub extern "C" fn rnxcmp_c_take(
     answer
 }
 
-/// Closes a handle and frees its memory.
+/// Closes a handle and frees its memory; texts that still wait are lost. A closed handle doesn't change.
 #[unsafe(no_mangle)]
 pub extern "C" fn rnxcmp_c_close(alloc: Global, handle: &mut Handle)
     requires sound { IsSoundHandle handle.old }

@@ -42,8 +42,8 @@ impl HandleState {
     ghost use Rattle.rnxcmp_c.specs.Holding.{AreCutTo, HoldsNothing, IsMark, IsMarkWithin, ready_in};
     ghost use Rattle.rnxcmp_c.specs.declared.limits.TheConstants.{READY_LIMIT};
 
-    /// Returns the state before the first byte. `limit`: the most bytes of output (0: no limit). Fails if memory is
-    /// refused.
+    /// Returns the state before the first byte, or `Refused` if memory is refused. `limit`: the most bytes of
+    /// output (0: no limit).
     pub(crate) fn new(alloc: Global, limit: u64) -> Result<HandleState, Refused>
         ensures { IfOk result (HoldsNothing limit) }
     {
@@ -80,7 +80,7 @@ impl HandleState {
         }
     }
 
-    /// Drops everything that was added to both texts after `mark`.
+    /// Drops everything that was added to both texts after `mark`; nothing may have been taken since.
     pub(crate) fn cut_back(&mut self, mark: Mark)
         requires { IsMarkWithin mark self.old }
         ensures { AreCutTo mark self.old self.new }

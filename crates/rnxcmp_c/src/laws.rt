@@ -16,18 +16,20 @@ ghost use Rattle.rnxcmp_c.specs.declared.reader.Reader.{Reader};
 ghost use Rattle.rnxcmp_c.specs.meaning.Answers.{AnswersAlone, AnswersWithin, BothTexts, ExceedsLimit, KeepsToLimit, placed};
 ghost use Rattle.rnxcmp_c.specs.meaning.Handles.{RunHasEnded, RunHasResult, StopsAtLimit, StopsWhenFull, Task, run_for, with_one_more};
 
-/// Names all parts of a handle, and bounds all of them except the engine, whatever was fed: a reader that takes over
-/// these parts of another is the other. So it has no further part, in which a record of past lines could grow.
+/// Does nothing; its contract names all parts of a handle, and bounds all of them except the engine, whatever
+/// was fed: a reader that takes over these parts of another is the other. So no other part can hold a record
+/// of past lines.
 pub fn handle_holds()
     ensures parts { (one other : Reader) → reader_with one other ≡ other }
     ensures bounded { (held : HandleState) → IsBounded held }
 {}
 
-/// A handle agrees with a call over the whole input. If its run has ended with its result, such a call with large
-/// enough buffers returns the same status, code and line, and the same texts. If the output is longer than its limit,
-/// both say so. For every input whose output is within the limit there are such answers. For an input that is too long
-/// both have the same status, and the same code unless memory is refused; but the call says so before it reads, at line
-/// 0 and without texts, and the handle at the line of the first byte above the limit.
+/// Does nothing; by its contract a handle agrees with a call over the whole input. If its run has ended with
+/// its result, such a call with large enough buffers returns the same status, code and line, and the same
+/// texts. If the output is longer than its limit, both say so. For every input whose output is within the
+/// limit there are such answers. For an input that is too long both have the same status, and the same code
+/// unless memory is refused; but the call says so before it reads, at line 0 and without texts, and the
+/// handle at the line of the first byte above the limit.
 pub fn a_handle_answers_as_a_call()
     ensures same { (task : Task) (fed : List ℕ) (made kept : BothTexts) (answer call : Answer)
         (before after : BothTexts)
@@ -62,9 +64,9 @@ pub fn a_handle_answers_as_a_call()
         × (length ((run_for task).result fed).output ≤ length before.output) }
 {}
 
-/// The output of some first lines is a prefix of the result's output. Their messages, followed by the first messages of
-/// the next line or of the end, are a prefix of the result's messages. The lines whose line end was fed are such lines,
-/// whatever follows.
+/// Does nothing; by its contract the output of some first lines is a prefix of the result's output. Their
+/// messages, followed by the first messages of the next line or of the end, are a prefix of the result's
+/// messages. The lines whose line end was fed are such lines, whatever follows.
 pub fn what_lines_make_comes_first()
     ensures begun { (task : Task) (input : List ℕ) (lines others : List InputLine) (notices : List At)
         → lines_of input ≡ lines ++ others

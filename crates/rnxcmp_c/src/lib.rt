@@ -1,6 +1,6 @@
-//! The filters and the check over memory of a C program: one export for each, and handles for runs that continue from
-//! call to call. `include/rnxcmp.h` declares them for C; `library/rnxcmp.c` tests the processor, accepts null pointers,
-//! and calls these.
+//! The filters and the check over memory of a C program: one export for each, and handles for runs that
+//! continue from call to call. `include/rnxcmp.h` declares them for C; `library/rnxcmp.c` tests the
+//! processor, accepts null pointers, and calls these.
 #![tactic(auto)]
 
 mod answer;

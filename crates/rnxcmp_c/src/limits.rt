@@ -2,8 +2,8 @@
 
 use crx_base::limits::{LINE_LIMIT, SATELLITES_LIMIT};
 
-/// The most bytes that are kept of a line before its LF: the longest content, CR, and one byte more. A line with this
-/// many bytes is too long, whatever follows.
+/// The most bytes that are kept of a line before its LF: the longest content, CR, and one byte more. A line
+/// with this many bytes is too long, whatever follows.
 pub const LINE_ROOM: usize = LINE_LIMIT + 2;
 
 /// The number of waiting bytes, output and messages together, from which on no line is taken.

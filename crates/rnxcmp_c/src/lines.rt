@@ -20,7 +20,7 @@ use crx_lines::feed::feed_from;
 use crx_runs::Engine;
 use crx_runs::one_line::{Halt, take_end, take_line, take_overlong};
 
-/// Returns a line's bytes without a CR at their end, and whether there was one.
+/// Returns a line's bytes without one CR at their end, and whether there was one.
 fn content_of(bytes: &[u8]) -> (&[u8], bool)
     ensures content { result.0.now ≡ without_return bytes.now }
     ensures has_return { result.1 ≡ ends_with_return bytes.now }
@@ -37,9 +37,9 @@ fn content_of(bytes: &[u8]) -> (&[u8], bool)
     }
 }
 
-/// Counts the output added since `mark`, and stores whether there was a warning. Returns `Stop::Limit` if the output
-/// would be longer than its limit, `OutOfMemory` at line `number` if one of the texts couldn't be kept, and otherwise
-/// the step's fault, if it has one. In the first two cases both texts are cut back to `mark`.
+/// Counts the output added since `mark`, and stores whether there was a warning. `taken`: the step's result.
+/// Returns `Stop::Limit` if the output would be longer than its limit, `OutOfMemory` at line `number` if one
+/// of the texts couldn't be kept (in both cases both texts are cut back to `mark`), or the step's own fault.
 fn count_output(
     held: &mut HandleState,
     mark: Mark,
@@ -70,8 +70,8 @@ fn count_output(
     }
 }
 
-/// Feeds the bytes kept of a line to an engine and clears them. `is_ended`: an LF followed the line. The line is copied
-/// first, because a blank and more bytes have to follow it. Returns why the run ended, if it did.
+/// Feeds the bytes kept of a line to an engine and clears them. `is_ended`: an LF followed the line. Copies
+/// the line first, because a blank and more bytes have to follow it. Returns why the run ended, if it did.
 fn take_within<E: Engine>(
     engine: &mut E,
     held: &mut HandleState,
@@ -100,8 +100,8 @@ fn take_within<E: Engine>(
     count_output(held, mark, number, taken)
 }
 
-/// Uses the first of some bytes, up to an LF, which ends a line that is then taken; all bytes if there is no LF.
-/// Returns how many were used, or why the run ended.
+/// Uses `bytes` up to the first LF, and feeds the line that it ends; without LF all bytes are kept as a part
+/// of a line. Returns how many were used, or why the run ended.
 fn take_to_line_end<E: Engine>(
     engine: &mut E,
     held: &mut HandleState,
@@ -126,8 +126,9 @@ fn take_to_line_end<E: Engine>(
     }
 }
 
-/// Takes the lines of some bytes, one after another, until `READY_LIMIT` bytes wait to be taken. Returns how many bytes
-/// were used, or why the run ended.
+/// Feeds the lines in `bytes` to `engine` until `READY_LIMIT` bytes of output and messages wait for the
+/// caller. A line without LF at the end is kept in `held` and counts as used. Returns the number used, or why
+/// the run ended.
 pub(crate) fn take_bytes<E: Engine>(
     engine: &mut E,
     held: &mut HandleState,
@@ -147,7 +148,7 @@ pub(crate) fn take_bytes<E: Engine>(
     Ok(bytes.len() - left.len())
 }
 
-/// Takes the last line, if no LF ended it, and then the end of the input. Returns why the run ended early, if it did.
+/// Feeds the last line, if no LF ended it, and the end of the input. An error is why the run ended early.
 pub(crate) fn take_last<E: Engine>(engine: &mut E, held: &mut HandleState) -> Result<(), Stop>
     requires going { CanBeFed E.Engine engine.old held.old 0 }
     ensures filter { E.filter engine.new ≡ E.filter engine.old }

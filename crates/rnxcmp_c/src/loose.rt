@@ -18,7 +18,7 @@ impl<T, A: Allocator> Model for Loose<T, A> {
 }
 
 impl<T: Drop, A: Allocator> Loose<T, A> {
-    /// Takes a box apart into its pointer and allocator.
+    /// Takes a box apart into its pointer and allocator, without freeing it.
     pub(crate) fn from_box(value: Box<T, A>) -> Loose<T, A>
         ensures { result.value ≡ value.value }
     {

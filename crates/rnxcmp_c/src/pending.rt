@@ -11,8 +11,8 @@ use crate::limits::WAITING_LIMIT;
 use crx_lines::{Sink, WriteFailed};
 use std::alloc::Global;
 
-/// A text whose first bytes may have been taken already. At most half of the buffer is such bytes, so moving the rest
-/// to the front costs no more than taking did.
+/// A text whose first bytes may have been taken already. At most half of the buffer is such bytes, so moving
+/// the rest to the front costs no more than taking did.
 #[derive(Drop)]
 pub struct Pending {
     bytes: Vec<u8>,
@@ -28,7 +28,7 @@ pub struct Pending {
 impl Pending {
     ghost use Rattle.rnxcmp_c.specs.Waiting.{CountsAlike, IsTextRefused, handed_with, waiting};
 
-    /// Makes an empty text.
+    /// Returns an empty text.
     pub(crate) fn new(alloc: Global) -> Pending
         ensures none { waiting result ≡ [] }
         ensures unfailed { result.failures ≡ 0 }
@@ -42,14 +42,15 @@ impl Pending {
         }
     }
 
-    /// Returns how many bytes wait.
+    /// Returns how many bytes wait to be taken.
     pub(crate) fn count(&self) -> usize
         ensures { result ≡ length (waiting self.now) }
     {
         self.bytes.len() - self.passed
     }
 
-    /// Appends a text. Returns `false` if memory for it is refused, or if more than [`WAITING_LIMIT`] bytes would wait.
+    /// Appends `text` and returns `true`. Returns `false`, and appends nothing, if memory for it is refused
+    /// or more than [`WAITING_LIMIT`] bytes would wait.
     pub(crate) fn add(&mut self, text: &[u8]) -> bool
         ensures taken { result ≡ true → waiting self.new ≡ waiting self.old ++ text.now }
         ensures unchanged { result ≡ false → waiting self.new ≡ waiting self.old }
@@ -62,7 +63,7 @@ impl Pending {
         self.bytes.extend_from_slice(text).is_ok()
     }
 
-    /// Moves the first waiting bytes to the front of `room`, as many as fit.
+    /// Moves the first waiting bytes to the front of `room`, as far as they fit; its rest doesn't change.
     pub(crate) fn move_out(&mut self, room: &mut [u8])
         ensures room { room.new ≡ placed (waiting self.old) room.old }
         ensures left { waiting self.new ≡ drop (length room.old) (waiting self.old) }
@@ -84,7 +85,7 @@ impl Pending {
         self.passed = 0;
     }
 
-    /// Keeps the first `count` waiting bytes, and drops the rest.
+    /// Keeps the first `count` waiting bytes, and drops the rest. At least `count` bytes wait.
     pub(crate) fn cut(&mut self, count: usize)
         requires { count ≤ length (waiting self.old) }
         ensures first { waiting self.new ≡ take count (waiting self.old) }
@@ -114,7 +115,7 @@ impl Sink for Pending {
 
     ghost is_broken = { λ s. false };
 
-    /// Appends the bytes. Fails only if they are refused, and counts that.
+    /// Appends all bytes. Returns `WriteFailed`, and appends none, if [`Pending::add`] refuses them.
     fn write(&mut self, bytes: &[u8]) -> Result<usize, WriteFailed>
         ensures all { IfOk result (λ n. n ≡ length bytes.now) }
         ensures taken { OnOk result (waiting self.new ≡ waiting self.old ++ bytes.now) }
@@ -133,6 +134,7 @@ impl Sink for Pending {
         Err(WriteFailed)
     }
 
+    /// Counts the flush. Never fails.
     fn flush(&mut self) -> Result<(), WriteFailed> {
         self.flushed = true;
         self.flushes = self.flushes.saturating_add(1);
@@ -141,6 +143,7 @@ impl Sink for Pending {
 
     fn await_output(&mut self) {}
 
+    /// Returns `true`: nothing has to be passed on.
     fn pass_on(&mut self) -> bool {
         true
     }

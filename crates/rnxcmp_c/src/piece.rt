@@ -17,7 +17,7 @@ pub struct Piece {
 }
 
 impl Piece {
-    /// Returns an empty piece, or fails if memory is refused.
+    /// Returns an empty piece, or `Refused` if memory for [`LINE_ROOM`] bytes is refused.
     pub(crate) fn new(alloc: Global) -> Result<Piece, Refused>
         ensures none { IfOk result (λ piece. piece.bytes.items ≡ []) }
         ensures room { IfOk result (λ piece. vec_capacity piece.bytes ≡ LINE_ROOM) }
@@ -27,7 +27,7 @@ impl Piece {
         Ok(Piece { bytes })
     }
 
-    /// Adds more bytes of the line, as far as there is room.
+    /// Adds more bytes of the line, as far as there is room, and drops the others.
     pub(crate) fn add(&mut self, bytes: &[u8])
         ensures { self.new.bytes.items ≡ take LINE_ROOM (self.old.bytes.items ++ bytes.now) }
     {

@@ -31,8 +31,9 @@ pub struct Reader {
     pub(crate) outcome: Option<Outcome>,
 }
 
-/// Returns the outcome of a run that `stop` ended, and adds the message of its fault. If that message can't be kept,
-/// the fault is `OutOfMemory` at the same line.
+/// Returns the outcome of a run that `stop` ended. For a fault the status is 1 and its message is added to
+/// `held`; if the message can't be kept, the fault is `OutOfMemory` at the same line. At the output's limit
+/// the status is `OUTPUT_LIMIT`, without a fault or a message.
 fn outcome_of(held: &mut HandleState, stop: Stop) -> Outcome
     ensures { EndsRunBy held.old held.new result stop }
 {
@@ -55,7 +56,7 @@ fn outcome_of(held: &mut HandleState, stop: Stop) -> Outcome
 }
 
 impl Reader {
-    /// Returns the run's status and fault, and how many bytes wait.
+    /// Returns the run's status (0 while it continues) and fault, and how many bytes of each text wait.
     fn answer(&self) -> Answer
         ensures { result ≡ answer_now self.now }
     {
@@ -73,9 +74,9 @@ impl Reader {
         }
     }
 
-    /// Feeds bytes of the input, if the run continues, until `READY_LIMIT` bytes wait to be taken. A byte above
-    /// `INPUT_LIMIT` ends the run. Returns how many bytes were used, and the run's state; `MISUSED` if the run has
-    /// ended.
+    /// Feeds bytes of the input until `READY_LIMIT` bytes wait to be taken. The first byte above
+    /// `INPUT_LIMIT` ends the run. Returns how many bytes were used (all up to that limit, if another fault
+    /// ends the run), and the run's state; 0 and `MISUSED` if the run had ended.
     pub(crate) fn read_bytes(&mut self, bytes: &[u8]) -> (usize, Answer)
         requires { (task : Task) × (fed : List ℕ) × (taken : BothTexts)
             × ReaderStands task self.old fed taken }
@@ -108,7 +109,7 @@ impl Reader {
         }
     }
 
-    /// Ends the input, if the run continues, and returns the run's state; `MISUSED` if the run has ended.
+    /// Ends the input and the run, and returns its state; `MISUSED`, with no change, if the run had ended.
     pub(crate) fn take_end(&mut self) -> Answer
         requires { (task : Task) × (fed : List ℕ) × (taken : BothTexts)
             × ReaderStands task self.old fed taken }
@@ -133,7 +134,7 @@ impl Reader {
         }
     }
 
-    /// Moves the waiting output and messages to the front of two buffers, as far as they fit, and returns the run's
+    /// Moves the waiting output and messages to the front of two buffers, as far as they fit, and returns the
     /// state.
     pub(crate) fn move_out(&mut self, output: &mut [u8], messages: &mut [u8]) -> Answer
         ensures taken { HandsOut (self.old ∷ []) (self.new ∷ []) (rooms output.old messages.old)

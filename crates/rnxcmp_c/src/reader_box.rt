@@ -22,7 +22,7 @@ impl Model for ReaderBox {
 }
 
 impl ReaderBox {
-    /// Holds nothing.
+    /// Returns a box that holds nothing: a null address.
     pub(crate) fn empty() -> ReaderBox
         ensures { result.held ≡ [] }
     {
@@ -31,7 +31,7 @@ impl ReaderBox {
         }
     }
 
-    /// Holds a box that was taken apart.
+    /// Returns the address of a box that was taken apart.
     pub(crate) fn from_loose(loose: Loose<Reader, Global>) -> ReaderBox
         ensures { result.held ≡ loose.value ∷ [] }
     {
@@ -39,7 +39,7 @@ impl ReaderBox {
         ReaderBox { at: at as *mut u8 }
     }
 
-    /// Returns the box that is held, taken apart.
+    /// Returns the box that is held, taken apart, with its allocator `alloc`.
     pub(crate) fn into_loose(self, alloc: Global) -> Loose<Reader, Global>
         requires { (value : Reader) × (self.held ≡ value ∷ []) }
         ensures { self.held ≡ result.value ∷ [] }

@@ -10,9 +10,10 @@ use crate::answer::{
 use crate::devices::Counted;
 use crx_runs::Outcome;
 
-/// Returns the answer of a finished run, and copies the collected texts into the caller's buffers. If the output is
-/// longer than `most` (0: no limit), the status is `OUTPUT_LIMIT`; if memory was refused in the run or for a text, the
-/// fault is `OutOfMemory`. In both cases the buffers stay as they are.
+/// Returns the answer of a finished run, and copies the collected texts into the caller's buffers, as far as
+/// they fit. The status is the outcome's, or `NO_ROOM` if the output doesn't fit. If the output is longer
+/// than `most` (0: no limit), the status is `OUTPUT_LIMIT`; if memory was refused in the run or for a text,
+/// the fault is `OutOfMemory`. In these two cases the buffers stay as they are.
 pub(crate) fn answer_of(
     outcome: Outcome,
     output: Counted,
