@@ -57,7 +57,7 @@ pub enum Fault {
 impl Fault {
     ghost use Rattle.crx_base.specs.meaning.Faults.{code_of_fault, is_skippable, words_of_fault};
 
-    /// Returns the fault's number in messages, from 1 on.
+    /// Returns the fault's number in messages: 1 to 22, in the order of the variants.
     pub fn code(&self) -> u8
         ensures value { result ≡ code_of_fault self.now }
     {
@@ -87,7 +87,7 @@ impl Fault {
         }
     }
 
-    /// Returns the fault's words in messages.
+    /// Returns the fault's words in messages, such as `bad indicator`.
     pub fn words(&self) -> &'static str
         ensures value { result.now ≡ words_of_fault self.now }
     {
@@ -117,8 +117,8 @@ impl Fault {
         }
     }
 
-    /// Returns whether a run that skips faults continues after this one, with a warning: numbers 1 and 10 to
-    /// 19.
+    /// Returns whether a run that skips faults may skip this one, with a warning: only the numbers 1 and 10
+    /// to 19. In the header and in an event's records no fault is skipped.
     pub fn is_skippable(&self) -> bool
         ensures value { result ≡ is_skippable self.now }
     {
@@ -128,6 +128,7 @@ impl Fault {
 }
 
 impl fmt::Display for Fault {
+    /// Writes the fault's [`words`](Fault::words); fails only if the formatter does.
     fn fmt<W: fmt::Write>(&self, f: &mut fmt::Formatter<W>) -> fmt::Result {
         f.write_str(self.words())
     }

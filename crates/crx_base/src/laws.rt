@@ -2,18 +2,18 @@
 ghost use Rattle.std.specs.Prelude.{◌≡◌, ◌+◌, ◌-◌, ◌*◌, ◌^◌, ◌<◌, ◌≤◌};
 ghost use Rattle.crx_base.specs.declared.limits.TheConstants.{CELL_WIDTH, CLOCK_DECIMALS, CLOCK_WIDTH, DIGITS_LIMIT, HEAD_WIDTH, LINE_LIMIT, NAME_WIDTH, OBSERVATION_DECIMALS, OBSERVATION_WIDTH, ORDER_LIMIT, SATELLITES_LIMIT, TYPES_LIMIT, WRITTEN_ORDER};
 
-/// States how the limits fit each other.
+/// Does nothing at run time: its contract proves how the limits fit each other.
 ///
-/// - `printed`: a satellite line with a cell for each type, and an epoch line with its clock, fit into a line.
-/// - `compact`: so do their compact forms: for each type a code of at most 15 characters with a blank, and two
-///   marks; and the epoch line with the identifiers of all satellites.
-/// - `counts`: counts of types and satellites have three digits, an order has one, and an arc that is written
-///   can be read.
+/// - `printed`: a satellite line with a cell for each type and an epoch line with its clock fit into a line.
+/// - `compact`: so do their compact forms: for each type a code of at most 15 characters, a blank, and two
+///   indicators; and the epoch line with the identifiers of all satellites.
+/// - `counts`: counts of types and satellites have at most three digits, an order has one, and an arc is
+///   written with an order that can be read.
 /// - `cells`: a cell is an observation and two indicators, and a field has room for a minus, a digit and the
 ///   point.
-/// - `sums`: a difference of order n of values below 10 to the m is below 2 to the n times that. So each one
-///   that an arc of any order keeps fits into 64 bits, and each one that is written has few enough digits to be
-///   read, as each number that is read has.
+/// - `sums`: a difference of order n of values below 10^m is below 2^n times 10^m. So each difference that an
+///   arc of any order keeps fits into 64 bits, and each one that is written has few enough digits to be read,
+///   as each number that is read has.
 pub fn limits_fit()
     ensures printed { (NAME_WIDTH + CELL_WIDTH * TYPES_LIMIT ≤ LINE_LIMIT)
         × (HEAD_WIDTH + CLOCK_WIDTH ≤ LINE_LIMIT) }

@@ -1,7 +1,7 @@
 //! Memory that the system refused, as a value. Every call that may run out of memory reserves it through this
 //! module and returns [`Refused`], which nothing else can make.
 
-ghost use Rattle.std.specs.Prelude.{◌≡◌, ◌≤◌, ◌+◌, ◌++◌, [], IfOk, OnErr, OnOk, max, string_bytes, vec_capacity, vec_len};
+ghost use Rattle.std.specs.Prelude.{◌≡◌, ◌≤◌, ◌+◌, ◌++◌, IfOk, OnErr, OnOk, max, string_bytes, vec_capacity, vec_len};
 ghost use Rattle.indexmap.specs.IndexMap.{spare};
 ghost use Rattle.indexmap.specs.IndexSet.{spare as spare_of_set};
 ghost use Rattle.crx_base.specs.declared.fault.Fault.TheVariants as faults;
@@ -16,8 +16,8 @@ use std::hash::Hash;
 /// which std refuses without asking the system.
 pub const RESERVED_LIMIT: usize = 1 << 24;
 
-/// The system's refusal of memory in this call. Only the functions of this module make one, and each only when
-/// std reports that an allocation failed: the field is private, and a value can't be copied.
+/// The system's refusal of memory in this call. Only the functions of this module make one, and each only
+/// when std reports that an allocation failed: the field is private, and a value can't be copied.
 #[must_use]
 #[derive(Debug, Drop)]
 pub struct Refused {
@@ -27,18 +27,21 @@ pub struct Refused {
 impl From<Refused> for Fault {
     ghost from_gives = { λ _ fault. fault ≡ faults.OutOfMemory };
 
+    /// Returns [`Fault::OutOfMemory`].
     fn from(_refused: Refused) -> Fault {
         Fault::OutOfMemory
     }
 }
 
 impl From<Refused> for AllocError {
+    /// Returns std's error for refused memory.
     fn from(_refused: Refused) -> AllocError {
         AllocError
     }
 }
 
-/// Reserves memory for `more` items after those that a vector has, or returns `Refused`.
+/// Reserves memory for at least `more` items after the items of a vector, which don't change. `more` is at
+/// most [`RESERVED_LIMIT`]. Returns `Refused` if memory is refused; the capacity never shrinks.
 #[inline(always)]
 pub fn reserve<T>(items: &mut Vec<T>, more: usize) -> Result<(), Refused>
     requires bounded { more ≤ RESERVED_LIMIT }
@@ -52,7 +55,8 @@ pub fn reserve<T>(items: &mut Vec<T>, more: usize) -> Result<(), Refused>
     }
 }
 
-/// Reserves memory for exactly `more` items after those that a vector has, or returns `Refused`.
+/// Reserves memory for exactly `more` items after the items of a vector, which don't change. `more` is at
+/// most [`RESERVED_LIMIT`]. Returns `Refused`, with the capacity unchanged, if memory is refused.
 #[inline(always)]
 pub fn reserve_exact<T>(items: &mut Vec<T>, more: usize) -> Result<(), Refused>
     requires bounded { more ≤ RESERVED_LIMIT }
@@ -67,7 +71,8 @@ pub fn reserve_exact<T>(items: &mut Vec<T>, more: usize) -> Result<(), Refused>
     }
 }
 
-/// Reserves memory for `more` entries after those that a map has, or returns `Refused`.
+/// Reserves memory for `more` entries (at most [`RESERVED_LIMIT`]) after the entries of a map, which don't
+/// change. Returns `Refused` if memory is refused.
 #[inline(always)]
 pub fn reserve_entries<K: Eq + Hash, V>(
     map: &mut IndexMap<K, V>,
@@ -84,7 +89,8 @@ pub fn reserve_entries<K: Eq + Hash, V>(
     }
 }
 
-/// Reserves memory for `more` keys after those that a set has, or returns `Refused`.
+/// Reserves memory for `more` keys (at most [`RESERVED_LIMIT`]) after the keys of a set, which don't change.
+/// Returns `Refused` if memory is refused.
 #[inline(always)]
 pub fn reserve_keys<T: Eq + Hash>(set: &mut IndexSet<T>, more: usize) -> Result<(), Refused>
     requires bounded { more ≤ RESERVED_LIMIT }
@@ -98,7 +104,7 @@ pub fn reserve_keys<T: Eq + Hash>(set: &mut IndexSet<T>, more: usize) -> Result<
     }
 }
 
-/// Puts a value on the heap, or returns `Refused`.
+/// Moves `value` to the heap. Returns `Refused`, and drops `value`, if memory is refused.
 #[inline(always)]
 pub fn try_box<T: Drop>(alloc: Global, value: T) -> Result<Box<T>, Refused>
     ensures value { IfOk result (λ place. place.value ≡ value) }
@@ -109,7 +115,7 @@ pub fn try_box<T: Drop>(alloc: Global, value: T) -> Result<Box<T>, Refused>
     }
 }
 
-/// Appends a text to another, or returns `Refused`.
+/// Appends `more` to `text`. Returns `Refused`, with `text` unchanged, if memory is refused.
 pub fn append_text(text: &mut String, more: &str) -> Result<(), Refused>
     ensures text { OnOk result (string_bytes text.new ≡ string_bytes text.old ++ more.now) }
 {

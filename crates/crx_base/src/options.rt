@@ -13,8 +13,8 @@ use thiserror::Error;
 #[error("bad date")]
 pub struct BadDate;
 
-/// Which epochs are full, whether faults are skipped, and the date in the second line of Compact RINEX 3.0. It
-/// takes no memory elsewhere.
+/// Which epochs are full, whether faults are skipped, and the date in the second line of Compact RINEX 3.0.
+/// It takes no memory elsewhere.
 #[derive(Clone, Copy)]
 pub struct Options {
     every: Option<u32>,
@@ -47,14 +47,14 @@ impl Model for Options {
     } };
 }
 
-/// Returns whether a date has at most [`DATE_LIMIT`] bytes, each from 32 to 126.
+/// Returns whether `date` has at most [`DATE_LIMIT`] bytes, each from 32 to 126.
 fn is_date(date: &[u8]) -> bool
     ensures { result ≡ is_date date.now }
 {
     date.len() <= DATE_LIMIT && date.iter().all(|byte| *byte >= 32 && *byte <= 126)
 }
 
-/// Returns the date in its columns of the second line, with blanks after it.
+/// Returns `date`, of at most [`DATE_LIMIT`] bytes, padded with blanks to that length; tests no byte of it.
 pub fn in_columns(date: &[u8]) -> [u8; DATE_LIMIT]
     requires { length date.now ≤ DATE_LIMIT }
     ensures value { result ≡ date.now ++ replicate (DATE_LIMIT - length date.now) 32 }
@@ -65,12 +65,11 @@ pub fn in_columns(date: &[u8]) -> [u8; DATE_LIMIT]
 }
 
 impl Options {
-    /// Returns the choices. `every`: an epoch is full if this divides its index, which counts from 0 (0 is the
-    /// same as `None`); `skip`: whether an epoch with a fault is skipped with a warning; `date`: the text in
-    /// columns 41 to 60 of the second line.
+    /// Returns the choices. `every`: an epoch is full if this divides its index, which counts from 0 (`None`
+    /// and 0: only if it has to be); `skip`: whether an epoch with a fault is skipped with a warning; `date`:
+    /// the text in columns 41 to 60 of the second line.
     ///
-    /// Returns `BadDate` if and only if the date has more than [`DATE_LIMIT`] bytes or a byte outside 32 to
-    /// 126.
+    /// Returns `BadDate` if and only if `date` has over [`DATE_LIMIT`] bytes, or one outside 32 to 126.
     pub fn new(every: Option<u32>, skip: bool, date: &[u8]) -> Result<Options, BadDate>
         ensures value { MatchResult result
             (λ o. (o ≡ choices_of every skip date.now) × IsTrue (is_date date.now))
@@ -87,22 +86,22 @@ impl Options {
         })
     }
 
-    /// Returns N if every N-th epoch is full; `None` if only those are full that must be: the first, and the
-    /// first after each event or warning.
+    /// Returns N, at least 1, if every N-th epoch is full; `None` if only the epochs are full that have to
+    /// be: the first, and the first after each event or warning.
     pub fn every(&self) -> Option<u32>
         ensures value { result ≡ self.now.every }
     {
         self.every
     }
 
-    /// Returns whether an epoch with a fault is skipped with a warning.
+    /// Returns whether an epoch with a fault is skipped with a warning; otherwise the fault ends the run.
     pub fn skip(&self) -> bool
         ensures value { result ≡ self.now.skip }
     {
         self.skip
     }
 
-    /// Returns the date, at most [`DATE_LIMIT`] bytes, each from 32 to 126.
+    /// Returns the date as passed to [`Options::new`]: at most [`DATE_LIMIT`] bytes, each from 32 to 126.
     pub fn date(&self) -> &[u8]
         ensures value { result.now ≡ self.now.date }
         ensures within { length result.now ≤ DATE_LIMIT }

@@ -1,5 +1,5 @@
-//! A line as its reader's buffer holds it: a blank and more bytes follow it, so that code which reads the line
-//! needs no test for its end.
+//! A line as its reader's buffer holds it: a blank and more bytes follow it, so that code which reads the
+//! line needs no test for its end.
 
 ghost use Rattle.std.specs.Prelude.{◌≡◌, ◌≤◌, ◌+◌, length, slice_index};
 ghost use Rattle.crx_base.specs.declared.limits.TheConstants.{LINE_LIMIT};
@@ -24,7 +24,7 @@ impl<'a> Padded<'a> {
     ghost use Rattle.std.specs.Prelude.{take};
     ghost use Rattle.crx_base.specs.Padded.{line_in};
 
-    /// Returns the line of the first `len` bytes.
+    /// Returns the line of the first `len` of `bytes`; a blank and at least `PADDING - 1` bytes follow there.
     #[inline(always)]
     pub fn of(bytes: &'a [u8], len: usize) -> Padded<'a>
         requires room { len + PADDING ≤ length bytes.now }
@@ -35,7 +35,7 @@ impl<'a> Padded<'a> {
         Padded { bytes, len }
     }
 
-    /// Returns the line itself.
+    /// Returns the line itself, without the padding.
     #[inline(always)]
     pub fn line(&self) -> &'a [u8]
         ensures value { result.now ≡ line_in self.now }
@@ -43,7 +43,7 @@ impl<'a> Padded<'a> {
         &self.bytes[..self.len]
     }
 
-    /// Returns how many bytes the line has.
+    /// Returns how many bytes the line has, without the padding.
     #[inline(always)]
     pub fn len(&self) -> usize
         ensures value { result ≡ length (line_in self.now) }
@@ -51,7 +51,7 @@ impl<'a> Padded<'a> {
         self.len
     }
 
-    /// Returns the line and the bytes after it: its blank, and at least `PADDING - 1` more.
+    /// Returns the line and the bytes after it: a blank, and at least `PADDING - 1` more.
     #[inline(always)]
     pub fn padded(&self) -> &'a [u8]
         ensures line { take (length (line_in self.now)) result.now ≡ line_in self.now }
@@ -71,14 +71,14 @@ pub struct PaddedCopy {
 impl PaddedCopy {
     ghost use Rattle.crx_base.specs.Padded.{line_in};
 
-    /// Returns room without a line.
+    /// Returns room for a line of at most [`LINE_LIMIT`] bytes.
     pub fn new() -> PaddedCopy {
         PaddedCopy {
             bytes: [b' '; LINE_LIMIT + PADDING],
         }
     }
 
-    /// Copies a line of at most [`LINE_LIMIT`] bytes, and returns the copy.
+    /// Copies `line`, at most [`LINE_LIMIT`] bytes, over the previous copy, and returns the padded copy.
     pub fn of<'a>(&'a mut self, line: &[u8]) -> Padded<'a>
         requires short { length line.now ≤ LINE_LIMIT }
         ensures line { line_in result ≡ line.now }

@@ -1,4 +1,5 @@
--- The one table of faults: the number and the words of each, as messages show them, and which of them can be skipped.
+-- The one table of faults: the number and the words of each, as messages show them, and which of them can be
+-- skipped.
 use Rattle.std.specs.Prelude.{ℕ, Bool, ◌==◌, ◌&&◌, ◌||◌, nat_le, List, codes}
 use Rattle.crx_base.specs.declared.fault.Fault.{Fault}
 use Rattle.crx_base.specs.declared.fault.Fault.TheVariants.{LineTooLong, InputTooLong, MissingVersion}
