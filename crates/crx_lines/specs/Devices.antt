@@ -15,8 +15,8 @@ sink_tally_of failures flushes = record { failures = failures; flushes = flushes
 abbrev pub tally_after_line : Bool → Tally → Tally
 tally_after_line is_ended t = if is_ended then t else with_end t
 
--- a read that is a fault: it returned a byte when none was allowed, or it failed; and the source's tally after
--- it
+-- a read that is a fault: it returned a byte when none was allowed, or it failed; and the source's tally
+-- after it
 abbrev pub EndsFill : Fault → (List ℕ → Type 0) → ℕ → Tally → Tally → Type 0
 EndsFill InputTooLong gave most tally counted = (b : ℕ) × gave (b ∷ []) × (most ≡ 0) × (counted ≡ tally)
 EndsFill ReadFailed gave most tally counted = gave [] × (counted ≡ with_failure tally)

@@ -14,8 +14,8 @@ use Rattle.crx_lines.specs.declared.line.Line.{Line}
 use Rattle.crx_lines.specs.declared.phase.Phase.{Phase}
 use Rattle.crx_lines.specs.declared.phase.Phase.TheVariants.{Open, Ended, Stopped}
 
--- while more lines may follow: whatever follows the bytes read, the lines so far are the first, and an LF ended
--- each of them; no read failed or reported the end
+-- while more lines may follow: whatever follows the bytes read, the lines so far are the first, and an LF
+-- ended each of them; no read failed or reported the end
 pub record IsOpen (start counted : Tally) (given : List ℕ) (now : ReaderState) (lines : List InputLine) : Type 0 where
   pub bytes : length given ≡ now.passed + length now.rest
   pub within : length given ≤ INPUT_LIMIT
@@ -44,7 +44,8 @@ StandsAt Ended at_end start counted given now lines = IsOver at_end start counte
 StandsAt (Stopped at) at_end start counted given now lines = IsStopped at.fault start counted given lines
     × (at.line ≡ length lines + 1)
 
--- these lines were read from the bytes that a source returned after the first call, when its tally was `start`
+-- these lines were read from the bytes that a source returned after the first call, when its tally was
+-- `start`
 pub record HasRead (gave : List ℕ
     → Type 0) (at_end : Type 0) (start counted : Tally) (now : ReaderState) (lines : List InputLine) : Type 0 where
   pub given : List ℕ

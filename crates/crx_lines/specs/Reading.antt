@@ -57,8 +57,8 @@ pub record Stops (old : ReaderState) (at : At) (new : ReaderState) : Type 0 wher
   pub number : new.number ≡ old.number
   pub phase : new.phase ≡ Stopped at
 
--- when a fault is returned: at a line over its limit, at an input over its limit without an LF within it, or at
--- a failed read after bytes without LF; and the source's tally then
+-- when a fault is returned: at a line over its limit, at an input over its limit without an LF within it, or
+-- at a failed read after bytes without LF; and the source's tally then
 abbrev pub AnswersFault : ReaderState → List ℕ → Type 0 → Tally → Tally → At → Fault → ReaderState → Type 0
 AnswersFault old given at_end before after at LineTooLong new =
     (p : Piece) × TakesPiece old given at_end p new
@@ -89,8 +89,8 @@ abbrev pub ReaderAnswers : ReaderState
     → List ℕ → Type 0 → Tally → Tally → Result (Option Line) At → ReaderState → Type 0
 ReaderAnswers old given at_end before after r new = AnswersAs line_shown line_number old given at_end before after r new
 
--- the answer from pending bytes only, without a read: the next line, or that it is too long, or none if nothing
--- has changed
+-- the answer from pending bytes only, without a read: the next line, or that it is too long, or none if
+-- nothing has changed
 abbrev pub AnswersHeld : {X : Type 0} → (X → InputLine)
     → (X → ℕ) → ReaderState → Result (Option X) At → ReaderState → Type 0
 AnswersHeld shown numbered old (Ok (Some x)) new =

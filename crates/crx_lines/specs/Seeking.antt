@@ -21,8 +21,8 @@ pub record Seeking (gave : List ℕ → Type 0) (old held : List ℕ) (before ro
     pub none_searched : (k : ℕ) → k < searched → slice_index held k ≢ 10
     pub searched_within : searched ≤ length held
 
--- the end of the search: the bytes read go past the limit without an LF within it, or a read failed after bytes
--- without LF; and the source's tally then
+-- the end of the search: the bytes read go past the limit without an LF within it, or a read failed after
+-- bytes without LF; and the source's tally then
 abbrev pub EndsSearch : Fault → ℕ → List ℕ → List ℕ → Tally → Tally → Type 0
 EndsSearch InputTooLong before old given tally counted = (INPUT_LIMIT < before + length (old ++ given))
     × HasNoFeed (take (INPUT_LIMIT - before) (old ++ given)) × (counted ≡ tally)

@@ -47,9 +47,9 @@ pub trait Source {
     fn may_wait(&self) -> bool
         ensures value { result ≡ waits self.now };
 
-    /// Reads some of the next bytes into the front of `buffer`, and returns how many. 0 reports the end unless
-    /// `buffer` is empty. Returns `ReadFailed` if the read fails, without losing a byte. The rest of `buffer`,
-    /// or all of it after a failure, may have any value.
+    /// Reads some of the next bytes into the front of `buffer`, and returns how many. 0 reports the end
+    /// unless `buffer` is empty. Returns `ReadFailed` if the read fails, without losing a byte. The rest of
+    /// `buffer`, or all of it after a failure, may have any value.
     fn read(&mut self, buffer: &mut [u8]) -> Result<usize, ReadFailed>
         ensures bound { IfOk result (λ n. n ≤ length buffer.new) }
         ensures bytes { IfOk result (λ n. gave self.old (take n buffer.new) self.new) }
@@ -91,8 +91,8 @@ pub trait Sink {
     // Whether a `pass_on` has failed. Then every flush fails.
     ghost is_broken: { Self → Bool };
 
-    /// Takes the first of `bytes`, at least one if there is one, and returns how many. They count as passed on
-    /// only after a good flush. Returns `WriteFailed` if the write fails; then none is taken.
+    /// Takes the first of `bytes`, at least one if there is one, and returns how many. They count as passed
+    /// on only after a good flush. Returns `WriteFailed` if the write fails; then none is taken.
     fn write(&mut self, bytes: &[u8]) -> Result<usize, WriteFailed>
         ensures bound { IfOk result (λ n. n ≤ length bytes.now) }
         ensures bytes { IfOk result (λ n. took self.old (take n bytes.now) self.new) }
@@ -105,8 +105,8 @@ pub trait Sink {
         ensures awaited { is_awaited self.new ≡ is_awaited self.old }
         ensures unbroken { is_broken self.new ≡ is_broken self.old };
 
-    /// Passes on the bytes taken to where they are kept. Takes no byte. Returns `WriteFailed` if this fails or
-    /// a [`Sink::pass_on`] has failed.
+    /// Passes all bytes taken so far to their file or stream, whether or not the output is awaited. Takes no
+    /// byte. Returns `WriteFailed` if that fails or a [`Sink::pass_on`] has failed before.
     fn flush(&mut self) -> Result<(), WriteFailed>
         ensures none_taken { took self.old [] self.new }
         ensures flushed { OnOk result (is_flushed self.new) }
@@ -117,8 +117,8 @@ pub trait Sink {
         ensures awaited { is_awaited self.new ≡ is_awaited self.old }
         ensures unbroken { is_broken self.new ≡ is_broken self.old };
 
-    /// Marks the output as awaited: from now on each [`Sink::pass_on`] passes it on, and before this call none
-    /// does. Passes nothing on itself.
+    /// Marks the output as awaited, for good: from now on each [`Sink::pass_on`] passes it on, and before
+    /// this none does. Passes nothing on itself.
     fn await_output(&mut self)
         ensures none_taken { took self.old [] self.new }
         ensures unasked { flushes self.new ≡ flushes self.old }
@@ -128,8 +128,9 @@ pub trait Sink {
         ensures flushed { is_flushed self.new → is_flushed self.old }
         ensures current { is_current self.new → is_current self.old };
 
-    /// Passes on the bytes taken if the output is awaited, and returns whether that succeeded. Takes no byte
-    /// and doesn't count as a flush. If it fails, each later flush fails and counts the failure.
+    /// Passes the bytes taken to their file or stream if the output is awaited, and otherwise does nothing.
+    /// Returns `false` if that fails or has failed before; from then on each flush fails, too, and counts the
+    /// failure. Takes no byte and doesn't count as a flush.
     fn pass_on(&mut self) -> bool
         ensures none_taken { took self.old [] self.new }
         ensures unasked { flushes self.new ≡ flushes self.old }
@@ -165,7 +166,7 @@ pub struct Std<D> {
 }
 
 /// Returns whether a read of the file with this `metadata` may have to wait for bytes that don't exist yet:
-/// only a regular file is known not to wait.
+/// `false` for a regular file, `true` for any other one and if `metadata` is an error.
 pub fn reads_may_wait(metadata: &io::Result<Metadata>) -> bool
     ensures waits { result ≡ false
         → (known : Metadata) × (metadata.now ≡ Ok known) × IsFile (file_type known) }
@@ -177,9 +178,9 @@ pub fn reads_may_wait(metadata: &io::Result<Metadata>) -> bool
     }
 }
 
-/// Opens the file `name` for reading, with interrupted calls repeated. No other call returns an unread device.
-/// The mark is the device's and not the file's, so it promises nothing about earlier reads of the file. Reads
-/// may have to wait if [`reads_may_wait`] says so. Returns the system's error if the file can't be opened, and
+/// Opens the file `name` for reading through `files`; interrupted calls are repeated. Its reads may have to
+/// wait unless it is a regular file. Only this call returns a device marked as unread, which says nothing
+/// about earlier reads of the file. Returns the system's error if the file can't be opened, and
 /// `IsADirectory` for a folder.
 pub fn open_file<H: Files>(files: &H, name: &str) -> io::Result<Std<Uninterrupted<H::File>>>
     ensures unread { IfOk result (λ device. device.is_unread ≡ true) }
@@ -210,8 +211,8 @@ pub fn open_file<H: Files>(files: &H, name: &str) -> io::Result<Std<Uninterrupte
 }
 
 impl<D> Std<D> {
-    /// Returns `inner` as a device that hasn't failed, reported its end or been flushed. Its earlier reads are
-    /// unknown. Its reads may have to wait.
+    /// Returns `inner` as a device without a failure, a reported end or a flush so far, whose output isn't
+    /// awaited. It isn't marked as unread, and its reads may have to wait.
     pub fn new(inner: D) -> Std<D>
         ensures inner { result.inner ≡ inner }
         ensures failures { result.failures ≡ 0 }
@@ -236,21 +237,21 @@ impl<D> Std<D> {
         }
     }
 
-    /// Returns the same device. `may_wait`: whether its reads may have to wait.
+    /// Returns the same device, except that [`Source::may_wait`] returns `may_wait` from now on.
     pub fn with_waits(self, may_wait: bool) -> Std<D>
         ensures whole { result ≡ record self { may_wait = may_wait } }
     {
         Std { may_wait, ..self }
     }
 
-    /// Returns the reader or writer itself.
+    /// Returns the reader or writer itself, without a flush.
     pub fn into_inner(self) -> D
         ensures inner { result ≡ self.inner }
     {
         self.inner
     }
 
-    /// Counts a flush with the result `flushed`, also as a failure if it failed, and returns this result.
+    /// Counts a flush with the result `flushed`; if it failed, also a failure, and returns `WriteFailed`.
     fn count_flush(&mut self, flushed: io::Result<()>) -> Result<(), WriteFailed>
         ensures ok { is_ok result ≡ is_ok flushed }
         ensures good { OnOk result (self.new.failures ≡ self.old.failures) }
@@ -281,10 +282,12 @@ impl<D: Read> Source for Std<D> {
 
     ghost waits = { λ s. s.may_wait };
 
+    /// Returns the flag with which the device was made or changed: `true` unless it is known not to wait.
     fn may_wait(&self) -> bool {
         self.may_wait
     }
 
+    /// Reads by one call; the device isn't unread then. Any error is counted and is `ReadFailed`.
     fn read(&mut self, buffer: &mut [u8]) -> Result<usize, ReadFailed>
         ensures bound { IfOk result (λ n. n ≤ length buffer.new) }
         ensures bytes { IfOk result (λ n.
@@ -334,6 +337,7 @@ impl<D: Write> Sink for Std<D> {
 
     ghost is_broken = { λ s. s.is_broken };
 
+    /// Writes by one call. Any error, or taking none of some bytes, is counted and is `WriteFailed`.
     fn write(&mut self, bytes: &[u8]) -> Result<usize, WriteFailed>
         ensures bound { IfOk result (λ n. n ≤ length bytes.now) }
         ensures bytes { IfOk result (λ n.
@@ -363,6 +367,7 @@ impl<D: Write> Sink for Std<D> {
         }
     }
 
+    /// Flushes the writer in any case; fails if that fails or a [`Sink::pass_on`] has failed.
     fn flush(&mut self) -> Result<(), WriteFailed> {
         let flushed = self.inner.flush();
         if self.is_broken {
@@ -371,10 +376,12 @@ impl<D: Write> Sink for Std<D> {
         self.count_flush(flushed)
     }
 
+    /// Marks the output as awaited; flushes nothing.
     fn await_output(&mut self) {
         self.is_awaited = true;
     }
 
+    /// Flushes awaited output that isn't passed on yet; `false` if that or an earlier call failed.
     fn pass_on(&mut self) -> bool {
         if self.is_awaited && !self.flushed && !self.is_broken {
             self.flushed = self.inner.flush().is_ok();

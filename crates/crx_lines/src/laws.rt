@@ -8,9 +8,9 @@ ghost use Rattle.crx_lines.specs.declared.window.Window.{Window};
 ghost use Rattle.crx_base.specs.declared.limits.TheConstants.{INPUT_LIMIT};
 ghost use Rattle.crx_base.specs.declared.padded.TheConstants.{PADDING};
 
-/// Lists everything that a reader of lines holds: a reader with these parts of another one is equal to it. So
-/// no record of past lines can grow in it; its buffer has memory of one size, and its numbers are within the
-/// limit of an input.
+/// Does nothing at run time: its contract lists everything that a reader of lines holds. A reader with these
+/// parts of another one is equal to it, so no record of past lines can grow in it; its buffer has memory of
+/// one size, and its numbers are within the limit of an input.
 pub fn line_reader_holds()
     ensures window { (one other : Window) → window_with one other ≡ other }
     ensures reader { (one other : LineReader) → line_reader_with one other ≡ other }

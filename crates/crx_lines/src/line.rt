@@ -28,7 +28,8 @@ pub struct Line<'a> {
 impl<'a> Line<'a> {
     ghost use Rattle.crx_lines.specs.Reading.{line_shown, line_number};
 
-    /// Makes a line of `content`, which excludes the line end. `is_plain`: whether only an LF ends it.
+    /// Makes a line of `content`, at most [`LINE_LIMIT`] bytes without the line end. `number`: the line's
+    /// number; `is_plain`: only an LF ends it, without a CR before it.
     pub fn of(content: Padded<'a>, number: u64, is_plain: bool) -> Line<'a>
         requires { length (line_in content) ≤ LINE_LIMIT }
         ensures shown { line_shown result ≡ record { content = line_in content.entry; is_plain = is_plain } }
@@ -49,7 +50,7 @@ impl<'a> Line<'a> {
         self.content.line()
     }
 
-    /// Returns the line's content, followed by a blank and more bytes.
+    /// Returns the line's content as [`Line::bytes`] does, with a blank and more bytes after it in memory.
     pub fn padded(&self) -> Padded<'a>
         ensures content { line_in result ≡ (line_shown self.now).content }
         ensures limit { length (line_in result) ≤ LINE_LIMIT }
@@ -64,7 +65,7 @@ impl<'a> Line<'a> {
         self.number
     }
 
-    /// Returns whether only an LF ends the line.
+    /// Returns whether only an LF ends the line: `false` if a CR precedes it or the input ends without LF.
     pub fn plain(&self) -> bool
         ensures value { result ≡ (line_shown self.now).is_plain }
     {
@@ -94,7 +95,7 @@ impl LineReader {
     ghost use Rattle.crx_lines.specs.Readers.{CanBeLent, TakesNextLine, reading};
     ghost use Rattle.crx_lines.specs.Window.{cut_shown};
 
-    /// Returns a reader before its input's first line, or `AllocError` if memory is refused.
+    /// Returns a reader before its input's first line, or `AllocError` if memory is refused. Reads nothing.
     pub fn new(alloc: Global) -> Result<LineReader, AllocError>
         ensures start { IfOk result
             (λ r. reading r ≡ record { rest = []; passed = 0; number = 0; phase = Phase.Open }) }
@@ -102,7 +103,7 @@ impl LineReader {
         Ok(LineReader::open(alloc)?)
     }
 
-    /// Does the same as [`LineReader::new`], but returns the refusal itself.
+    /// Does the same as [`LineReader::new`], but returns `Refused` if memory is refused.
     pub fn open(alloc: Global) -> Result<LineReader, Refused>
         ensures start { IfOk result
             (λ r. reading r ≡ record { rest = []; passed = 0; number = 0; phase = Phase.Open }) }
@@ -116,15 +117,16 @@ impl LineReader {
         })
     }
 
-    /// Returns the number of the last line that was read, 0 before the first.
+    /// Returns the number of the last line that was taken, too long or not; 0 before the first.
     pub fn number(&self) -> u64
         ensures value { result ≡ (reading self.now).number }
     {
         self.number
     }
 
-    /// Takes the next line if its LF is pending, and returns its place in the window, or `LineTooLong`. Returns
-    /// `None`, with nothing changed, if no LF is pending.
+    /// Takes the next line if its LF is pending, and returns its place in the window; reads nothing. Returns
+    /// `LineTooLong` if its content is over [`LINE_LIMIT`]; the line is taken then too. Returns `None`, with
+    /// nothing changed, if no LF is pending.
     #[inline(always)]
     fn advance_held(&mut self) -> Result<Option<Cut>, At>
         requires { self.old.phase ≡ Phase.Open }
@@ -148,7 +150,9 @@ impl LineReader {
         Ok(Some(cut))
     }
 
-    /// Takes the next line, whose end may still have to be read, with the errors of [`LineReader::next_line`].
+    /// Takes the next line, reads from `reader` until its end is found, and returns its place in the window,
+    /// or `None` if the input has no more. Errors are those of [`LineReader::next_line`]; except after
+    /// `LineTooLong` they are stored, and no later line is returned.
     #[inline(never)]
     fn advance_by_reading<R: Source>(&mut self, reader: &mut R) -> Result<Option<Cut>, At>
         requires { self.old.phase ≡ Phase.Open }
@@ -208,10 +212,10 @@ impl LineReader {
     /// Returns the next line, which is valid until the next call, or `None` after the last one. Reads from
     /// `reader` only while no LF is pending, and never after `reader` reported its end.
     ///
-    /// Returns `LineTooLong` for a line over `LINE_LIMIT`, once its end was read; the line counts, and the next
-    /// call continues after it. Returns `InputTooLong` if a byte past `INPUT_LIMIT` was read and no LF before
-    /// it is pending, and `ReadFailed` if a read failed. Both are returned again from then on, as `None` is
-    /// after the end, and nothing more is read.
+    /// Returns `LineTooLong` for a line over `LINE_LIMIT`, once its end was read; the line counts, and the
+    /// next call continues after it. Returns `InputTooLong` if a byte past `INPUT_LIMIT` was read and no LF
+    /// before it is pending, and `ReadFailed` if a read failed. Both are returned again from then on, as
+    /// `None` is after the end, and nothing more is read.
     pub fn next_line<'a, R: Source>(&'a mut self, reader: &mut R) -> Result<Option<Line<'a>>, At>
         ensures open { (reading self.old).phase ≡ Phase.Open → (given : List ℕ) × (new : ReaderState)
             × R.gave reader.old given reader.new
@@ -241,8 +245,8 @@ impl LineReader {
         }
     }
 
-    /// Does the same as [`LineReader::next_line`] for a line whose LF is pending. Returns `None`, with nothing
-    /// changed, if more has to be read or no line is left.
+    /// Returns the next line or `LineTooLong`, as [`LineReader::next_line`] does, if its LF is pending; never
+    /// reads. Returns `None`, with nothing changed, if no LF is pending, and after the end or another error.
     #[inline(always)]
     pub fn next_held<'a>(&'a mut self) -> Result<Option<Line<'a>>, At>
         ensures answers { (new : ReaderState) × AnswersHeld line_shown line_number (reading self.old) result new }

@@ -23,9 +23,10 @@ pub(crate) struct Found {
     pub(crate) is_ended: bool,
 }
 
-/// Finds the end of the line that the window begins with, reading from `reader` until it is found. A line that
-/// is too long is discarded, so the window never fills up. `before`: how many bytes the earlier lines had.
-/// Returns `InputTooLong` at a byte past `INPUT_LIMIT`, and `ReadFailed` if a read fails.
+/// Finds the end of the line that the window begins with, an LF or the input's end, and reads from `reader`
+/// until it is found. Doesn't take the line; discards the bytes of one that is too long, so the window never
+/// fills up. `before`: how many bytes the earlier lines had, with their ends. Returns `InputTooLong` if a
+/// byte past `INPUT_LIMIT` was read, and `ReadFailed` if a read fails.
 pub(crate) fn seek<R: Source>(
     window: &mut Window,
     before: u64,

@@ -7,8 +7,7 @@ ghost use Rattle.std.specs.IoError.{error_kind};
 use std::io;
 use std::io::{ErrorKind, Read, Write};
 
-/// How often a call is made if a signal interrupts it each time. Then it returns `TimedOut`, so that each call
-/// returns.
+/// How often an interrupted call is made before it returns `TimedOut`, so that each call returns.
 const MOST_CALLS: u64 = u64::MAX;
 
 /// A reader or a writer of std that returns no interruption: a read, a write or a flush that a signal
@@ -39,6 +38,7 @@ impl<D> Uninterrupted<D> {
 impl<D: Read> Read for Uninterrupted<D> {
     ghost remaining = { λ s. D.remaining s.inner };
 
+    /// Reads as `inner` does, again after each interruption; `TimedOut` after [`MOST_CALLS`] of them.
     fn read(&mut self, buf: &mut [u8]) -> io::Result<usize>
         ensures bound { ReadsAtMost result buf.new }
         ensures bytes { ReadConsumes (D.remaining self.old.inner) (D.remaining self.new.inner) result buf.new }
@@ -57,6 +57,7 @@ impl<D: Read> Read for Uninterrupted<D> {
 impl<D: Write> Write for Uninterrupted<D> {
     ghost contents = { λ s. D.contents s.inner };
 
+    /// Writes as `inner` does, again after each interruption; `TimedOut` after [`MOST_CALLS`] of them.
     fn write(&mut self, buf: &[u8]) -> io::Result<usize>
         ensures bound { WritesAtMost result buf.now }
         ensures bytes { WriteAppends (D.contents self.old.inner) (D.contents self.new.inner) result buf.now }
@@ -71,6 +72,7 @@ impl<D: Write> Write for Uninterrupted<D> {
         Err(ErrorKind::TimedOut.into())
     }
 
+    /// Flushes as `inner` does, again after each interruption; `TimedOut` after [`MOST_CALLS`] of them.
     fn flush(&mut self) -> io::Result<()>
         ensures bytes { Keeps (D.contents self.old.inner) (D.contents self.new.inner) }
         ensures uninterrupted { IfErr result (λ e. error_kind e ≢ ErrorKind.Interrupted) }

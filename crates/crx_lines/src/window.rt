@@ -23,8 +23,8 @@ const PIECE: usize = 2048;
 /// content, CR and LF.
 const LEAST_ROOM: usize = LINE_LIMIT + 2;
 
-/// The bytes of memory for lines, 18 KiB: two of the longest lines, in whole pieces, and dozens of common ones.
-/// They are brought into use by doubling, up to 16 KiB. Larger reads are no faster.
+/// The bytes of memory for lines, 18 KiB: two of the longest lines, in whole pieces, and dozens of common
+/// ones. They are brought into use by doubling, up to 16 KiB. Larger reads are no faster.
 pub(crate) const SIZE: usize = (2 * LEAST_ROOM / PIECE + 1) * PIECE;
 
 /// Where in the window the content of a taken line is, and whether only an LF ended the line.
@@ -65,6 +65,7 @@ impl Window {
         })
     }
 
+    /// Returns the pending bytes.
     pub(crate) fn as_slice(&self) -> &[u8]
         ensures value { result.now ≡ kept self.now }
         ensures len { length result.now ≡ self.now.end - self.now.start }
@@ -72,7 +73,7 @@ impl Window {
         &self.bytes[self.start..self.end]
     }
 
-    /// Returns the content of a taken line, while its bytes are in the window.
+    /// Returns the content of the taken line at `cut`, whose bytes are in the window still.
     pub(crate) fn padded(&self, cut: Cut) -> Padded<'_>
         requires { IsCut self.now.bytes.items cut }
         ensures value { line_in result ≡ (cut_shown self.now.bytes.items cut).content }
@@ -80,8 +81,8 @@ impl Window {
         Padded::of(&self.bytes[cut.from..], cut.to - cut.from)
     }
 
-    /// Takes a line of `len` bytes, and the LF after them if `is_ended`; otherwise these are all pending bytes.
-    /// Puts a blank after the content, over the LF or the CR before it.
+    /// Takes a line of `len` pending bytes, and the LF after them if `is_ended` (otherwise `len` is all of
+    /// them). Returns the place of its content, without a CR at the end, and puts a blank after the content.
     pub(crate) fn cut_line(&mut self, len: usize, is_ended: bool) -> Cut
         requires { MatchBool is_ended (len < length (kept self.old)) (len ≡ length (kept self.old)) }
         ensures cut { IsCut self.new.bytes.items result }
@@ -102,8 +103,8 @@ impl Window {
         }
     }
 
-    /// Discards the pending bytes if they are too many for a line and its end, and returns how many it
-    /// discarded.
+    /// Discards all pending bytes if they are more than `LINE_LIMIT + 1`, too many for a line and a CR, and
+    /// returns how many it discarded, or 0.
     pub(crate) fn drop_long_line(&mut self) -> usize
         ensures count { ((result ≡ 0) × (kept self.new ≡ kept self.old))
             ⊎ ((result ≡ length (kept self.old)) × (LINE_LIMIT + 1 < result) × (kept self.new ≡ [])) }
@@ -118,7 +119,7 @@ impl Window {
         count
     }
 
-    /// Makes room after the pending bytes: moves them to the front if too little is left.
+    /// Moves the pending bytes to the front if fewer than [`LEAST_ROOM`] of [`SIZE`] bytes are after them.
     fn move_to_front(&mut self)
         requires { length (kept self.old) ≤ LINE_LIMIT + 1 }
         ensures kept { kept self.new ≡ kept self.old }
@@ -138,7 +139,7 @@ impl Window {
         }
     }
 
-    /// Doubles the bytes in use if few are free, so that a run over a small file touches little memory.
+    /// Doubles the bytes in use, up to all, if fewer than [`PIECE`] are free: small files need little memory.
     fn use_more(&mut self)
         requires { self.old.end + LEAST_ROOM ≤ SIZE }
         ensures kept { kept self.new ≡ kept self.old }
@@ -151,7 +152,9 @@ impl Window {
     }
 
     /// Reads once from `reader`, at most `most` bytes, appends them to the pending ones, and returns their
-    /// number. Returns `InputTooLong` at any byte if `most` is 0, and `ReadFailed` if the read fails.
+    /// number, 0 at the input's end. If `most` is 0, reads one byte, which is lost, and returns
+    /// `InputTooLong` if there is one. Returns `ReadFailed` if the read fails. Errors don't change the
+    /// pending bytes.
     pub(crate) fn fill<R: Source>(&mut self, reader: &mut R, most: u64) -> Result<usize, Fault>
         requires { length (kept self.old) ≤ LINE_LIMIT + 1 }
         ensures ok { IfOk result (λ n. (more : List ℕ) × (length more ≡ n) × (n ≤ most)
@@ -186,8 +189,8 @@ impl Window {
     }
 }
 
-/// Lengthens `bytes` with zeros to `count`, for which it has memory. The list is taken out of its place first,
-/// because only then does one call of the C library fill it.
+/// Lengthens `bytes` with zeros to `count` bytes, for which it has memory. The list is taken out of its place
+/// first, because only then does one call of the C library fill it.
 fn lengthen(bytes: &mut Vec<u8>, count: usize)
     requires longer { length bytes.old.items ≤ count }
     requires memory { count ≤ vec_capacity bytes.old }

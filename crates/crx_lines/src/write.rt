@@ -4,12 +4,11 @@ ghost use Rattle.crx_lines.specs.meaning.Devices.{one_more};
 
 use crate::device::{Sink, WriteFailed};
 
-/// How many bytes are written at once. A piece of this size is copied into a buffer by registers; a longer one
-/// would be copied byte by byte.
+/// How many bytes are written at once; a longer piece would be copied into a buffer byte by byte.
 const PIECE: usize = 2048;
 
-/// Writes all of `bytes`, piece by piece, and continues after a short write. If a write fails, returns how many
-/// bytes were written before it, from the front.
+/// Writes all of `bytes` to `writer`, piece by piece, and continues after a short write; doesn't flush. If a
+/// write fails, stops and returns how many bytes were written before it, from the front, with `WriteFailed`.
 pub fn write_all_counted<W: Sink>(writer: &mut W, bytes: &[u8]) -> Result<(), (usize, WriteFailed)>
     ensures all { OnOk result (W.took writer.old bytes.now writer.new) }
     ensures good { OnOk result (W.failures writer.new ≡ W.failures writer.old) }
