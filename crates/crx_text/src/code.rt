@@ -40,8 +40,8 @@ ghost use Rattle.crx_text.specs.declared.lanes.TheConstants.{LANES};
 /// digits are written four at a time.
 const CODE_WIDTH: usize = DIGITS_LIMIT + 6;
 
-/// Appends a code's printed text; an order is one digit, and `&` follows it. Returns `TextFull`, with the text
-/// unchanged, if it would pass [`LINE_LIMIT`] bytes.
+/// Appends the text of `code` to `text`: `3&123`, `-45`, or nothing for a missing value. Returns `TextFull`,
+/// with `text` unchanged, if it would be longer than [`LINE_LIMIT`] bytes.
 #[inline]
 #[tactic(auto, using(crate::proofs::CodeTexts::code_text_length))]
 pub fn code_print(code: Code, text: &mut Text) -> Result<(), TextFull>
@@ -59,8 +59,8 @@ pub fn code_print(code: Code, text: &mut Text) -> Result<(), TextFull>
     Ok(())
 }
 
-/// Writes a code's printed text and a blank from index `at` on, and returns the index after them. Up to two
-/// more bytes may be overwritten.
+/// Writes a code's text and a blank over `buffer`, which has room, from index `at` on, and returns the index
+/// after them. Up to two more bytes may be overwritten.
 #[inline(always)]
 pub fn write_cell(buffer: &mut [u8], at: usize, code: Code) -> usize
     requires printable { IsPrintable code }
@@ -73,7 +73,8 @@ pub fn write_cell(buffer: &mut [u8], at: usize, code: Code) -> usize
     end + 1
 }
 
-/// Does the same as [`write_cell`] for the code of a difference, without making a [`Code`] and testing it.
+/// Writes `difference` and a blank over `buffer` from index `at` on, and returns the index after them. Does
+/// the same as [`write_cell`] for its code, without making a [`Code`] and testing it.
 #[inline(always)]
 #[tactic(auto, using(crate::proofs::CodeTexts::code_text_start, crate::proofs::CodeTexts::start_written))]
 pub fn write_difference(buffer: &mut [u8], at: usize, difference: i64) -> usize
@@ -87,7 +88,8 @@ pub fn write_difference(buffer: &mut [u8], at: usize, difference: i64) -> usize
     end + 1
 }
 
-// Writes a code's text from index `at` on, and returns the index after it.
+// Writes a coded value's text (`3&123`, `-45`, or nothing for a missing value) from index `at` on, and
+// returns the index after it. Up to three more bytes may be overwritten.
 #[inline(always)]
 #[tactic(auto, using(crate::proofs::CodeTexts::code_text_start, crate::proofs::CodeTexts::start_written))]
 fn write_code(buffer: &mut [u8], at: usize, code: Code) -> usize
@@ -107,9 +109,9 @@ fn write_code(buffer: &mut [u8], at: usize, code: Code) -> usize
     }
 }
 
-/// Reads a code. A number is an optional minus and 1 to [`DIGITS_LIMIT`] digits, with leading zeros and `-0`
-/// allowed; an order is one digit of at most [`ORDER_LIMIT`] before `&`; the empty text is a missing value.
-/// Returns `BadField` for any other text.
+/// Reads the code that is all of `text`. A number is an optional minus and 1 to [`DIGITS_LIMIT`] digits, with
+/// leading zeros and `-0` allowed; an order is one digit of at most [`ORDER_LIMIT`] before `&`; the empty
+/// text is a missing value. Returns `BadField` for any other text.
 #[tactic(auto, using(crate::proofs::CellNumbers::no_code_with_blank, crate::proofs::CellNumbers::one_cell))]
 pub fn code_read(text: &[u8]) -> Result<Code, BadField>
     ensures value { result_ok result ≡ code_of text.now }
@@ -122,8 +124,8 @@ pub fn code_read(text: &[u8]) -> Result<Code, BadField>
     Ok(code)
 }
 
-/// Reads the code before a line's first blank, or up to its end, and returns it with the index after that
-/// blank, or of the line's end. Spellings and `BadField` are those of [`code_read`].
+/// Reads the code before the first blank of `line`, or up to its end, and returns it with the index after
+/// that blank, or of the end. Returns `BadField` if [`code_read`] does for the code's text.
 #[inline(always)]
 pub fn code_before_blank(line: &[u8]) -> Result<(Code, usize), BadField>
     ensures value { option_map (λ cell. cell.0) (result_ok result) ≡ code_of (first_cell line.now) }
@@ -151,8 +153,8 @@ pub fn code_before_blank(line: &[u8]) -> Result<(Code, usize), BadField>
     }
 }
 
-/// Returns how many characters the cell at index `at` of a line has, at most 16. A bit above those of the 16
-/// characters ends the search, which saves a test.
+/// Returns how many characters the cell at index `at` of a line has, up to a blank or the line's end, but 16
+/// if it has more. A bit above the bits of the 16 characters ends the search, which saves a test.
 #[inline(always)]
 pub fn cell_length(line: Padded<'_>, at: usize) -> usize
     requires within { at ≤ length (line_in line) }
@@ -166,8 +168,8 @@ pub fn cell_length(line: Padded<'_>, at: usize) -> usize
 }
 
 /// Reads the difference in the cell at index `at` of a line. `characters`: its length by [`cell_length`].
-/// Returns `None` if the cell is another code or none, or has seven digits or more, which only
-/// [`code_before_blank`] reads.
+/// Returns `None` if the cell is empty, another code or no code, and also if it has seven digits or more,
+/// which only [`code_before_blank`] reads.
 #[inline(always)]
 pub fn step_of_length(line: Padded<'_>, at: usize, characters: usize) -> Option<i64>
     requires within { at ≤ length (line_in line) }
@@ -187,8 +189,8 @@ pub fn step_of_length(line: Padded<'_>, at: usize, characters: usize) -> Option<
     Some(with_sign(is_below, size))
 }
 
-// Returns the number before a text's first blank, or up to its end, and the index after the blank. Returns
-// `None` if it is no number.
+// Returns the number before a text's first blank, or up to its end, and the index after the blank or of the
+// end. Returns `None` if it isn't an optional minus and 1 to [`DIGITS_LIMIT`] digits.
 #[inline(always)]
 fn number_before_blank(text: &[u8]) -> Option<(i64, usize)>
     ensures value { option_map (λ cell. cell.0) result ≡ coded_number (first_cell text.now) }

@@ -11,7 +11,7 @@ use crx_base::limits::DIGITS_LIMIT;
 use std::simd::prelude::*;
 
 // Returns the number that the digits before a text's first blank make, and the index after that blank, or of
-// the text's end. Returns `None` if there is no digit, too many, or another character.
+// the text's end. Returns `None` for no digit, more than [`DIGITS_LIMIT`], or another character among them.
 #[inline(always)]
 #[tactic(auto, using(crate::proofs::CellNumbers::no_first_digit))]
 pub(crate) fn digits_before_blank(text: &[u8]) -> Option<(u64, usize)>
@@ -33,8 +33,8 @@ pub(crate) fn digits_before_blank(text: &[u8]) -> Option<(u64, usize)>
     None
 }
 
-// Returns the number that the digits at a text's beginning make, and their count. Reads at most one digit more
-// than [`DIGITS_LIMIT`].
+// Returns the number that the digits at a text's beginning make, and their count, or 0 and 0 without one.
+// Reads at most one digit more than [`DIGITS_LIMIT`].
 #[inline(never)]
 fn first_digits(text: &[u8]) -> (u64, usize)
     ensures { HasFirstDigits text.now result.0 result.1 }
@@ -85,10 +85,9 @@ static SCALES: [u64; FEW + 1] = [
     (1000 << 32) + 1,
 ];
 
-// Returns the number of the `count` digits at a row's beginning, or `None` if it begins with fewer or more. The
-// lanes hold a character's distance from `0`, and after the row bytes that are no digits. One product weighs
-// the two groups of three digits, and its upper half is their sum. The weights follow from `count`, which is
-// known before the digits, so that the processor waits less.
+// Returns the number of the `count` digits (at most 6) that begin `text`, or `None` unless exactly `count`
+// do. Reads 8 characters at once; the lanes after them never hold a digit. The weights of the two groups of
+// three digits depend on `count` only, so that the processor need not wait for the digits.
 #[inline(always)]
 pub(crate) fn row_number(text: &[u8], count: usize) -> Option<u64>
     requires row { ROW ≤ length text.now }
@@ -134,7 +133,8 @@ pub(crate) fn write_signed(buffer: &mut [u8], at: usize, number: i64) -> usize
     write_decimal(buffer, at + usize::from(number < 0), number.unsigned_abs())
 }
 
-// Writes a number without a sign from index `at` on, and returns the index after it.
+// Writes a number without a sign from index `at` on, and returns the index after it. Up to three more bytes
+// may be overwritten.
 #[inline(always)]
 #[tactic(auto, using(itoa::proofs::Decimal::length_four, crate::proofs::DigitPairs::four_written))]
 fn write_decimal(buffer: &mut [u8], at: usize, size: u64) -> usize
@@ -156,8 +156,7 @@ fn write_decimal(buffer: &mut [u8], at: usize, size: u64) -> usize
     middle + 4
 }
 
-// Writes a number with any count of digits, four at a time, the first ones first: it calls itself for those
-// before the last four.
+// Does the same as [`write_decimal`] for any count of digits: calls itself for the digits before the last 4.
 #[tactic(auto, using(itoa::proofs::Decimal::length_four, crate::proofs::DigitPairs::four_written))]
 fn write_long(buffer: &mut [u8], at: usize, size: u64) -> usize
     requires { at + length (decimal size) + 3 ≤ length buffer.old }
@@ -173,8 +172,8 @@ fn write_long(buffer: &mut [u8], at: usize, size: u64) -> usize
     middle + 4
 }
 
-// Writes a number of at most four digits by one store: a word holds its four columns and is shifted by the
-// zeros before the number. No branch depends on the count of digits, which may differ from value to value.
+// Does the same as [`write_decimal`] for a number below 10,000: a word holds its four columns and is shifted
+// by the zeros before the number. No branch depends on the count of digits, which may differ by value.
 #[inline(always)]
 #[tactic(auto, using(std::proofs::lemmas::Fmt::decimal_nonempty))]
 fn write_short(buffer: &mut [u8], at: usize, size: u32) -> usize
@@ -185,14 +184,13 @@ fn write_short(buffer: &mut [u8], at: usize, size: u32) -> usize
 {
     let columns = four_digits(size);
     // The lowest bit that is set among the digits shows the first one that isn't 0; a bit above the last one
-    // ends the search, because 0 has a digit of its own. Each digit's character has that bit, so it needn't be
-    // set.
+    // ends the search, because 0 has a digit of its own. Each digit's character has that bit already.
     let zeros = ((columns & 0x1f0f_0f0f).trailing_zeros() / 8) as usize;
     write_word(buffer, at, columns >> (8 * zeros));
     at + 4 - zeros
 }
 
-// Returns the four digits of a number, with zeros; the first one is the word's lowest byte.
+// Returns the four digits of a number below 10,000, with zeros; the first one is the word's lowest byte.
 #[inline(always)]
 #[tactic(auto, using(crate::proofs::DigitPairs::PAIRS_at))]
 fn four_digits(size: u32) -> u32
@@ -212,7 +210,7 @@ fn four_digits(size: u32) -> u32
     ])
 }
 
-// Writes the four bytes of a word from index `at` on, the lowest one first.
+// Writes the four bytes of a word over `buffer` from index `at` on, the lowest one first.
 #[inline(always)]
 fn write_word(buffer: &mut [u8], at: usize, word: u32)
     requires { at + 4 ≤ length buffer.old }

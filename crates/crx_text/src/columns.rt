@@ -14,7 +14,7 @@ pub fn character(line: &[u8], column: usize) -> u8
     line.get(column - 1).copied().unwrap_or(b' ')
 }
 
-/// Returns `width` columns after the first `start`, as far as they are inside the line.
+/// Returns the `width` columns after the first `start` ones, as far as they are inside the line.
 fn part(line: &[u8], start: usize, width: usize) -> &[u8]
     ensures value { result.now ≡ take width (drop start line.now) }
 {
@@ -39,14 +39,14 @@ pub fn trim_start(text: &[u8]) -> &[u8]
     rest
 }
 
-/// Returns whether all characters of a text are blanks.
+/// Returns whether all characters of a text are blanks; `true` for the empty text.
 pub fn all_blank(text: &[u8]) -> bool
     ensures value { result ≡ list_all is_blank text.now }
 {
     text.iter().all(|c| *c == b' ')
 }
 
-/// Returns `width` columns from `first` on, without the blanks at their end.
+/// Returns the line's part in the `width` columns from `first` (from 1) on, without blanks at its end.
 #[tactic(auto, using(crate::proofs::Blanks::end_blanks_columns))]
 pub fn trim_end_columns(line: &[u8], first: usize, width: usize) -> &[u8]
     requires from_one { 1 ≤ first }
@@ -55,7 +55,7 @@ pub fn trim_end_columns(line: &[u8], first: usize, width: usize) -> &[u8]
     trim_end(part(line, first - 1, width))
 }
 
-/// Returns `width` columns from `first` on, without the blanks at both ends.
+/// Returns the line's part in the `width` columns from `first` (from 1) on, without blanks at both ends.
 #[tactic(auto, using(crate::proofs::Blanks::blanks_columns))]
 pub fn trim_columns(line: &[u8], first: usize, width: usize) -> &[u8]
     requires from_one { 1 ≤ first }
@@ -65,7 +65,7 @@ pub fn trim_columns(line: &[u8], first: usize, width: usize) -> &[u8]
     trim_end(trim_start(part(line, first - 1, width)))
 }
 
-/// Returns the part of a line after `width` columns.
+/// Returns the part of a line after `width` columns: nothing if it has no more.
 pub fn after_columns(line: &[u8], width: usize) -> &[u8]
     ensures value { result.now ≡ drop width line.now }
 {
@@ -76,7 +76,7 @@ pub fn after_columns(line: &[u8], width: usize) -> &[u8]
     }
 }
 
-/// Returns `N` columns from `first` on, with blanks after the line's end.
+/// Returns the `N` columns from column `first`, counted from 1, with blanks after the line's end.
 pub fn padded<const N: usize>(line: &[u8], first: usize) -> [u8; N]
     requires from_one { 1 ≤ first }
     ensures value { result ≡ columns line.now first N }

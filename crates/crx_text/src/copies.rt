@@ -7,7 +7,7 @@ use crate::difference::BLANKS;
 use crate::lanes::LANES;
 use std::simd::prelude::*;
 
-/// Copies a text over another one of the same length, by vectors that may overlap.
+/// Copies `from` over `to`, which has the same length, by vectors that may overlap.
 #[inline]
 pub fn copy_text(to: &mut [u8], from: &[u8])
     requires { length to.old ≡ length from.now }
@@ -45,8 +45,7 @@ pub fn copy_text(to: &mut [u8], from: &[u8])
     to[count - 1] = last;
 }
 
-/// Overwrites a text with blanks, by vectors as [`copy_text`] does. After a row's indicators it is usually
-/// empty.
+/// Overwrites all of `text`, at most `LINE_LIMIT` bytes and usually none, with blanks, by vectors.
 #[inline]
 pub fn put_blanks(text: &mut [u8])
     requires { length text.old ≤ LINE_LIMIT }

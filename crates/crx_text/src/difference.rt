@@ -18,9 +18,9 @@ use thiserror::Error;
 #[error("bad character")]
 pub struct BadCharacter;
 
-/// Writes the marks that lead from the old text to the new one: a blank if nothing changes, `&` if a character
-/// becomes blank, and otherwise the new character. Blanks at the end are dropped. Returns `BadCharacter`, with
-/// `out` unchanged, if `new` holds a byte outside 32 to 126, or `&`.
+/// Makes `out` the marks that lead from the text `old` to `new`: a blank if nothing changes, `&` if a
+/// character becomes blank, and otherwise the new character. Blanks at the end are dropped. Returns
+/// `BadCharacter`, with `out` unchanged, if `new` holds a byte outside 32 to 126, or `&`.
 pub fn diff_text(old: &Text, new: &[u8], out: &mut Text) -> Result<(), BadCharacter>
     requires { length new.now ≤ LINE_LIMIT }
     ensures plain { is_ok result ≡ list_all is_kept new.now }
@@ -35,7 +35,8 @@ pub fn diff_text(old: &Text, new: &[u8], out: &mut Text) -> Result<(), BadCharac
     Ok(())
 }
 
-/// Appends the marks that lead from the old text to the new one, also those of blanks at the end.
+/// Appends to `out` the marks that lead from `old` to `new`, one for each position of the longer text, also
+/// blanks at the end. `out` has room for them; the bytes aren't tested.
 pub fn append_difference(old: &[u8], new: &[u8], out: &mut Text)
     requires old_fits { length out.old + length old.now ≤ LINE_LIMIT }
     requires new_fits { length out.old + length new.now ≤ LINE_LIMIT }
@@ -45,9 +46,9 @@ pub fn append_difference(old: &[u8], new: &[u8], out: &mut Text)
     out.len += write_by_position::<Marks>(old, new, &mut out.bytes[start..]);
 }
 
-/// Writes the text that marks make from the old one: a blank leaves the old character, `&` becomes a blank, and
-/// any other character replaces the old one. Blanks at the end are dropped. Returns `BadCharacter`, with `out`
-/// unchanged, if `marks` holds a byte outside 32 to 126.
+/// Makes `out` the text that `marks` make from `old`: a blank leaves the old character, `&` becomes a blank,
+/// and any other character replaces the old one. Blanks at the end are dropped. Returns `BadCharacter`, with
+/// `out` unchanged, if `marks` holds a byte outside 32 to 126.
 pub fn patch_text(old: &Text, marks: &[u8], out: &mut Text) -> Result<(), BadCharacter>
     requires { length marks.now ≤ LINE_LIMIT }
     ensures printable { is_ok result ≡ list_all is_printable marks.now }
@@ -57,7 +58,7 @@ pub fn patch_text(old: &Text, marks: &[u8], out: &mut Text) -> Result<(), BadCha
     patch_bytes(old.bytes(), marks, out)
 }
 
-/// Does the same as [`patch_text`] with a slice as the old text.
+/// Makes `out` the text that `marks` make from `old`, with the rules and the error of [`patch_text`].
 pub fn patch_bytes(old: &[u8], marks: &[u8], out: &mut Text) -> Result<(), BadCharacter>
     requires old_fits { length old.now ≤ LINE_LIMIT }
     requires marks_fit { length marks.now ≤ LINE_LIMIT }
@@ -73,7 +74,7 @@ pub fn patch_bytes(old: &[u8], marks: &[u8], out: &mut Text) -> Result<(), BadCh
     Ok(())
 }
 
-/// Returns whether marks can be made from a text: all its bytes are 32 to 126, and none is `&`.
+/// Returns whether marks can be made from `text`: all its bytes are 32 to 126, and none is `&`.
 pub fn all_kept(text: &[u8]) -> bool
     ensures value { result ≡ list_all is_kept text.now }
 {
@@ -86,6 +87,7 @@ struct Marks;
 impl Rule for Marks {
     ghost rule = { mark_of };
 
+    // Returns a blank if both are the same, `&` for a new blank, and otherwise `new`.
     fn apply(old: u8, new: u8) -> u8 {
         if old == new {
             b' '
@@ -96,6 +98,7 @@ impl Rule for Marks {
         }
     }
 
+    // Returns the marks of 16 pairs.
     fn apply_to(old: u8x16, new: u8x16) -> u8x16 {
         let blank = u8x16::splat(b' ');
         let other = new.simd_eq(blank).select(u8x16::splat(b'&'), new);
@@ -109,6 +112,7 @@ struct Characters;
 impl Rule for Characters {
     ghost rule = { character_of };
 
+    // Returns `old` for a blank, a blank for `&`, and otherwise `mark`.
     fn apply(old: u8, mark: u8) -> u8 {
         if mark == b' ' {
             old
@@ -119,6 +123,7 @@ impl Rule for Characters {
         }
     }
 
+    // Returns the characters that 16 marks leave.
     #[tactic(auto, using(crate::proofs::LaneWords::character_lanes))]
     fn apply_to(old: u8x16, mark: u8x16) -> u8x16 {
         let blank = u8x16::splat(b' ');
@@ -129,8 +134,8 @@ impl Rule for Characters {
 
 pub(crate) static BLANKS: [u8; LINE_LIMIT] = [b' '; LINE_LIMIT];
 
-// Writes the characters that the rule makes from two texts, with blanks after the shorter one, and returns
-// their number.
+// Writes to `out` the characters that the rule makes from two texts, with blanks after the shorter one, and
+// returns their number, the length of the longer one.
 #[tactic(auto, using(crate::proofs::PositionParts::each_end))]
 fn write_by_position<R: Rule>(old: &[u8], other: &[u8], out: &mut [u8]) -> usize
     requires fits { (length old.now ≤ length out.old) × (length other.now ≤ length out.old) }

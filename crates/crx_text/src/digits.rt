@@ -8,7 +8,7 @@ ghost use Rattle.crx_text.specs.meaning.Numbers.{signed_number, without_minus};
 // The most columns of a number, with its point, that an `i64` holds however it is written.
 pub(crate) const WIDEST: usize = 19;
 
-// Returns the number that `digits` make after the digits of `before`, or `None` if a byte is no digit.
+// Returns the number that the digits of `before` and then `digits` make, or `None` if a byte is no digit.
 #[tactic(auto, using(crate::proofs::PowersOfTen::next_digit))]
 pub(crate) fn digits_read(before: u64, digits: &[u8]) -> Option<u64>
     requires { (before + 1) * 10 ^ length digits.now ≤ 10 ^ (WIDEST - 1) }
@@ -26,7 +26,7 @@ pub(crate) fn digits_read(before: u64, digits: &[u8]) -> Option<u64>
     Some(size)
 }
 
-// Returns whether a minus begins the text, and the text without it.
+// Returns whether a minus begins the text, and the text after it, or all of it.
 #[inline(always)]
 pub(crate) fn split_minus(text: &[u8]) -> (bool, &[u8])
     ensures sign { result.0 ≡ starts_with_minus text.now }
@@ -39,7 +39,7 @@ pub(crate) fn split_minus(text: &[u8]) -> (bool, &[u8])
     }
 }
 
-// Does the same as [`split_minus`] for a text that has a first byte, without a test for it.
+// Returns whether a minus begins the text, which isn't empty, and the text after it, or all of it.
 #[inline(always)]
 pub(crate) fn split_minus_of_cell(text: &[u8]) -> (bool, &[u8])
     requires some { 0 < length text.now }
@@ -51,7 +51,7 @@ pub(crate) fn split_minus_of_cell(text: &[u8]) -> (bool, &[u8])
     (is_below, &text[usize::from(is_below)..])
 }
 
-// Returns the number of this size, below zero if `is_below`.
+// Returns the number of this size, which is below 2^63; below zero if `is_below`.
 #[inline(always)]
 pub(crate) fn with_sign(is_below: bool, size: u64) -> i64
     requires { size < 2 ^ 63 }

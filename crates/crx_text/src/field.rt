@@ -1,5 +1,5 @@
-//! A cell's 16 columns in one row of lanes: an observation's 14, with blanks, perhaps a minus, digits, and the
-//! point in column 11, and two indicators. Nearly every cell is written like this.
+//! A cell's 16 columns in one row of lanes: an observation's 14, with blanks, perhaps a minus, digits, and
+//! the point in column 11, and two indicators. Nearly every cell is written like this.
 
 ghost use Rattle.std.specs.Prelude.{take, ◌≡◌, ◌==◌, ◌+◌, ◌*◌, ◌^◌, ◌<◌, slice_index, IsTrue};
 ghost use Rattle.std.specs.List.{list_any};
@@ -27,8 +27,8 @@ const MOST: [u8; 16] = [0, 9, 9, 9, 9, 9, 9, 9, 9, 9, 0, 9, 9, 9, 9, 9];
 // last two of these, the indicators, may be a blank or a minus.
 const BEFORE: [u8; 16] = [32, 32, 32, 32, 32, 32, 32, 32, 32, 32, 32, 32, 32, 32, 0, 0];
 
-/// Returns `true` only if the columns are plain and the indicators are digits, blanks or minuses, as they
-/// usually are; `false` says nothing. Testing the indicators too costs nothing.
+/// Returns `true` only if a cell's columns are plain (blanks, perhaps a minus, digits, and the point in
+/// column 11) and its indicators are digits, blanks or minuses, as they usually are; `false` says nothing.
 #[inline(always)]
 pub(crate) fn is_plain(columns: u8x16) -> bool
     ensures { IsTrue result → IsPlain columns }
@@ -47,8 +47,8 @@ pub(crate) fn is_plain(columns: u8x16) -> bool
 // The weights of three digits.
 const WEIGHTS: [u8; 16] = [100, 10, 1, 0, 100, 10, 1, 0, 100, 10, 1, 0, 100, 10, 1, 0];
 
-// Returns the number whose digits are in four groups of three, the most significant first. Two groups at a time
-// are joined, in lanes of 64 bits, whose products are the fastest ones.
+// Returns the number whose digits are in four groups of three, the most significant first. Two groups at a
+// time are joined, in lanes of 64 bits, whose products are the fastest ones.
 #[inline(always)]
 #[tactic(auto, using(crate::proofs::PlainSizes::pairs_are))]
 fn of_groups(groups: u32x4) -> u64
@@ -62,7 +62,7 @@ fn of_groups(groups: u32x4) -> u64
     joined[0] * 1_000_000 + joined[1]
 }
 
-/// Returns the observation in plain columns, in thousandths.
+/// Returns the observation in plain columns (see [`is_plain`]), in thousandths.
 #[inline(always)]
 pub(crate) fn value(columns: u8x16) -> i64
     requires { IsPlain columns }

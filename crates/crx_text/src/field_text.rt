@@ -9,8 +9,8 @@ ghost use Rattle.crx_text.specs.meaning.Numbers.{size_text};
 use crx_base::limits::OBSERVATION_WIDTH;
 use std::simd::prelude::*;
 
-// Returns the digits of a size in groups of three: those of its upper half, then those of its lower half, in
-// each the lower group first. A group has its three digits, the last one first, and a 0.
+// Returns the digits of a size below 10^12 in groups of three: the two groups of its upper half, then the two
+// of its lower half, each time the lower group first. A group has its digits, the last one first, and a 0.
 #[inline(always)]
 fn digits(size: u64) -> u8x16
     requires { size < 10 ^ 12 }
@@ -32,8 +32,8 @@ fn digits(size: u64) -> u8x16
     (groups + parts * u32x4::splat(256 - 10)).to_le_bytes()
 }
 
-// The bytes that a row's numbers below 10 are added to: blanks, then `0`s; and the same with a minus before the
-// digits.
+// The bytes that a row's numbers below 10 are added to: blanks, then `0`s; and the same with a minus before
+// the digits.
 const BASES: [u8; 64] = [
     32, 32, 32, 32, 32, 32, 32, 32, 32, 32, 32, 32, 32, 32, 32, 32, 48, 48, 48, 48, 48, 48, 48, 48,
     48, 48, 48, 48, 48, 48, 48, 48, 32, 32, 32, 32, 32, 32, 32, 32, 32, 32, 32, 32, 32, 32, 32, 45,
@@ -63,8 +63,8 @@ static COUNTS: [u64; 41] = [
     4 * DIGIT, 4 * DIGIT, 4 * DIGIT, 4 * DIGIT, 4 * DIGIT, 4 * DIGIT, 4 * DIGIT,
 ];
 
-// Returns how many digits a size is printed with: at least four, because one is before the point. The lowest
-// bit is set, which saves a test for 0.
+// Returns how many digits a size, in thousandths, is printed with: at least four, because one is before the
+// point. The lowest bit is set, which saves a test for 0.
 #[inline(always)]
 fn count_digits(size: u64) -> usize
     requires short { size < 10 ^ 12 }
@@ -74,10 +74,10 @@ fn count_digits(size: u64) -> usize
     ((size + COUNTS[zeros - LEAST_ZEROS]) / DIGIT) as usize
 }
 
-/// Prints a size, with a minus if `is_below`, right justified into the first 14 columns of a cell, with blanks
-/// before it, and returns the index of its first digit. Overwrites the two columns of the indicators. No branch
-/// depends on the sign, which can't be predicted. The number's start follows from its size and isn't searched
-/// for in its digits, so that the processor waits less.
+/// Prints a size below 10^12, in thousandths, with a minus if `is_below`, right justified into the first 14
+/// columns of a cell, with blanks before it, and returns the index of its first digit. Overwrites the two
+/// columns of the indicators. No branch depends on the sign, which can't be predicted. The number's start
+/// follows from its size and isn't searched for in its digits, so that the processor waits less.
 #[inline(always)]
 pub(crate) fn size_print(size: u64, is_below: bool, cell: &mut [u8]) -> usize
     requires short { size < 10 ^ 12 }

@@ -10,7 +10,7 @@ use std::simd::prelude::*;
 /// How many characters a vector holds.
 pub(crate) const LANES: usize = 16;
 
-// Returns `others` with more lanes set: those whose characters are outside 32 to 126 or, if `IS_TEXT`, are `&`.
+// Returns `others` with more lanes set: the lanes of characters outside 32 to 126 or, if `IS_TEXT`, of `&`.
 #[inline(always)]
 fn with_others<const IS_TEXT: bool>(others: u8x16, characters: u8x16) -> u8x16
     ensures both { list_all (λ lane. lane == 0) result
@@ -26,8 +26,8 @@ fn with_others<const IS_TEXT: bool>(others: u8x16, characters: u8x16) -> u8x16
     others | (unprintable | ampersands)
 }
 
-// Returns whether all characters are allowed in a text, if `IS_TEXT`, or in marks. Nearly always they are, so
-// one test at the end is enough. From 8 characters on the two ends of a text are one vector: no test per
+// Returns whether all characters are 32 to 126 and, if `IS_TEXT`, none is `&`. Nearly always they are, so one
+// test at the end is enough. From 8 characters on the two ends of a text are one vector: no test per
 // character for the 8 indicators of four types.
 pub(crate) fn all_allowed<const IS_TEXT: bool>(text: &[u8]) -> bool
     ensures { result ≡ list_all (is_allowed IS_TEXT) text.now }
@@ -54,7 +54,7 @@ pub(crate) fn all_allowed<const IS_TEXT: bool>(text: &[u8]) -> bool
     true
 }
 
-/// Returns the first 8 characters of a text and its last 8.
+/// Returns the first 8 characters of a text, which has 8 or more, and its last 8.
 #[inline(always)]
 #[tactic(auto, using(crate::proofs::TextEnds::eight_ends))]
 fn ends_of_eight(text: &[u8]) -> u8x16
@@ -78,8 +78,8 @@ pub(crate) trait Rule {
         ensures value { result ≡ zip2 rule old other };
 }
 
-/// Writes the characters that the rule makes from two texts of one length. Texts shorter than a vector are
-/// taken by their two ends at once, if they have 8 characters or more, and otherwise one by one.
+/// Writes to `out` the characters that the rule makes from two texts; all three have the same length. Texts
+/// shorter than a vector are taken by their two ends from 8 characters on, otherwise one by one.
 pub(crate) fn write_by_rule<R: Rule>(old: &[u8], other: &[u8], out: &mut [u8])
     requires { (length other.now ≡ length old.now) × (length out.old ≡ length old.now) }
     ensures { out.new ≡ zip2 R.rule old.now other.now }
@@ -106,7 +106,7 @@ pub(crate) fn write_by_rule<R: Rule>(old: &[u8], other: &[u8], out: &mut [u8])
     }
 }
 
-// Writes the 16 characters that the rule makes from index `at` on.
+// Writes the 16 characters that the rule makes at the indices from `at` on to the same places of `out`.
 #[inline(always)]
 fn write_lanes<R: Rule>(old: &[u8], other: &[u8], out: &mut [u8], at: usize)
     requires room { at + 16 ≤ length old.now }

@@ -9,7 +9,8 @@ ghost use Rattle.crx_text.specs.meaning.Numbers.{clock_of, clock_text, observati
 
 use crate::code::Code;
 
-/// States that the printed texts of an observation, of a receiver clock offset and of a code are read back.
+/// Does nothing at run time: its contract proves that the printed texts of an observation, of a receiver
+/// clock offset and of a code are read back as the same value.
 pub fn numbers_are_read_back(observation: Option<i64>, clock: Option<i64>, code: Code)
     requires observation { ForSome observation IsObservation }
     requires clock { ForSome clock IsClock }

@@ -1,6 +1,5 @@
-//! The texts of RINEX and Compact RINEX files: columns, differences of two texts position by position, numbers
-//! in columns, and codes of numbers. Lines and devices of crx_lines and faults of crx_base are exported here
-//! too.
+//! The texts of RINEX and Compact RINEX files: columns, differences of two texts position by position,
+//! numbers in columns, and codes of numbers. Also exports lines and devices of crx_lines and faults.
 #![tactic(auto)]
 
 pub mod appending;

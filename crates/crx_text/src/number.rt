@@ -28,9 +28,9 @@ use thiserror::Error;
 #[error("bad field")]
 pub struct BadField;
 
-/// Reads an observation of 14 columns, in thousandths; a blank field is `None`, a missing observation. Blanks
-/// may be before the number, zeros at its beginning and a minus before 0, and the digits before the point may
-/// be missing. Returns `BadField` for any other text.
+/// Reads an observation of 14 columns, in thousandths; a blank field is `None`, a missing observation. Three
+/// digits follow the point. Blanks may be before the number, zeros at its beginning and a minus before 0, and
+/// the digits before the point may be missing. Returns `BadField` for any other text or length.
 pub fn obs_read(field: &[u8]) -> Result<Option<i64>, BadField>
     ensures value { result_ok result ≡ observation_of field.now }
     ensures in_range { IfOk result (λ value. IfSome value IsObservation) }
@@ -38,8 +38,8 @@ pub fn obs_read(field: &[u8]) -> Result<Option<i64>, BadField>
     number_read(field, OBSERVATION_WIDTH, OBSERVATION_DECIMALS)
 }
 
-/// Reads the observation of a cell, whose last two columns are indicators, into `value`, as [`obs_read`] reads
-/// its field. Returns `None`, with `value` unchanged, if that is `BadField`. `Some(true)` says that
+/// Reads the observation of a cell, whose last two columns are indicators, into `value`, as [`obs_read`]
+/// reads its field. Returns `None`, with `value` unchanged, if that is `BadField`. `Some(true)` says that
 /// [`all_kept`](crate::all_kept) is true of the indicators, `Some(false)` says nothing of them.
 ///
 /// The spellings that files have are read by lanes; few cells are blank, so that is tested after them. The
@@ -66,8 +66,8 @@ pub fn obs_read_cell(cell: u8x16, value: &mut Option<i64>) -> Option<bool>
     None
 }
 
-// Reads the observation of a cell in an unusual spelling into `value`, and returns whether it is one. Not
-// inlined, because it would take its caller's registers.
+// Reads the observation of a cell in an unusual spelling into `value`, and returns whether it is one; if not,
+// `value` is unchanged. Not inlined, because it would take its caller's registers.
 #[inline(never)]
 fn read_by_column(cell: u8x16, value: &mut Option<i64>) -> bool
     ensures value { MatchBool result (observation_of (take OBSERVATION_WIDTH cell) ≡ Some value.new)
@@ -94,8 +94,8 @@ pub fn obs_print(value: Option<i64>, field: &mut [u8; OBSERVATION_WIDTH])
     field.copy_from_slice(&cell[..OBSERVATION_WIDTH]);
 }
 
-/// Prints an observation's cell over the bytes from `at` on: the columns that [`obs_print`] prints, and two of
-/// the `indicators` from index `first` on, by one load and one store.
+/// Prints an observation's cell over the bytes from `at` on: the columns that [`obs_print`] prints, and the
+/// two `indicators` at index `first` and after it.
 #[inline(always)]
 pub fn obs_print_cell(
     value: Option<i64>,
@@ -118,7 +118,7 @@ pub fn obs_print_cell(
     bytes[end + 1] = strength;
 }
 
-// Prints an observation into the first columns of a cell, by one store of the whole cell.
+// Prints an observation, or blanks for `None`, into the first 14 of 16 columns; may overwrite the last two.
 #[inline(always)]
 #[tactic(auto, using(crate::proofs::Spellings::printed_texts))]
 fn obs_print_row(value: Option<i64>, cell: &mut [u8])
@@ -131,8 +131,8 @@ fn obs_print_row(value: Option<i64>, cell: &mut [u8])
         return;
     };
     let size = number.unsigned_abs();
-    // A digit in the first column is printed digit by digit. The test is on the millions, from which the lanes'
-    // digits are made, because they fit 32 bits.
+    // A digit in the first column is printed digit by digit. The test is on the millions, from which the
+    // lanes' digits are made, because they fit 32 bits.
     if ((size / 1_000_000) as u32) >= 1_000_000 {
         number_print(value, OBSERVATION_DECIMALS, &mut cell[0..OBSERVATION_WIDTH]);
         return;
@@ -140,9 +140,9 @@ fn obs_print_row(value: Option<i64>, cell: &mut [u8])
     field_text::size_print(size, number < 0, cell);
 }
 
-/// Reads a receiver clock offset of 15 columns, in units of 10^-12 seconds; a blank field is `None`, no offset.
-/// The spellings are those of [`obs_read`] with 12 digits after the point. Returns `BadField` for any other
-/// text.
+/// Reads a receiver clock offset of 15 columns, in units of 10^-12 seconds; a blank field is `None`, no
+/// offset. The spellings are those that [`obs_read`] reads, with 12 digits after the point. Returns
+/// `BadField` for any other text.
 pub fn clock_read(field: &[u8]) -> Result<Option<i64>, BadField>
     ensures value { result_ok result ≡ clock_of field.now }
     ensures in_range { IfOk result (λ value. IfSome value IsClock) }
@@ -159,7 +159,8 @@ pub fn clock_print(value: Option<i64>, field: &mut [u8; CLOCK_WIDTH])
     number_print(value, CLOCK_DECIMALS, field);
 }
 
-// Reads a number of `width` columns, column by column. `decimals`: the digits after its point.
+// Reads a number of `width` columns, column by column, in units of its last digit; blanks are `None`.
+// `decimals`: the digits after its point. Returns `BadField` for any other text or length.
 #[inline(never)]
 #[tactic(auto, using(crate::proofs::Sizes::number_parts, crate::proofs::Sizes::size_parts))]
 fn number_read(field: &[u8], width: usize, decimals: usize) -> Result<Option<i64>, BadField>
@@ -191,7 +192,7 @@ fn number_read(field: &[u8], width: usize, decimals: usize) -> Result<Option<i64
     Ok(Some(with_sign(is_below, size)))
 }
 
-// Prints a number right justified, digit by digit.
+// Prints a number, `decimals` digits after its point, right justified into `field`, or blanks for `None`.
 #[inline(never)]
 #[tactic(auto, using(crate::proofs::Spellings::printed_texts))]
 fn number_print(value: Option<i64>, decimals: usize, field: &mut [u8])
@@ -208,7 +209,8 @@ fn number_print(value: Option<i64>, decimals: usize, field: &mut [u8])
     }
 }
 
-// Prints a number without its sign up to the last column, and returns the index of its first digit.
+// Prints a number without its sign, with `decimals` digits after its point, up to the last column of `field`,
+// and returns the index of its first digit. The columns before it don't change.
 #[tactic(auto, using(crate::proofs::PowersOfTen::ten_pow_pos))]
 fn size_print(size: u64, decimals: usize, field: &mut [u8]) -> usize
     requires decimals { (0 < decimals) × (decimals < WIDEST) }

@@ -70,8 +70,7 @@ impl Text {
         Ok(())
     }
 
-    /// Appends all of `bytes`. Returns `TextFull`, with the text unchanged, if it would pass [`LINE_LIMIT`]
-    /// bytes.
+    /// Appends all of `bytes`. Returns `TextFull`, the text unchanged, if it would pass [`LINE_LIMIT`] bytes.
     pub fn extend(&mut self, bytes: &[u8]) -> Result<(), TextFull>
         ensures ok { OnOk result (self.new ≡ self.old ++ bytes.now) }
         ensures full { IsErr result ↔ (LINE_LIMIT < length self.old + length bytes.now) }

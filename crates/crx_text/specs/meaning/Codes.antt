@@ -1,5 +1,5 @@
--- Coded values of numbers, called codes here: Hatanaka's Compact RINEX 3.0, the codes of satellite lines and of
--- the clock line.
+-- Coded values of numbers, called codes here: Hatanaka's Compact RINEX 3.0, the codes of satellite lines and
+-- of the clock line.
 use Rattle.std.specs.Prelude.{ℕ, ℤ, Bool, ◌&&◌, ◌-◌, ◌==◌, nat_lt, nat_le, if◌then◌else◌, List, [], ◌∷◌, ◌++◌, length}
 use Rattle.std.specs.Prelude.{Option, Some, None, decimal}
 use Rattle.std.specs.Fmt.{signed_decimal}

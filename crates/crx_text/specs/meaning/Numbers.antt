@@ -43,8 +43,8 @@ abbrev pub missing_or_number : ℕ → List ℕ → Option (Option ℤ)
 missing_or_number decimals [] = Some None
 missing_or_number decimals (c ∷ cs) = option_map Some (decimal_number decimals (c ∷ cs))
 
--- the number that a text of `width` columns spells, after blanks and up to the last column: `None` if it spells
--- none, and `Some None` if it is blank, so that the number is missing
+-- the number that a text of `width` columns spells, after blanks and up to the last column: `None` if it
+-- spells none, and `Some None` if it is blank, so that the number is missing
 unfoldable pub number_of : ℕ → ℕ → List ℕ → Option (Option ℤ)
 number_of width decimals text =
     if length text == width then missing_or_number decimals (without_first_blanks text) else None

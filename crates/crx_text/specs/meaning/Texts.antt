@@ -18,7 +18,7 @@ mark_of old new = if old == new then 32 else if is_blank new then 38 else new
 abbrev pub text_difference : List ℕ → List ℕ → List ℕ
 text_difference old new = without_end_blanks (by_position mark_of old new)
 
--- a character that is allowed in epoch texts and indicators, from which marks are made: 32 to 126 other than &,
--- which is a blank in marks
+-- a character that is allowed in epoch texts and indicators, from which marks are made: 32 to 126 other than
+-- &, which is a blank in marks
 abbrev pub is_kept : ℕ → Bool
 is_kept c = is_printable c && not (c == 38)
