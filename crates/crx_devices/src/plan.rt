@@ -32,7 +32,7 @@ impl Plan {
         }
     }
 
-    /// Returns the plan by which only the first call from this point on fails.
+    /// Returns the plan by which only the first call from the point `when` on fails.
     pub fn once(when: When) -> Self
         ensures when { result.when ≡ when }
         ensures once { result.once ≡ true }
@@ -40,7 +40,7 @@ impl Plan {
         Plan { when, once: true }
     }
 
-    /// Returns the plan by which each call from this point on fails.
+    /// Returns the plan by which each call from the point `when` on fails.
     pub fn from_then_on(when: When) -> Self
         ensures when { result.when ≡ when }
         ensures once { result.once ≡ false }
@@ -65,7 +65,7 @@ ghost use Rattle.crx_devices.specs.declared.plan.When.{When};
 ghost use Rattle.crx_devices.specs.Plans.{after_call, fails, up_to_failure};
 
 impl Watch {
-    /// Watches a device before its first call of this kind.
+    /// Returns the state of `plan` before the first call of its kind: none was made, and none failed.
     pub fn new(plan: Plan) -> Self
         ensures plan { result.plan ≡ plan }
         ensures calls { result.calls ≡ 0 }
@@ -79,7 +79,7 @@ impl Watch {
     }
 
     /// Counts a call on a device that has read or taken `moved` bytes. Returns `None` if the call fails,
-    /// otherwise how many of the `wanted` bytes are read or taken before the next failure.
+    /// otherwise how many of the `wanted` bytes are read or taken: all, or only those before `AfterBytes`.
     pub fn next_call(&mut self, moved: usize, wanted: usize) -> Option<usize>
         ensures fails { is_none result ≡ fails self.old moved }
         ensures count { IfSome result (λ n. n ≡ up_to_failure self.old moved wanted) }

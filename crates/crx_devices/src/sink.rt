@@ -23,9 +23,9 @@ pub struct FailingSink {
 ghost use Rattle.crx_devices.specs.Plans.{after_call, fails, is_stuck, up_to_failure};
 
 impl FailingSink {
-    /// Returns a sink with room for `room` bytes, which takes at most `at_most` per call (0: none), and whose
-    /// writes and flushes fail by these plans. It allocates its memory here and none later, and returns
-    /// `AllocError` if that is refused.
+    /// Returns a sink with room for `room` bytes, which takes at most `at_most` per call, and whose writes
+    /// and flushes fail by these plans. A write also fails if it could take none of some bytes. It allocates
+    /// its memory here and none later, and returns `AllocError` if that is refused.
     pub fn new(
         alloc: Global,
         room: usize,
@@ -56,21 +56,21 @@ impl FailingSink {
         })
     }
 
-    /// Returns the bytes taken.
+    /// Returns all bytes taken so far.
     pub fn contents(&self) -> &[u8]
         ensures value { result.now ≡ take self.now.len self.now.memory.items }
     {
         &self.memory[..self.len]
     }
 
-    /// Returns how many writes were made.
+    /// Returns how many writes were made, failed ones too.
     pub fn writes(&self) -> u64
         ensures value { result ≡ self.now.writes.calls }
     {
         self.writes.calls
     }
 
-    /// Returns how many flushes were made.
+    /// Returns how many flushes were made, failed ones too.
     pub fn flushes(&self) -> u64
         ensures value { result ≡ self.now.flushes.calls }
     {
@@ -84,7 +84,7 @@ impl FailingSink {
         self.failures
     }
 
-    /// Returns whether the last call was a flush that succeeded.
+    /// Returns whether the last write or flush was a flush that succeeded.
     pub fn is_flushed(&self) -> bool
         ensures value { result ≡ self.now.flushed }
     {
@@ -107,6 +107,8 @@ impl Sink for FailingSink {
 
     ghost is_broken = { λ s. false };
 
+    /// Takes bytes as far as `at_most`, the room and the plan allow; fails by the plan, or if it can take
+    /// none.
     fn write(&mut self, bytes: &[u8]) -> Result<usize, WriteFailed>
         ensures bound { IfOk result (λ n. n ≤ length bytes.now) }
         ensures bytes { IfOk result (λ n. take self.new.len self.new.memory.items
@@ -146,6 +148,7 @@ impl Sink for FailingSink {
         }
     }
 
+    /// Fails by its plan only.
     fn flush(&mut self) -> Result<(), WriteFailed>
         ensures none_taken { take self.new.len self.new.memory.items
             ≡ take self.old.len self.old.memory.items ++ [] }
@@ -168,8 +171,10 @@ impl Sink for FailingSink {
         Ok(())
     }
 
+    /// Does nothing: the output counts as awaited from the beginning.
     fn await_output(&mut self) {}
 
+    /// Does nothing, and returns `true`: the bytes taken are kept already.
     fn pass_on(&mut self) -> bool {
         true
     }

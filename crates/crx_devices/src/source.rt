@@ -19,7 +19,7 @@ pub struct FailingSource<'a> {
 }
 
 impl<'a> FailingSource<'a> {
-    /// Returns a source of `bytes` that returns at most `at_most` per call and fails by this plan.
+    /// Returns a source of `bytes` that returns at most `at_most`, at least 1, per call and fails by `plan`.
     pub fn new(bytes: &'a [u8], at_most: usize, plan: Plan) -> Self
         requires { 0 < at_most }
         ensures left { result.left.now ≡ bytes.now }
@@ -41,7 +41,7 @@ impl<'a> FailingSource<'a> {
         }
     }
 
-    /// Returns how many reads were made.
+    /// Returns how many reads were made, failed ones too.
     pub fn calls(&self) -> u64
         ensures value { result ≡ self.now.reads.calls }
     {
@@ -55,7 +55,7 @@ impl<'a> FailingSource<'a> {
         self.failures
     }
 
-    /// Returns how many reads reported the end.
+    /// Returns how many reads reported the end; a read into an empty buffer never does.
     pub fn ends(&self) -> u64
         ensures value { result ≡ self.now.ends }
     {
@@ -84,10 +84,12 @@ impl Source for FailingSource<'_> {
 
     ghost waits = { λ s. true };
 
+    /// Returns `true` always.
     fn may_wait(&self) -> bool {
         true
     }
 
+    /// Reads as many bytes as `at_most` and the plan allow; fails by the plan only, without a byte.
     fn read(&mut self, buffer: &mut [u8]) -> Result<usize, ReadFailed>
         ensures bound { IfOk result (λ n. n ≤ length buffer.new) }
         ensures bytes { IfOk result (λ n. self.old.left.now ≡ take n buffer.new ++ self.new.left.now) }
