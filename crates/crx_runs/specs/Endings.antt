@@ -1,5 +1,5 @@
--- The ways in which a run can end, at a line, at the end of the input, in its reader or at its start, and how it is
--- finished then.
+-- The ways in which a run can end, at a line, at the end of the input, in its reader or at its start, and how
+-- it is finished then.
 use Rattle.std.specs.Prelude.{◌≡◌, ◌⊎◌, ℕ, ◌+◌, Bool, List, [], ◌∷◌, ◌++◌, length, Option, Some, None}
 use Rattle.crx_base.specs.meaning.Lines.{InputLine}
 use Rattle.crx_base.specs.declared.fault.At.{At}
@@ -25,8 +25,8 @@ pub record IsAllOut (writer messages : Device) (course : Course) : Type 0 where
 
 -- ---- by the lines of the input
 
--- memory was refused at a line that may need some, after all earlier output, and the line's own warnings that may
--- precede this, were written and reported
+-- memory was refused at a line that may need some, after all earlier output, and the line's own warnings that
+-- may precede this, were written and reported
 pub record MemoryRanOut (memory : Option (List At))
     (number : ℕ) (writer messages : Device) (before after : Course) (at : At) : Type 0 where
   pub notices : List At
@@ -87,7 +87,8 @@ WarnsAtEnd before after halt = after.warnings ≡ before.warnings
 
 -- ---- in a run over an input
 
--- the reader stopped with its fault, after the lines whose LF was read; none of them had a fault that ended the run
+-- the reader stopped with its fault, after the lines whose LF was read; none of them had a fault that ended
+-- the run
 pub record ReaderStopped (input : Input)
     (writer messages : Device) (now : ReaderState) (lines : List InputLine) (course : Course) (at : At) : Type 0 where
   pub read : HasRead input.gave input.at_end input.start input.counted now lines
@@ -103,8 +104,8 @@ pub record EndsBy (filter : Filter) (input : Input) (writer messages : Device) (
   pub ends : EndsAt (memory_with filter lines next)
       (length lines + 1) writer messages (filter.so_far lines) (course_with filter lines next) halt
 
--- the output of these lines was written but couldn't be passed on before the next read, when no whole line was held: a
--- flush failed
+-- the output of these lines was written but couldn't be passed on before the next read, when no whole line
+-- was held: a flush failed
 pub record HandingFailed (input : Input)
     (writer messages : Device) (now : ReaderState) (lines : List InputLine) (course : Course) : Type 0 where
   pub read : HasRead input.gave input.at_end input.start input.counted now lines
@@ -115,8 +116,8 @@ pub record HandingFailed (input : Input)
   pub failed : writer.after ≡ with_failed_flush writer.before
   pub reported : TookAll messages (notices_text course.warnings)
 
--- the run ended after these lines: by the reader's fault, by the next line, or because their output couldn't be passed
--- on
+-- the run ended after these lines: by the reader's fault, by the next line, or because their output couldn't
+-- be passed on
 abbrev pub StopsAt : Filter → Input → Device → Device → ReaderState → List InputLine → Halt → Type 0
 StopsAt filter input writer messages now lines halt =
     ((at : At) × (halt ≡ halts.Fault at) × ReaderStopped input writer messages now lines (filter.so_far lines) at)
@@ -171,9 +172,9 @@ IsFlushed writer = writer.took [] × (writer.after ≡ with_flush writer.before)
 abbrev pub FlushFailed : Device → Type 0
 FlushFailed writer = writer.took [] × (writer.after ≡ with_failed_flush writer.before)
 
--- after the good end of the input the writer is flushed, and a failure of the flush is the run's fault. After a fault
--- of the input, the reader or memory it is flushed too, and the fault is reported. A writer that failed isn't flushed,
--- and after a warning that couldn't be written nothing more is
+-- after the good end of the input the writer is flushed, and a failure of the flush is the run's fault. After
+-- a fault of the input, the reader or memory it is flushed too, and the fault is reported. A writer that
+-- failed isn't flushed, and after a warning that couldn't be written nothing more is
 abbrev pub Finishes : Device → Device → ℕ → Bool → Option Halt → ℕ → Option At → Type 0
 Finishes writer messages last warned None status None = IsFlushed writer
     × TookAll messages [] × (status ≡ good_status warned)

@@ -46,7 +46,8 @@ abbrev pub lines_handed_out : Option LineOutput → List ℕ → List (List ℕ)
 lines_handed_out (Some AsItIs) line ready = ready ++ line ∷ []
 lines_handed_out handed_out line ready = ready
 
--- line `number` may be fed to an engine that has taken `taken` lines: it is the next one, and no line is pending
+-- line `number` may be fed to an engine that has taken `taken` lines: it is the next one, and no line is
+-- pending
 pub record IsNextLine (ready : List (List ℕ)) (taken number : ℕ) : Type 0 where
   pub drained : ready ≡ []
   pub next : number ≡ taken + 1
@@ -85,8 +86,8 @@ abbrev pub IsAwaited : List Awaited → InputLine → Type 0
 IsAwaited [] line = ⊤
 IsAwaited (a ∷ others) line = a.line ≡ line
 
--- pending lines were borrowed, and nothing else of an engine changed: neither its filter nor the lines and the end that
--- it took
+-- pending lines were borrowed, and nothing else of an engine changed: neither its filter nor the lines and
+-- the end that it took
 pub record KeepsAllElse (before after : Filter) (took takes : List InputLine → List Awaited → Type 0)
     (had_ended has_ended : List InputLine → Type 0) : Type 0 where
   pub filter : after ≡ before
@@ -104,9 +105,9 @@ abbrev pub awaits : (List InputLine → List Awaited → Type 0) → List InputL
 awaits shows lines (Some line) notice = shows lines (record { notice = notice; line = line } ∷ [])
 awaits shows lines None notice = ⊥
 
--- an engine's answer to the line after some lines, or to the end of the input. `notices` has the warning of the first
--- time if the line is fed again. The answer is no output, pending lines, a warning with the line, a warning before the
--- line is fed again, refused memory at a line that may need some, or a fault
+-- an engine's answer to the line after some lines, or to the end of the input. `notices` has the warning of
+-- the first time if the line is fed again. The answer is no output, pending lines, a warning with the line, a
+-- warning before the line is fed again, refused memory at a line that may need some, or a fault
 abbrev pub EngineAnswers : Filter → (List InputLine → List Awaited → Type 0) → (List InputLine → Type 0)
     → List (List ℕ) → List InputLine → List Awaited → Option InputLine → Result Step At → Type 0
 EngineAnswers filter shows has_ended ready lines notices next (Ok Quiet) =

@@ -77,17 +77,17 @@ StepGoes filter shows input writer messages now lines (Ok (Some warned)) =
 StepGoes filter shows input writer messages now lines (Err halt) =
     StopsAt filter input writer messages now lines halt
 
--- a run can take its next step: no line is pending, its input can be read on and is within its limit, and its engine
--- has taken all lines that were read
+-- a run can take its next step: no line is pending, its input can be read on and is within its limit, and its
+-- engine has taken all lines that were read
 pub record CanStep {E : Type 0} (engine : EngineGhosts E) (before : E) (old : ReaderState) : Type 0 where
   pub drained : engine.ready before ≡ []
   pub going : (old.phase ≡ Open) ⊎ (old.phase ≡ Ended)
   pub next : old.number ≡ engine.taken before
   pub counted : IsWithinLimit old
 
--- a run took a step by the same filter. Unless that ended the run, no line is pending; if a line was taken, more bytes
--- are read, within the limit of an input. The reader is called only if no whole line was held. If output is awaited, it
--- is passed on before anything is reported
+-- a run took a step by the same filter. Unless that ended the run, no line is pending; if a line was taken,
+-- more bytes are read, within the limit of an input. The reader is called only if no whole line was held. If
+-- output is awaited, it is passed on before anything is reported
 pub record RunHasStepped {E R W M : Type 0} (engine : EngineGhosts E) (sink : SinkGhosts W) (before after : E)
     (old new : ReaderState) (reader reader' : R) (writer : W) (messages messages' : M)
     (result : Result (Option Bool) Halt) : Type 0 where

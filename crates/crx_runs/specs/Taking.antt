@@ -27,8 +27,8 @@ step_notices (Warned notice again) = notice ∷ []
 
 -- ---- an engine
 
--- an engine holds its answer to the line of this content and number. The line is within its limit, and may be fed again
--- if the answer says so
+-- an engine holds its answer to the line of this content and number. The line is within its limit, and may be
+-- fed again if the answer says so
 pub record HoldsAnswer {E : Type 0} (engine : EngineGhosts E) (now : E) (content : List ℕ) (number : ℕ) : Type 0 where
   pub short : length content ≤ LINE_LIMIT
   pub drained : IfOk (engine.answer now) (λ step. IsDrainedAfter step (engine.ready now))
@@ -96,7 +96,8 @@ pub record IsDone (before after : Course) (shown : Type 0) (writer messages : De
   pub reported : TookAll messages (notices_text notices)
   pub flag : warned ≡ are_some notices
 
--- the next line or the end was taken; or it ended the run, perhaps because memory was refused at line `number`
+-- the next line or the end was taken; or it ended the run, perhaps because memory was refused at line
+-- `number`
 abbrev pub Becomes : Option (List At) → ℕ → Course → Course → Type 0 → Device → Device → Result Bool Halt →
     Type 0
 Becomes memory number before after shown writer messages (Ok warned) =
@@ -126,7 +127,8 @@ HasHandedOut engine before now line number writer messages (Ok false) =
 HasHandedOut engine before now line number writer messages (Err failed) =
     TakesNext engine before now (IsLineAfter engine before line) writer messages (Err Unwritten)
 
--- if the end of the input ended the run, after whichever lines, it has no warning, or the one that couldn't be reported
+-- if the end of the input ended the run, after whichever lines, it has no warning, or the one that couldn't
+-- be reported
 abbrev pub EndWarns : {E : Type 0} → EngineGhosts E → E → Result Bool Halt → Type 0
 EndWarns engine before result = (lines : List InputLine) → engine.shows before lines []
     → IfErr result (WarnsAtEnd ((engine.filter before).so_far lines) ((engine.filter before).whole lines))

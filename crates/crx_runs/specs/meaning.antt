@@ -1,4 +1,5 @@
--- The definitions that have to be believed, because the promises rest on them. docs/READING.md gives their order.
+-- The definitions that have to be believed, because the promises rest on them. docs/READING.md gives their
+-- order.
 pub mod Messages
 pub mod Results
 pub mod Filters

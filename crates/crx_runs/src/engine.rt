@@ -42,8 +42,8 @@ pub enum LineOutput {
     AsItIs,
 }
 
-/// A filter that takes the lines of an input one at a time. Its output is borrowed from it; a copied line is written
-/// from the caller's buffer.
+/// A filter that takes the lines of an input one at a time. Its output is borrowed from it; a copied line is
+/// written from the caller's buffer.
 pub trait Engine {
     ghost use Rattle.crx_runs.specs.declared.engine.Step.{Step};
 
@@ -65,8 +65,8 @@ pub trait Engine {
     // The input ended after these lines.
     ghost has_ended: { Self → List InputLine → Type 0 };
 
-    /// Takes a line. `Some` is its output, with nothing to report; after `None`, [`Engine::answer`] has the warning or
-    /// fault.
+    /// Takes the next line; no line may be pending before. Returns its output if there is nothing to report;
+    /// after `None`, [`Engine::answer`] has the warning or fault.
     fn take(&mut self, line: Line<'_>) -> Option<LineOutput>
         requires next { IsNextLine (ready self.old) (taken self.old) (line_number line) }
         ensures stepped { HasStepped (filter self.old) (filter self.new)
@@ -79,13 +79,13 @@ pub trait Engine {
             (has_ended self.new) (lines_handed_out result (line_shown line.entry).content (ready self.new)) lines
             notices (Some (line_shown line.entry)) (answer_given result (answer self.new)) };
 
-    /// Returns the answer to the last line if [`Engine::take`] returned `None`: a warning, or the fault that ends the
-    /// run.
+    /// Returns the answer to the last line if [`Engine::take`] returned `None`: a warning, or, as the error,
+    /// the fault that ends the run.
     fn answer(&self) -> Result<Step, At>
         ensures value { result ≡ answer self.now };
 
-    /// Takes a line above the length limit, line `number`. It is never fed again. An error is the fault that ends the
-    /// run.
+    /// Takes line `number`, which is above the length limit, without its content; it is never fed again.
+    /// Returns the answer: quiet, pending lines, or a warning; as the error, the fault that ends the run.
     fn overlong(&mut self, number: u64) -> Result<Step, At>
         requires next { IsNextLine (ready self.old) (taken self.old) number }
         ensures stepped { HasStepped (filter self.old) (filter self.new) (ready self.new) result }
@@ -98,7 +98,8 @@ pub trait Engine {
             → EngineAnswers (filter self.old) (shows self.new) (has_ended self.new) (ready self.new) lines
             notices (Some line) result };
 
-    /// Takes the end of the input. An error is the fault that ends the run.
+    /// Takes the end of the input; no line may be pending before. Returns the answer: quiet, pending lines,
+    /// or a warning; as the error, the fault that ends the run.
     fn end(&mut self) -> Result<Step, At>
         requires drained { ready self.old ≡ [] }
         requires within { taken self.old ≤ INPUT_LIMIT }
@@ -106,15 +107,15 @@ pub trait Engine {
         ensures answers { (lines : List InputLine) → shows self.old lines [] → EngineAnswers (filter self.old)
             (shows self.new) (has_ended self.new) (ready self.new) lines [] None result };
 
-    /// Borrows the next pending line, without its line end; returns `None` when none is left.
+    /// Borrows the next pending line, without its line end; returns `None` if none is left.
     fn next_line(&mut self) -> Option<&[u8]>
         ensures value { option_copied result ≡ slice_get (ready self.old) 0 }
         ensures* after_borrow { sem 𝓛 (Rests Self.row self.entry (λ new.
             (ready new ≡ drop 1 (ready self.old)) × KeepsAllElse (filter self.old) (filter new) (shows self.old) (shows new)
             (has_ended self.old) (has_ended new))) };
 
-    /// Borrows all pending lines as one text, each followed by LF; afterwards none is pending. Returns `None` if
-    /// [`Engine::next_line`] has to be called instead.
+    /// Borrows all pending lines as one text, each followed by LF; afterwards none is pending. Returns
+    /// `None`, with nothing changed, if [`Engine::next_line`] has to be called instead.
     fn take_text(&mut self) -> Option<&[u8]>
         ensures value { IfSome result (λ text. text.now ≡ lines_text (ready self.old)) }
         ensures* after_borrow { sem 𝓛 (Rests Self.row self.entry (λ new.

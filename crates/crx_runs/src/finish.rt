@@ -11,8 +11,8 @@ use crate::outcome::Outcome;
 use crx_base::{At, Fault, Refused};
 use crx_lines::{Sink, write_all_counted};
 
-/// Writes the message of the fault `at`, and returns the outcome with status 1. If `messages` fails, the message ends
-/// there. `_writer` is only in the contract: a writer that hasn't failed was flushed before.
+/// Writes the message of the fault `at`, and returns status 1 with this fault, even if `messages` fails.
+/// `_writer` is only in the contract: a writer that hasn't failed was flushed before.
 #[inline(never)]
 fn report<W: Sink, M: Sink>(_writer: &W, messages: &mut M, at: At) -> Outcome
     requires flushed { (at.fault ≡ Fault.WriteFailed) ⊎ ((before : W)
@@ -31,10 +31,10 @@ fn report<W: Sink, M: Sink>(_writer: &W, messages: &mut M, at: At) -> Outcome
     }
 }
 
-/// Finishes a run and returns its outcome. `last`: the number of the last line that was read; `warned`: a warning was
-/// reported; `ended`: why the run ended early, if it did. Flushes `writer` and reports the fault; skips the flush if
-/// the writer has failed, and both after a warning that couldn't be written. If only the flush fails, the fault is
-/// `WriteFailed` at line `last`.
+/// Flushes `writer`, reports the fault and returns the outcome: status 1 with a fault, 2 if `warned`,
+/// otherwise 0. The fault is the one in `ended`; without one there, `WriteFailed` at line `last`, the last
+/// one read, if the writer, the flush or a warning failed. A failed writer isn't flushed; after a failed
+/// warning nothing is flushed or reported. A failed report doesn't change the outcome.
 pub(crate) fn finish<W: Sink, M: Sink>(
     writer: &mut W,
     messages: &mut M,
@@ -71,7 +71,8 @@ pub(crate) fn finish<W: Sink, M: Sink>(
     }
 }
 
-/// Finishes a run that was refused memory before its first line, with `OutOfMemory` at line 0.
+/// Flushes `writer`, reports `OutOfMemory` at line 0, and returns it with status 1: the end of a run that was
+/// refused memory before its first line.
 pub fn finish_without_memory<W: Sink, M: Sink>(
     writer: &mut W,
     messages: &mut M,

@@ -40,7 +40,7 @@ impl Model for MessageLine {
 }
 
 impl MessageLine {
-    /// Returns the bytes of the message.
+    /// Returns the message with its LF.
     pub fn bytes(&self) -> &[u8]
         ensures value { result.now ≡ self.now }
     {
@@ -48,7 +48,7 @@ impl MessageLine {
     }
 }
 
-/// Copies `text` so that it ends before index `end`, and returns the index of its first byte.
+/// Copies `text` into `bytes` so that it ends before index `end`, and returns the index of its first byte.
 #[inline(always)]
 fn put_before(text: &[u8], bytes: &mut [u8; MESSAGE_LIMIT], end: usize) -> usize
     requires { (length text.now ≤ end) × (end ≤ MESSAGE_LIMIT) }
@@ -60,8 +60,8 @@ fn put_before(text: &[u8], bytes: &mut [u8; MESSAGE_LIMIT], end: usize) -> usize
     start
 }
 
-/// Returns the message of a fault with its LF, such as `ERROR line 7 code 18: bad indicator`. It needs no memory, and
-/// is filled from its end, so that digits are written at their final place.
+/// Returns the message of a fault with its LF, such as `ERROR line 7 code 18: bad indicator`. It needs no
+/// memory, and is filled from its end, so that digits are written at their final place.
 pub fn message(severity: Severity, at: At) -> MessageLine
     ensures value { result ≡ message_text (word_of severity) at }
 {

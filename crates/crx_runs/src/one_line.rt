@@ -30,13 +30,14 @@ pub enum Halt {
 impl From<At> for Halt {
     ghost from_gives = { λ at halt. halt ≡ halts.Fault at };
 
+    /// Returns `Halt::Fault(at)`.
     fn from(at: At) -> Halt {
         Halt::Fault(at)
     }
 }
 
-/// Reports the warning `notice` and returns `true`, or `Halt::Unreported` if `messages` fails. `_writer` is only in the
-/// contract: if its output is awaited, all earlier output was passed on, or that failed.
+/// Reports the warning `notice` and returns `true`, or `Halt::Unreported` if `messages` fails. `_writer` is
+/// only in the contract: if its output is awaited, all earlier output was passed on, or that failed.
 #[inline(always)]
 fn report_warning<W: Sink, M: Sink>(_writer: &W, messages: &mut M, notice: At) -> Result<bool, Halt>
     requires handed_on { (W.is_awaited _writer.now ≡ true → W.is_current _writer.now)
@@ -50,9 +51,9 @@ fn report_warning<W: Sink, M: Sink>(_writer: &W, messages: &mut M, notice: At) -
     }
 }
 
-/// Writes the lines that `step` made ready, or reports its warning; returns whether it warned. If output is awaited,
-/// the writer passes all earlier output on before a warning; if that fails, the next read reports it. Returns
-/// `Halt::Unwritten` or `Halt::Unreported` if a write fails.
+/// Writes the lines that `step` made ready, or reports its warning; returns whether it warned. If output is
+/// awaited, the writer passes all earlier output on before a warning; if that fails, the next read reports
+/// it. Returns `Halt::Unwritten` or `Halt::Unreported` if a write fails.
 #[inline(never)]
 fn write_step<E: Engine, W: Sink, M: Sink>(
     engine: &mut E,
@@ -82,9 +83,9 @@ fn write_step<E: Engine, W: Sink, M: Sink>(
     }
 }
 
-/// Feeds `line` to the engine and writes its output. Returns `false`, without a write, if the engine has an answer
-/// instead ([`Engine::answer`]), and `WriteFailed` if the writer fails. `_messages` is only in the contract: nothing is
-/// reported.
+/// Feeds `line` to the engine, writes its output and returns `true`. Returns `false`, without a write, if the
+/// engine has an answer instead ([`Engine::answer`]), and `WriteFailed` if the writer fails. Reports nothing;
+/// `_messages` is only in the contract.
 #[inline(always)]
 pub(crate) fn feed_line<E: Engine, W: Sink, M: Sink>(
     engine: &mut E,
@@ -108,8 +109,8 @@ pub(crate) fn feed_line<E: Engine, W: Sink, M: Sink>(
     }
 }
 
-/// Carries out the engine's stored answer to `line`, and feeds the line again if reading resumes at it. Returns whether
-/// there was a warning, or why the run ends.
+/// Carries out the engine's stored answer to `line`, and feeds the line again if reading resumes at it.
+/// Returns whether there was a warning, or why the run ends: a fault, or a failed write or report.
 #[cold]
 #[inline(never)]
 pub(crate) fn carry_out_answer<E: Engine, W: Sink, M: Sink>(
@@ -141,8 +142,8 @@ pub(crate) fn carry_out_answer<E: Engine, W: Sink, M: Sink>(
     }
 }
 
-/// Feeds `line` to the engine, again if reading resumes at it after a warning; writes its output and reports its
-/// warnings. Returns whether there was a warning, or why the run ends.
+/// Feeds `line` to the engine, again if reading resumes at it after a warning; writes its output and reports
+/// its warnings. Returns whether there was one, or why the run ends: a fault, or a failed write or report.
 #[inline(always)]
 pub fn take_line<E: Engine, W: Sink, M: Sink>(
     engine: &mut E,
@@ -162,8 +163,8 @@ pub fn take_line<E: Engine, W: Sink, M: Sink>(
     }
 }
 
-/// Passes a line above the length limit, line `number`, to the engine and carries out the answer. Returns whether there
-/// was a warning, or why the run ends.
+/// Passes line `number`, which is above the length limit, to the engine and carries out the answer. Returns
+/// whether there was a warning, or why the run ends: a fault, or a failed write or report.
 #[cold]
 pub fn take_overlong<E: Engine, W: Sink, M: Sink>(
     engine: &mut E,
@@ -181,8 +182,8 @@ pub fn take_overlong<E: Engine, W: Sink, M: Sink>(
     write_step(engine, writer, messages, step)
 }
 
-/// Passes the end of the input to the engine, writes the output and reports the warning. Returns whether there was a
-/// warning, or why the run ends.
+/// Passes the end of the input to the engine, writes the output and reports the warning; doesn't flush.
+/// Returns whether there was a warning, or why the run ends: a fault, or a failed write or report.
 pub fn take_end<E: Engine, W: Sink, M: Sink>(
     engine: &mut E,
     writer: &mut W,

@@ -9,8 +9,8 @@ ghost use Rattle.crx_runs.specs.meaning.Spans.{TookAll, TookPart, span};
 use crate::engine::{Engine, LineOutput};
 use crx_lines::{Sink, WriteFailed, write_all_counted};
 
-/// Writes the engine's pending lines, each with LF: usually as one text, one by one if the engine doesn't have them as
-/// one. Returns `WriteFailed` if the writer fails.
+/// Writes the engine's pending lines, each with LF: usually as one text, one by one if the engine doesn't
+/// have them as one. Returns `WriteFailed` if the writer fails; lines may be pending or lost then.
 #[inline(always)]
 pub(crate) fn write_ready<E: Engine, W: Sink>(
     engine: &mut E,
@@ -39,7 +39,7 @@ pub(crate) fn write_ready<E: Engine, W: Sink>(
     Ok(())
 }
 
-/// Writes the pending lines and, if the line is copied (`LineOutput::AsItIs`), `content` with LF after them. Returns
+/// Writes the pending lines and, if `handed_out` is `LineOutput::AsItIs`, then `content` with LF. Returns
 /// `WriteFailed` if the writer fails.
 #[inline(never)]
 pub(crate) fn write_line_output<E: Engine, W: Sink>(

@@ -16,8 +16,8 @@ use crx_base::Refused;
 use crx_lines::{LineReader, Sink, Source};
 use std::alloc::Global;
 
-/// Runs `engine` over an input and returns the outcome. If memory for the engine or for the reader of lines is refused,
-/// the run ends with `OutOfMemory` at line 0.
+/// Runs `engine` over the whole input of `reader` and returns the outcome. If `engine` is `Refused`, or
+/// memory for the reader of lines is refused, nothing is read and the fault is `OutOfMemory` at line 0.
 pub fn start<E: Engine + Drop, R: Source, W: Sink, M: Sink>(
     alloc: Global,
     engine: Result<E, Refused>,

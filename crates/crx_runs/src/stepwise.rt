@@ -37,9 +37,8 @@ pub enum StepOutcome {
     Stopped,
 }
 
-/// A run between two lines of its input: its engine, the reader of lines, and why the run ended.
-/// [`Run::run`] takes all steps and the end of the input, flushes, and reports the fault; a caller of [`Run::step`]
-/// does that itself.
+/// A run between two lines of its input: its engine, the reader of lines, and why the run ended. [`Run::run`]
+/// takes all steps and the end, flushes, and reports the fault; a caller of [`Run::step`] does that itself.
 #[derive(Drop)]
 pub struct Run<E> {
     engine: E,
@@ -47,7 +46,8 @@ pub struct Run<E> {
     ended: Option<Halt>,
 }
 
-/// Stores in `ended` why the run ended, if it has, and returns the outcome of the step.
+/// Returns `Warned` or `Taken` for an `answer` that tells whether there was a warning. Stores an error, why
+/// the run ended, in `ended` and returns `Stopped`.
 #[cold]
 #[inline(never)]
 fn stop(ended: &mut Option<Halt>, answer: Result<bool, Halt>) -> StepOutcome
@@ -64,7 +64,8 @@ fn stop(ended: &mut Option<Halt>, answer: Result<bool, Halt>) -> StepOutcome
     }
 }
 
-/// Carries out the engine's stored answer to `line`; stores in `ended` why the run ended, if it has.
+/// Carries out the engine's stored answer to `line`. Returns whether it warned, or stores in `ended` why the
+/// run ended and returns `Stopped`.
 #[cold]
 #[inline(never)]
 fn take_answer<E: Engine, W: Sink, M: Sink>(
@@ -85,8 +86,8 @@ fn take_answer<E: Engine, W: Sink, M: Sink>(
     stop(ended, carry_out_answer(engine, writer, messages, line))
 }
 
-/// Passes all output on if a read may have to wait; returns whether that succeeded. After a failure the writer is
-/// flushed too, so that the failure is counted.
+/// Marks the output as awaited if a read may have to wait, and passes all awaited output on; returns whether
+/// that succeeded. If not, the writer is flushed too, so that the failure is counted.
 #[cold]
 #[inline(never)]
 fn pass_on_before_wait<R: Source, W: Sink>(reader: &R, writer: &mut W) -> bool
@@ -119,7 +120,7 @@ impl<E: Engine + Drop> Run<E> {
         Ok(Run::over(engine, LineReader::new(alloc)?))
     }
 
-    /// Returns a run before the first line of `input`.
+    /// Returns a run of `engine` that continues with the next line of `input`.
     pub fn over(engine: E, input: LineReader) -> Run<E>
         ensures value { result ≡ record { engine = engine; input = input; ended = None } }
     {
@@ -137,17 +138,18 @@ impl<E: Engine + Drop> Run<E> {
         &self.engine
     }
 
-    /// Returns why the run ended, `None` while it hasn't.
+    /// Returns why a [`Run::step`] or [`Run::run`] ended the run early; `None` if none has.
     pub fn ended(&self) -> Option<Halt>
         ensures value { result ≡ self.now.ended }
     {
         self.ended
     }
 
-    /// Takes the next line: writes its output and reports its warnings. The run ends at a fault, a failed read or
-    /// write, or refused memory. Before it reads on, the output and warnings of all earlier lines are written, in the
-    /// order of the lines. The writer passes all output on before a read that may have to wait and, if output is
-    /// awaited, before a warning.
+    /// Takes the next line: writes its output, reports its warnings, and returns `Warned` if there was one,
+    /// otherwise `Taken`; returns `AtEnd` if no line is left. A fault that isn't skipped, refused memory, or
+    /// a failed read, write or report ends the run: it is stored but not reported, and `Stopped` returned.
+    /// Before it reads on, the output and warnings of all earlier lines are written in order. The writer
+    /// passes all output on before a read that may have to wait and, if output is awaited, before a warning.
     #[inline(always)]
     pub fn step<R: Source, W: Sink, M: Sink>(
         &mut self,
@@ -185,7 +187,7 @@ impl<E: Engine + Drop> Run<E> {
         }
     }
 
-    /// Ends the run because the writer failed.
+    /// Stores that the writer failed as the reason why the run ended, and returns `Stopped`.
     #[cold]
     #[inline(never)]
     fn fail_to_write(&mut self) -> StepOutcome
@@ -196,7 +198,7 @@ impl<E: Engine + Drop> Run<E> {
         StepOutcome::Stopped
     }
 
-    /// Takes line `number`, which is above the length limit, as [`Run::step`] does.
+    /// Takes line `number`, which is above the length limit, with the outcomes of [`Run::step`].
     #[cold]
     #[inline(never)]
     fn take_overlong<W: Sink, M: Sink>(
@@ -253,8 +255,8 @@ impl<E: Engine + Drop> Run<E> {
         }
     }
 
-    /// Takes the end of the input, writes its output and reports its warning. Returns whether there was a warning, or
-    /// why the run ends.
+    /// Takes the end of the input, writes its output and reports its warning; doesn't flush. Returns whether
+    /// there was a warning, or why the run ends, which isn't stored for [`Run::ended`].
     pub fn end<W: Sink, M: Sink>(&mut self, writer: &mut W, messages: &mut M) -> Result<bool, Halt>
         requires drained { E.ready self.old.engine ≡ [] }
         requires within { E.taken self.old.engine ≤ INPUT_LIMIT }
@@ -266,8 +268,9 @@ impl<E: Engine + Drop> Run<E> {
         take_end(&mut self.engine, writer, messages)
     }
 
-    /// Takes the run from before its first line to its end: reads the lines of the input, writes the output, reports
-    /// the warnings, and finishes. The run stays with the caller, who may ask its engine.
+    /// Takes the run from before its first line to its end: reads the lines of the input, writes the output,
+    /// reports warnings, flushes, reports the fault, if any, and returns the outcome. The run stays with the
+    /// caller, who may ask its engine.
     #[inline(never)]
     pub fn run<R: Source, W: Sink, M: Sink>(
         &mut self,

@@ -10,9 +10,9 @@ use std::io::{ErrorKind, Write};
 
 /// A writer that isn't called again after a failed write or flush: each later call fails without reaching it.
 ///
-/// std's buffer keeps the bytes that it couldn't write and tries them again at its next flush. Above this writer that
-/// flush fails, so nothing is written after a failure. An interrupted write took no byte and isn't a failure here,
-/// because the buffer repeats it at once.
+/// std's buffer keeps the bytes that it couldn't write and tries them again at its next flush. Above this
+/// writer that flush fails, so nothing is written after a failure. An interrupted write took no byte and
+/// isn't a failure here, because the buffer repeats it at once.
 #[derive(Drop)]
 pub struct UntilFailure<W> {
     inner: W,
@@ -20,7 +20,7 @@ pub struct UntilFailure<W> {
 }
 
 impl<W> UntilFailure<W> {
-    /// Makes a writer that hasn't failed.
+    /// Returns a writer over `inner` that hasn't failed.
     pub fn new(inner: W) -> UntilFailure<W>
         ensures inner { result.inner ≡ inner }
         ensures failed { result.failed ≡ false }
@@ -35,6 +35,8 @@ impl<W> UntilFailure<W> {
 impl<W: Write> Write for UntilFailure<W> {
     ghost contents = { λ s. W.contents s.inner };
 
+    /// Writes as `inner` does; taking none of some bytes counts as a failure, an interruption doesn't.
+    /// Returns `BrokenPipe`, without a call, after a failed write or flush.
     fn write(&mut self, buf: &[u8]) -> io::Result<usize>
         ensures bound { WritesAtMost result buf.now }
         ensures bytes { WriteAppends (W.contents self.old.inner) (W.contents self.new.inner) result buf.now }
@@ -58,6 +60,7 @@ impl<W: Write> Write for UntilFailure<W> {
         written
     }
 
+    /// Flushes as `inner` does. Returns `BrokenPipe`, without a call, after a failed write or flush.
     fn flush(&mut self) -> io::Result<()>
         ensures bytes { Keeps (W.contents self.old.inner) (W.contents self.new.inner) }
         ensures left_alone { self.old.failed ≡ true → self.new ≡ self.old }

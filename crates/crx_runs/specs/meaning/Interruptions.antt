@@ -24,13 +24,14 @@ pub record AreAll (input : Input) (given : List ℕ) (lines : List InputLine) : 
   pub within : length given ≤ INPUT_LIMIT
   pub same : lines_of given ≡ lines
 
--- these lines were taken: the first of those whose LF was read, or all lines of an input whose end was reported
+-- these lines were taken: the first of those whose LF was read, or all lines of an input whose end was
+-- reported
 abbrev pub AreTaken : Input → List ℕ → List InputLine → Type 0
 AreTaken input given lines = ((more : List InputLine) × (complete_lines given ≡ lines ++ more))
     ⊎ AreAll input given lines
 
--- these lines were read and none is missing: all whose LF was read, if no read failed and none reported the end; or all
--- lines of an input whose end was reported
+-- these lines were read and none is missing: all whose LF was read, if no read failed and none reported the
+-- end; or all lines of an input whose end was reported
 abbrev pub AreAllSoFar : Input → List ℕ → List InputLine → Type 0
 AreAllSoFar input given lines =
     ((complete_lines given ≡ lines) × ((length given ≤ INPUT_LIMIT) × (input.counted ≡ input.start)))
@@ -60,9 +61,9 @@ IsHeldBack writer text = writer.took text × (writer.after ≡ with_failed_flush
 
 -- ---- by the fault that ended the run
 
--- the state after a run, as one row of a table. `taken`: the last line or end that was taken; `number`: the line at
--- which the run stopped; `due`: the course up to there; `found`: its fault; `wrote`: how its output was written and
--- flushed; `told`: how its warnings were reported
+-- the state after a run, as one row of a table. `taken`: the last line or end that was taken; `number`: the
+-- line at which the run stopped; `due`: the course up to there; `found`: its fault; `wrote`: how its output
+-- was written and flushed; `told`: how its warnings were reported
 pub record Stopped (taken : Type 0) (number : ℕ) (due : Course) (found : Option At) (wrote : List ℕ → Type 0)
     (told : List At → Type 0) (at : At) : Type 0 where
   pub turn : taken
@@ -83,8 +84,8 @@ Stands filter input given writer messages at InputTooLong =
     Stopped ((input.counted ≡ input.start) × (INPUT_LIMIT < length given))
     (length (complete_lines given) + 1) (filter.so_far (complete_lines given)) None
     (IsWritten writer) (AreReported messages at) at
--- memory was refused before the first line was read; or at a line that may need some, after the line's own warnings
--- that may precede this
+-- memory was refused before the first line was read; or at a line that may need some, after the line's own
+-- warnings that may precede this
 Stands filter input given writer messages at OutOfMemory =
     Stopped (given ≡ []) 0 (record { output = []; warnings = []; fault = None }) None
     (IsWritten writer) (AreReported messages at) at
@@ -94,8 +95,8 @@ Stands filter input given writer messages at OutOfMemory =
     (length lines + 1)
     (record (filter.so_far lines) { warnings = (filter.so_far lines).warnings ++ notices; fault = None }) None
     (IsWritten writer) (AreReported messages at) at)
--- the writer failed in the output of the last line or the end; or the messages failed in one of its warnings: all
--- earlier output was written, and nothing more was tried
+-- the writer failed in the output of the last line or the end; or the messages failed in one of its warnings:
+-- all earlier output was written, and nothing more was tried
 Stands filter input given writer messages at WriteFailed =
     ((lines : List InputLine) × (next : Option InputLine) × Stopped (IsTurn input given lines next)
     (length (lines_with lines next)) (course_with filter lines next) None
@@ -104,8 +105,8 @@ Stands filter input given writer messages at WriteFailed =
     (length (lines_with lines next)) (course_with filter lines next) (course_with filter lines next).fault
     (λ _. TookAll writer (filter.so_far lines).output)
     (λ warnings. IsPart messages (notices_text (filter.so_far lines).warnings) (notices_text warnings)) at)
-    -- only the flush failed, after all was written; or the output of all lines read so far couldn't be passed on before
-    -- the next read
+    -- only the flush failed, after all was written; or the output of all lines read so far couldn't be passed
+    -- on before the next read
     ⊎ (Stopped (AreAll input given (lines_of given)) (length (lines_of given))
     (filter.whole (lines_of given)) None (IsHeldBack writer) (AreReported messages at) at
     ⊎ ((lines : List InputLine) × Stopped (AreAllSoFar input given lines) (length lines)
@@ -117,8 +118,8 @@ Stands filter input given writer messages at _ =
 
 -- ---- for every fault
 
--- the bytes written are a prefix of the output of the complete lines or, if the end was reported, of the whole output
--- for the bytes read
+-- the bytes written are a prefix of the output of the complete lines or, if the end was reported, of the
+-- whole output for the bytes read
 pub record IsFrontPart (filter : Filter) (input : Input) (given : List ℕ) (writer : Device) : Type 0 where
   pub written : List ℕ
   pub wrote : writer.took written

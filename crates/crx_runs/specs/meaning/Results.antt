@@ -5,7 +5,8 @@ use Rattle.crx_base.specs.declared.fault.At.{At}
 use Rattle.crx_runs.specs.meaning.Messages.{notices_text, error_text}
 pub use Rattle.crx_base.specs.meaning.Lines.{lines_text}
 
--- the output and warnings for some lines, and the fault that ends the run, if there is one; the oldest warning is first
+-- the output and warnings for some lines, and the fault that ends the run, if there is one; the oldest
+-- warning is first
 pub record Course : Type 0 where
   pub output : List ℕ
   pub warnings : List At

@@ -34,15 +34,15 @@ FaultIs fault (Some at) = at.fault ≡ fault
 -- the meaning of a run for the bytes that its reader gave, by the result of a whole input and by the filter
 pub record RunsAs (result_of : List ℕ → FilterResult) (filter : Filter)
     (input : Input) (given : List ℕ) (writer messages : Device) (status : ℕ) (fault : Option At) : Type 0 where
-  -- if no device failed and memory wasn't refused, the result is the result of every input within the limit that begins
-  -- with these bytes and, if its end was reported, is these bytes
+  -- if no device failed and memory wasn't refused, the result is the result of every input within the limit
+  -- that begins with these bytes and, if its end was reported, is these bytes
   pub whole : NoneFailed input.start.failures input.counted.failures
       → NoneFailed writer.before.failures writer.after.failures
       → NoneFailed messages.before.failures messages.after.failures → (FaultIs OutOfMemory fault → ⊥)
       → (rest : List ℕ) → (input.at_end → rest ≡ [])
       → length (given ++ rest) ≤ INPUT_LIMIT → IsResult (result_of (given ++ rest)) writer messages status fault
-  -- without a fault the end of the input was reported, no device failed, the writer was flushed once and the messages
-  -- never, and the result is the result of these bytes
+  -- without a fault the end of the input was reported, no device failed, the writer was flushed once and the
+  -- messages never, and the result is the result of these bytes
   pub good : fault ≡ None → input.at_end × (length given ≤ INPUT_LIMIT) × (input.counted.failures
       ≡ input.start.failures) × (writer.after ≡ with_flush writer.before) × (messages.after ≡ messages.before)
       × IsResult (result_of given) writer messages status fault

@@ -22,7 +22,8 @@ reader_span source old new = record {
   counted = tally_of (source.failures new) (source.ends new);
 }
 
--- a writer between two moments: the texts it may have taken, whether all of them were passed on by then, and its counts
+-- a writer between two moments: the texts it may have taken, whether all of them were passed on by then, and
+-- its counts
 pub record Device : Type 1 where
   pub took : List ℕ → Type 0
   pub flushed : Type 0
