@@ -1,7 +1,7 @@
 -- The satellites of a history while an epoch is open: its rows so far, in the order of the file; the rows of the previous epoch whose
 -- satellites have none yet, by their identifiers; and how many types there is room for.
 use Rattle.std.specs.Prelude.{◌≡◌, ◌≤◌, ◌++◌, ◌∷◌, ℕ, ℤ, List, [], length, slice_index_or, Option, None, Some, false, map}
-use Rattle.std.specs.Prelude.{All, unwrap_or, ◌+◌, ◌*◌, ◌<◌, Bool, true, not, IfSome}
+use Rattle.std.specs.Prelude.{All, unwrap_or, ◌+◌, ◌*◌, Bool, true, not, IfSome}
 use Rattle.std.specs.Str.{bytes_eq}
 use Rattle.crx_text.specs.meaning.EachPlace.{each_place}
 use Rattle.crx_compact.specs.ArcTails.{ArcTail}
@@ -9,7 +9,7 @@ use Rattle.crx_compact.specs.meaning.CompactPlaces.{are_marks}
 use Rattle.crx_compact.specs.meaning.EpochText.{Satellite}
 use Rattle.crx_compact.specs.meaning.Sequences.{named}
 use Rattle.std.specs.Prelude.{Err, IfErr, IfOk, IsOk, Ok, OnOk, Result, ◌⊎◌, slice_get, slice_set, take}
-use Rattle.crx_header.specs.meaning.ObservationTypes.{Count, IsAllowedCount}
+use Rattle.crx_header.specs.meaning.ObservationTypes.{IsAllowedCount}
 use Rattle.crx_compact.specs.HeldRows.{AreHeldFlags, IsAwaitedSatellite, row_held}
 use Rattle.crx_base.specs.declared.fault.Fault.{Fault}
 use Rattle.crx_base.specs.declared.fault.Fault.TheVariants.{BadFlags}
@@ -21,8 +21,8 @@ use Rattle.crx_compact.specs.Tails.{RowTail, Tail}
 use Rattle.crx_rinex.specs.meaning.Observations.{Row}
 use Rattle.crx_rinex.specs.SatelliteLines.{AreMissingFrom}
 use Rattle.crx_text.specs.meaning.Numbers.{IsValue}
-use Rattle.crx_base.specs.declared.limits.TheConstants.{HEAD_WIDTH, NAME_WIDTH, TYPES_LIMIT}
-use Rattle.crx_header.specs.meaning.Satellites.{is_among, types_of_satellite}
+use Rattle.crx_base.specs.declared.limits.TheConstants.{TYPES_LIMIT}
+use Rattle.crx_header.specs.meaning.Satellites.{is_among}
 use Rattle.crx_text.specs.Texts.{patched}
 use Rattle.crx_text.specs.meaning.Columns.{columns, without_end_blanks}
 

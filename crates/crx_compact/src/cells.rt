@@ -1,6 +1,6 @@
 //! The cells of a satellite line: values to coded values and back, each by its arc.
 
-ghost use Rattle.std.specs.Prelude.{All, ◌≡◌, ◌≤◌, ◌<◌, ◌+◌, ◌*◌, [], max, None, Ok, Err, drop, take, length, slice_index_or, slice_set, IfOk, IfErr, IfSome, MatchOption, Some, Option, vec_capacity};
+ghost use Rattle.std.specs.Prelude.{All, ◌≡◌, ◌≤◌, ◌<◌, ◌+◌, ◌*◌, None, Ok, Err, drop, length, IfOk, IfErr, MatchOption, Some, Option, vec_capacity};
 ghost use Rattle.crx_text.specs.meaning.Numbers.{IsValue};
 ghost use Rattle.crx_base.specs.declared.limits.TheConstants.{LINE_LIMIT, OBSERVATION_WIDTH};
 ghost use Rattle.crx_base.specs.Padded.{line_in};
@@ -12,7 +12,7 @@ ghost use Rattle.crx_compact.specs.Placing.{cells_for};
 ghost use Rattle.crx_rinex.specs.SatelliteLines.{AreMissingFrom};
 ghost use Rattle.crx_compact.specs.meaning.Cells.{cells_of, cells_read};
 ghost use Rattle.crx_base.specs.declared.fault.Fault.TheVariants.{BadField};
-ghost use Rattle.crx_text.specs.declared.code.Code.TheVariants.{Missing, Step};
+ghost use Rattle.crx_text.specs.declared.code.Code.TheVariants.{Step};
 
 use crate::arc::ObsArc;
 use crx_base::limits::{DIGITS_LIMIT, OBSERVATION_WIDTH};

@@ -1,7 +1,7 @@
 //! The history of a satellite: its indicators and the arcs of its cells, which each of its lines changes in
 //! place (Hatanaka's Compact RINEX 3.0, satellite lines).
 
-ghost use Rattle.std.specs.Prelude.{ℕ, ℤ, List, ◌≡◌, ◌≤◌, ◌<◌, ◌+◌, ◌-◌, ◌*◌, ◌++◌, [], Ok, Err, None, true, false, drop, length, map, replicate, take, IfErr, IfOk, IsTrue, ◌↔◌, if◌then◌else◌, vec_capacity};
+ghost use Rattle.std.specs.Prelude.{ℕ, ◌≡◌, ◌≤◌, ◌<◌, ◌+◌, ◌-◌, ◌*◌, ◌++◌, [], Ok, Err, None, true, false, drop, length, map, replicate, take, IfErr, IfOk, IsTrue, ◌↔◌, if◌then◌else◌, vec_capacity};
 ghost use Rattle.crx_text.specs.meaning.Columns.{columns, without_end_blanks};
 ghost use Rattle.crx_base.specs.declared.limits.TheConstants.{CELL_WIDTH, LINE_LIMIT, NAME_WIDTH, TYPES_LIMIT};
 ghost use Rattle.crx_header.specs.meaning.EpochColumns.{begins_epoch};

@@ -1,6 +1,6 @@
 //! The satellites of a history, in the order of the file (Hatanaka's Compact RINEX 3.0).
 
-ghost use Rattle.std.specs.Prelude.{All, ◌≡◌, ◌≤◌, ◌<◌, ◌+◌, ◌*◌, ◌++◌, ◌⊎◌, ⊤, [], false, is_some, None, Some, length, take, map, slice_get, slice_index_or, swap, vec_capacity, vec_len, OnErr, IfOk, IfSome, IsOk, IsSome};
+ghost use Rattle.std.specs.Prelude.{All, ◌≡◌, ◌≤◌, ◌<◌, ◌+◌, ◌*◌, ◌++◌, ⊤, [], false, is_some, None, Some, length, take, map, slice_get, slice_index_or, swap, OnErr, IfOk, IfSome, IsSome};
 ghost use Rattle.std.specs.Bool.{OnTrue};
 ghost use Rattle.std.specs.Borrow.{LendsSo, sem};
 ghost use Rattle.std.specs.List.{flat_map};
@@ -16,7 +16,7 @@ ghost use Rattle.crx_compact.specs.Refusals.{mark_place};
 ghost use Rattle.crx_compact.specs.Tails.{RowTail};
 ghost use Rattle.crx_compact.specs.contracts.satellite.SatelliteHistory.{the_row as satellite_row};
 ghost use Rattle.crx_compact.specs.contracts.satellites.Satellites.{the_row};
-ghost use Rattle.indexmap.specs.IndexMap.{IsUnique, spare};
+ghost use Rattle.indexmap.specs.IndexMap.{IsUnique};
 
 use crate::satellite::SatelliteHistory;
 use crx_base::Refused;
