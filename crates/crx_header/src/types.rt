@@ -110,7 +110,7 @@ impl Types {
     #[tactic(auto, using(crate::proofs::Counts::systems_few))]
     pub fn systems(&self) -> usize
         ensures value { result ≡ length self.now }
-        ensures few { result ≤ 7 }
+        ensures few { result ≤ SYSTEMS }
     {
         self.counts.len()
     }
