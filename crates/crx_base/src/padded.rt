@@ -24,7 +24,8 @@ impl<'a> Padded<'a> {
     ghost use Rattle.std.specs.Prelude.{take};
     ghost use Rattle.crx_base.specs.Padded.{line_in};
 
-    /// Returns the line of the first `len` of `bytes`; a blank and at least `PADDING - 1` bytes follow there.
+    /// Returns the first `len` of `bytes` as a line. After them `bytes` has to have a blank and at least
+    /// `PADDING - 1` more bytes.
     #[inline(always)]
     pub fn of(bytes: &'a [u8], len: usize) -> Padded<'a>
         requires room { len + PADDING ≤ length bytes.now }
