@@ -91,8 +91,9 @@ pub trait Sink {
     // Whether a `pass_on` has failed. Then every flush fails.
     ghost is_broken: { Self → Bool };
 
-    /// Takes the first of `bytes`, at least one if there is one, and returns how many. They count as passed
-    /// on only after a good flush. Returns `WriteFailed` if the write fails; then none is taken.
+    /// Takes the first of `bytes`, at least one if there is one, and returns how many. They may stay in a
+    /// buffer until the output is flushed or passed on. Returns `WriteFailed` if the write fails; then none
+    /// is taken.
     fn write(&mut self, bytes: &[u8]) -> Result<usize, WriteFailed>
         ensures bound { IfOk result (λ n. n ≤ length bytes.now) }
         ensures bytes { IfOk result (λ n. took self.old (take n bytes.now) self.new) }
@@ -117,8 +118,8 @@ pub trait Sink {
         ensures awaited { is_awaited self.new ≡ is_awaited self.old }
         ensures unbroken { is_broken self.new ≡ is_broken self.old };
 
-    /// Marks the output as awaited, for good: from now on each [`Sink::pass_on`] passes it on, and before
-    /// this none does. Passes nothing on itself.
+    /// Marks the output as awaited, for good: someone may be waiting for it, so from now on each
+    /// [`Sink::pass_on`] passes it on. Passes nothing on itself.
     fn await_output(&mut self)
         ensures none_taken { took self.old [] self.new }
         ensures unasked { flushes self.new ≡ flushes self.old }
@@ -128,9 +129,9 @@ pub trait Sink {
         ensures flushed { is_flushed self.new → is_flushed self.old }
         ensures current { is_current self.new → is_current self.old };
 
-    /// Passes the bytes taken to their file or stream if the output is awaited, and otherwise does nothing.
-    /// Returns `false` if that fails or has failed before; from then on each flush fails, too, and counts the
-    /// failure. Takes no byte and doesn't count as a flush.
+    /// Passes the bytes taken to their file or stream if the output is marked as awaited; otherwise does
+    /// nothing. Returns `false` if that fails or has failed before, otherwise `true`; after a failure each
+    /// flush fails, too, and counts the failure. Takes no byte and doesn't count as a flush.
     fn pass_on(&mut self) -> bool
         ensures none_taken { took self.old [] self.new }
         ensures unasked { flushes self.new ≡ flushes self.old }
@@ -179,8 +180,8 @@ pub fn reads_may_wait(metadata: &io::Result<Metadata>) -> bool
 }
 
 /// Opens the file `name` for reading through `files`; interrupted calls are repeated. Its reads may have to
-/// wait unless it is a regular file. Only this call returns a device marked as unread, which says nothing
-/// about earlier reads of the file. Returns the system's error if the file can't be opened, and
+/// wait unless it is known to be a regular file. Only this call returns a device marked as unread, which says
+/// nothing about earlier reads of the file. Returns the system's error if the file can't be opened, and
 /// `IsADirectory` for a folder.
 pub fn open_file<H: Files>(files: &H, name: &str) -> io::Result<Std<Uninterrupted<H::File>>>
     ensures unread { IfOk result (λ device. device.is_unread ≡ true) }
@@ -211,8 +212,9 @@ pub fn open_file<H: Files>(files: &H, name: &str) -> io::Result<Std<Uninterrupte
 }
 
 impl<D> Std<D> {
-    /// Returns `inner` as a device without a failure, a reported end or a flush so far, whose output isn't
-    /// awaited. It isn't marked as unread, and its reads may have to wait.
+    /// Returns `inner` as a device without a failure, a reported end or a flush so far. Its output isn't
+    /// awaited: [`Sink::pass_on`] does nothing before [`Sink::await_output`]. It isn't marked as unread, and
+    /// its reads may have to wait.
     pub fn new(inner: D) -> Std<D>
         ensures inner { result.inner ≡ inner }
         ensures failures { result.failures ≡ 0 }
@@ -251,7 +253,8 @@ impl<D> Std<D> {
         self.inner
     }
 
-    /// Counts a flush with the result `flushed`; if it failed, also a failure, and returns `WriteFailed`.
+    /// Counts a flush with the result `flushed`, and stores whether it succeeded; flushes nothing itself. If
+    /// it failed, also counts a failure and returns `WriteFailed`.
     fn count_flush(&mut self, flushed: io::Result<()>) -> Result<(), WriteFailed>
         ensures ok { is_ok result ≡ is_ok flushed }
         ensures good { OnOk result (self.new.failures ≡ self.old.failures) }
@@ -282,12 +285,15 @@ impl<D: Read> Source for Std<D> {
 
     ghost waits = { λ s. s.may_wait };
 
-    /// Returns the flag with which the device was made or changed: `true` unless it is known not to wait.
+    /// Returns whether a read may have to wait: `true` unless the device was opened or changed as one whose
+    /// reads don't. Doesn't ask the system.
     fn may_wait(&self) -> bool {
         self.may_wait
     }
 
-    /// Reads by one call; the device isn't unread then. Any error is counted and is `ReadFailed`.
+    /// Reads by one call of the reader into the front of `buffer`, and returns how many bytes. If that is 0
+    /// and `buffer` isn't empty, counts a reported end. Any error, also an interruption, is counted and
+    /// returned as `ReadFailed`. In any case the device isn't marked as unread any more.
     fn read(&mut self, buffer: &mut [u8]) -> Result<usize, ReadFailed>
         ensures bound { IfOk result (λ n. n ≤ length buffer.new) }
         ensures bytes { IfOk result (λ n.
@@ -337,7 +343,8 @@ impl<D: Write> Sink for Std<D> {
 
     ghost is_broken = { λ s. s.is_broken };
 
-    /// Writes by one call. Any error, or taking none of some bytes, is counted and is `WriteFailed`.
+    /// Writes by one call of the writer, and returns how many of `bytes` it took. Any error, also an
+    /// interruption, or taking none of some bytes, is counted and returned as `WriteFailed`. Flushes nothing.
     fn write(&mut self, bytes: &[u8]) -> Result<usize, WriteFailed>
         ensures bound { IfOk result (λ n. n ≤ length bytes.now) }
         ensures bytes { IfOk result (λ n.
@@ -367,7 +374,8 @@ impl<D: Write> Sink for Std<D> {
         }
     }
 
-    /// Flushes the writer in any case; fails if that fails or a [`Sink::pass_on`] has failed.
+    /// Flushes the writer in any case, and counts the flush. Returns `WriteFailed`, and counts the failure,
+    /// if that fails or a [`Sink::pass_on`] has failed before.
     fn flush(&mut self) -> Result<(), WriteFailed> {
         let flushed = self.inner.flush();
         if self.is_broken {
@@ -376,12 +384,15 @@ impl<D: Write> Sink for Std<D> {
         self.count_flush(flushed)
     }
 
-    /// Marks the output as awaited; flushes nothing.
+    /// Marks the output as awaited, for good, so that each later [`Sink::pass_on`] flushes the writer.
+    /// Flushes nothing itself.
     fn await_output(&mut self) {
         self.is_awaited = true;
     }
 
-    /// Flushes awaited output that isn't passed on yet; `false` if that or an earlier call failed.
+    /// Flushes the writer if the output is awaited and bytes may be left that weren't passed on; this flush
+    /// isn't counted. Returns `false` if it fails; from then on each call returns `false` without flushing,
+    /// and each [`Sink::flush`] fails. Otherwise returns `true`.
     fn pass_on(&mut self) -> bool {
         if self.is_awaited && !self.flushed && !self.is_broken {
             self.flushed = self.inner.flush().is_ok();

@@ -3,7 +3,8 @@ ghost use Rattle.std.specs.Prelude.{◌≡◌, ◌≢◌, ℕ, ◌+◌, ◌<◌,
 
 use std::simd::prelude::*;
 
-/// Returns the index in `bytes` of the first LF at or after index `from`, or `None` if there is none.
+/// Returns the index in `bytes` of the first LF at or after index `from`, or `None` if there is none. `from`
+/// may be at most the length of `bytes`; then there is none.
 pub fn feed_from(bytes: &[u8], from: usize) -> Option<usize>
     requires { from ≤ length bytes.now }
     ensures within { IfSome result (λ at. (from ≤ at) × (at < length bytes.now)) }

@@ -28,8 +28,8 @@ pub struct Line<'a> {
 impl<'a> Line<'a> {
     ghost use Rattle.crx_lines.specs.Reading.{line_shown, line_number};
 
-    /// Makes a line of `content`, at most [`LINE_LIMIT`] bytes without the line end. `number`: the line's
-    /// number; `is_plain`: only an LF ends it, without a CR before it.
+    /// Returns the line of `content`, which has to have at most [`LINE_LIMIT`] bytes, without the line end.
+    /// `number`: the line's number; `is_plain`: only an LF ends it, without a CR before it.
     pub fn of(content: Padded<'a>, number: u64, is_plain: bool) -> Line<'a>
         requires { length (line_in content) ≤ LINE_LIMIT }
         ensures shown { line_shown result ≡ record { content = line_in content.entry; is_plain = is_plain } }
@@ -50,7 +50,8 @@ impl<'a> Line<'a> {
         self.content.line()
     }
 
-    /// Returns the line's content as [`Line::bytes`] does, with a blank and more bytes after it in memory.
+    /// Returns the line's content, at most `LINE_LIMIT` bytes without LF and without a CR before it, together
+    /// with the blank and the bytes without a meaning that follow it in memory.
     pub fn padded(&self) -> Padded<'a>
         ensures content { line_in result ≡ (line_shown self.now).content }
         ensures limit { length (line_in result) ≤ LINE_LIMIT }
@@ -103,7 +104,7 @@ impl LineReader {
         Ok(LineReader::open(alloc)?)
     }
 
-    /// Does the same as [`LineReader::new`], but returns `Refused` if memory is refused.
+    /// Returns a reader before its input's first line, or `Refused` if memory is refused. Reads nothing.
     pub fn open(alloc: Global) -> Result<LineReader, Refused>
         ensures start { IfOk result
             (λ r. reading r ≡ record { rest = []; passed = 0; number = 0; phase = Phase.Open }) }
@@ -124,9 +125,10 @@ impl LineReader {
         self.number
     }
 
-    /// Takes the next line if its LF is pending, and returns its place in the window; reads nothing. Returns
-    /// `LineTooLong` if its content is over [`LINE_LIMIT`]; the line is taken then too. Returns `None`, with
-    /// nothing changed, if no LF is pending.
+    /// Takes the next line if its LF was read already, and returns its place in the buffer; reads nothing.
+    /// Returns `None`, with nothing changed, if no such LF is in the buffer. Returns `LineTooLong` if the
+    /// content is over [`LINE_LIMIT`]; the line is taken then too. Not to be called after the end,
+    /// `InputTooLong` or `ReadFailed`.
     #[inline(always)]
     fn advance_held(&mut self) -> Result<Option<Cut>, At>
         requires { self.old.phase ≡ Phase.Open }
@@ -150,9 +152,10 @@ impl LineReader {
         Ok(Some(cut))
     }
 
-    /// Takes the next line, reads from `reader` until its end is found, and returns its place in the window,
-    /// or `None` if the input has no more. Errors are those of [`LineReader::next_line`]; except after
-    /// `LineTooLong` they are stored, and no later line is returned.
+    /// Takes the next line, reads from `reader` until its end is found, and returns its place in the buffer,
+    /// or `None` if the input has no more. Returns `LineTooLong` for a line over `LINE_LIMIT`, which is taken
+    /// too. Returns `InputTooLong` if a byte past `INPUT_LIMIT` was read, and `ReadFailed` if a read fails;
+    /// these are stored, and no later line is returned. Not to be called after them or the end.
     #[inline(never)]
     fn advance_by_reading<R: Source>(&mut self, reader: &mut R) -> Result<Option<Cut>, At>
         requires { self.old.phase ≡ Phase.Open }
@@ -195,7 +198,8 @@ impl LineReader {
         Ok(Some(cut))
     }
 
-    /// Returns the last line that was read. `cut`: its place in the window.
+    /// Returns the line that was just taken. `cut`: its place in the buffer, as taking it returned; nothing
+    /// may have been read since.
     #[inline(always)]
     fn line(&self, cut: Cut) -> Line<'_>
         requires { CanBeLent self.now.window.value.bytes.items cut }
@@ -245,8 +249,10 @@ impl LineReader {
         }
     }
 
-    /// Returns the next line or `LineTooLong`, as [`LineReader::next_line`] does, if its LF is pending; never
-    /// reads. Returns `None`, with nothing changed, if no LF is pending, and after the end or another error.
+    /// Returns the next line, which is valid until the next call, if its LF was read already; never reads.
+    /// Returns `None`, with nothing changed, if no such LF is in the buffer, and after the end,
+    /// `InputTooLong` or `ReadFailed`. Returns `LineTooLong` for a line over `LINE_LIMIT`; the line counts,
+    /// and the next call continues after it.
     #[inline(always)]
     pub fn next_held<'a>(&'a mut self) -> Result<Option<Line<'a>>, At>
         ensures answers { (new : ReaderState) × AnswersHeld line_shown line_number (reading self.old) result new }

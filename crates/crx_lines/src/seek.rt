@@ -23,10 +23,11 @@ pub(crate) struct Found {
     pub(crate) is_ended: bool,
 }
 
-/// Finds the end of the line that the window begins with, an LF or the input's end, and reads from `reader`
-/// until it is found. Doesn't take the line; discards the bytes of one that is too long, so the window never
-/// fills up. `before`: how many bytes the earlier lines had, with their ends. Returns `InputTooLong` if a
-/// byte past `INPUT_LIMIT` was read, and `ReadFailed` if a read fails.
+/// Finds the end of the line that the pending bytes in `window` begin with, an LF or the input's end, and
+/// reads from `reader` until it is found. Doesn't take the line; discards the bytes of one that is too long.
+/// If nothing is pending and the input has ended, the line is empty, without an LF. `before`: how many bytes
+/// the earlier lines had, with their ends. Returns `InputTooLong` if a byte past `INPUT_LIMIT` was read, and
+/// `ReadFailed` if a read fails.
 pub(crate) fn seek<R: Source>(
     window: &mut Window,
     before: u64,

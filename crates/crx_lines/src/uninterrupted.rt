@@ -38,7 +38,8 @@ impl<D> Uninterrupted<D> {
 impl<D: Read> Read for Uninterrupted<D> {
     ghost remaining = { λ s. D.remaining s.inner };
 
-    /// Reads as `inner` does, again after each interruption; `TimedOut` after [`MOST_CALLS`] of them.
+    /// Calls the reader's `read`, again after each interruption, and returns its result: how many bytes are
+    /// now in the front of `buf`, or any other error. Returns `TimedOut` after [`MOST_CALLS`] interruptions.
     fn read(&mut self, buf: &mut [u8]) -> io::Result<usize>
         ensures bound { ReadsAtMost result buf.new }
         ensures bytes { ReadConsumes (D.remaining self.old.inner) (D.remaining self.new.inner) result buf.new }
@@ -57,7 +58,8 @@ impl<D: Read> Read for Uninterrupted<D> {
 impl<D: Write> Write for Uninterrupted<D> {
     ghost contents = { λ s. D.contents s.inner };
 
-    /// Writes as `inner` does, again after each interruption; `TimedOut` after [`MOST_CALLS`] of them.
+    /// Calls the writer's `write`, again after each interruption, and returns its result: how many of `buf`
+    /// it took, which may be 0, or any other error. Returns `TimedOut` after [`MOST_CALLS`] interruptions.
     fn write(&mut self, buf: &[u8]) -> io::Result<usize>
         ensures bound { WritesAtMost result buf.now }
         ensures bytes { WriteAppends (D.contents self.old.inner) (D.contents self.new.inner) result buf.now }
@@ -72,7 +74,8 @@ impl<D: Write> Write for Uninterrupted<D> {
         Err(ErrorKind::TimedOut.into())
     }
 
-    /// Flushes as `inner` does, again after each interruption; `TimedOut` after [`MOST_CALLS`] of them.
+    /// Calls the writer's `flush`, again after each interruption, and returns its result, also any other
+    /// error. Returns `TimedOut` after [`MOST_CALLS`] interruptions.
     fn flush(&mut self) -> io::Result<()>
         ensures bytes { Keeps (D.contents self.old.inner) (D.contents self.new.inner) }
         ensures uninterrupted { IfErr result (λ e. error_kind e ≢ ErrorKind.Interrupted) }

@@ -51,7 +51,8 @@ impl Window {
     ghost use Rattle.crx_base.specs.Padded.{line_in};
     ghost use Rattle.crx_lines.specs.Window.{IsCut, cut_shown, kept};
 
-    /// Returns an empty window, or `Refused` if memory is refused. Its memory is never on the stack.
+    /// Returns an empty buffer with all the memory that it will ever have, which is never on the stack, or
+    /// `Refused` if memory is refused.
     pub(crate) fn new(alloc: Global) -> Result<Window, Refused>
         ensures { IfOk result (λ window. kept window ≡ []) }
     {
@@ -65,7 +66,7 @@ impl Window {
         })
     }
 
-    /// Returns the pending bytes.
+    /// Returns the pending bytes: those that were read and belong to no line taken so far.
     pub(crate) fn as_slice(&self) -> &[u8]
         ensures value { result.now ≡ kept self.now }
         ensures len { length result.now ≡ self.now.end - self.now.start }
@@ -73,7 +74,8 @@ impl Window {
         &self.bytes[self.start..self.end]
     }
 
-    /// Returns the content of the taken line at `cut`, whose bytes are in the window still.
+    /// Returns the content of a taken line. `cut`: its place as [`Window::cut_line`] returned it; nothing may
+    /// have been read since.
     pub(crate) fn padded(&self, cut: Cut) -> Padded<'_>
         requires { IsCut self.now.bytes.items cut }
         ensures value { line_in result ≡ (cut_shown self.now.bytes.items cut).content }
@@ -81,8 +83,9 @@ impl Window {
         Padded::of(&self.bytes[cut.from..], cut.to - cut.from)
     }
 
-    /// Takes a line of `len` pending bytes, and the LF after them if `is_ended` (otherwise `len` is all of
-    /// them). Returns the place of its content, without a CR at the end, and puts a blank after the content.
+    /// Takes a line of `len` pending bytes, and the LF after them if `is_ended`; otherwise `len` has to be
+    /// all of them. Returns the place of its content, without a CR at the end, and writes a blank over the
+    /// byte after the content.
     pub(crate) fn cut_line(&mut self, len: usize, is_ended: bool) -> Cut
         requires { MatchBool is_ended (len < length (kept self.old)) (len ≡ length (kept self.old)) }
         ensures cut { IsCut self.new.bytes.items result }
@@ -119,7 +122,9 @@ impl Window {
         count
     }
 
-    /// Moves the pending bytes to the front if fewer than [`LEAST_ROOM`] of [`SIZE`] bytes are after them.
+    /// Moves the pending bytes, at most `LINE_LIMIT + 1`, to the front of the buffer if fewer than
+    /// [`LEAST_ROOM`] of its [`SIZE`] bytes are after them. If none is pending, only starts again at the
+    /// front.
     fn move_to_front(&mut self)
         requires { length (kept self.old) ≤ LINE_LIMIT + 1 }
         ensures kept { kept self.new ≡ kept self.old }
@@ -139,7 +144,9 @@ impl Window {
         }
     }
 
-    /// Doubles the bytes in use, up to all, if fewer than [`PIECE`] are free: small files need little memory.
+    /// Doubles how much of the buffer's memory is in use, up to all, if fewer than [`PIECE`] bytes in use are
+    /// free after the pending ones; so small files need little memory. At least [`LEAST_ROOM`] of the
+    /// [`SIZE`] bytes have to be after the pending ones.
     fn use_more(&mut self)
         requires { self.old.end + LEAST_ROOM ≤ SIZE }
         ensures kept { kept self.new ≡ kept self.old }
@@ -151,10 +158,10 @@ impl Window {
         }
     }
 
-    /// Reads once from `reader`, at most `most` bytes, appends them to the pending ones, and returns their
-    /// number, 0 at the input's end. If `most` is 0, reads one byte, which is lost, and returns
-    /// `InputTooLong` if there is one. Returns `ReadFailed` if the read fails. Errors don't change the
-    /// pending bytes.
+    /// Reads once from `reader`, at most `most` bytes, appends them to the pending ones, which may be at most
+    /// `LINE_LIMIT + 1`, and returns their number, 0 at the input's end. If `most` is 0, reads one byte:
+    /// returns 0 at the end, and otherwise loses it and returns `InputTooLong`. Returns `ReadFailed` if the
+    /// read fails. Errors don't change the pending bytes.
     pub(crate) fn fill<R: Source>(&mut self, reader: &mut R, most: u64) -> Result<usize, Fault>
         requires { length (kept self.old) ≤ LINE_LIMIT + 1 }
         ensures ok { IfOk result (λ n. (more : List ℕ) × (length more ≡ n) × (n ≤ most)
