@@ -2,7 +2,7 @@
 
 ghost use Rattle.std.specs.Prelude.{drop, ◌≡◌, ◌≤◌, ◌<◌, ◌+◌, ◌++◌, ◌∷◌, [], length, take};
 
-/// Writes `text` over `bytes`, in which it fits, from index `start` on, and returns the index after it.
+/// Writes `text` over `bytes`, in which it has to fit, from index `start` on, and returns the index after it.
 pub fn put_text(bytes: &mut [u8], start: usize, text: &[u8]) -> usize
     requires { start + length text.now ≤ length bytes.old }
     ensures put { take result bytes.new ≡ take start bytes.old ++ text.now }
@@ -18,7 +18,7 @@ pub fn put_text(bytes: &mut [u8], start: usize, text: &[u8]) -> usize
     end
 }
 
-/// Writes `line` and an LF over `bytes`, in which both fit, from index `start` on.
+/// Writes `line` and an LF over `bytes`, in which both have to fit, from index `start` on.
 pub fn put_line(bytes: &mut [u8], start: usize, line: &[u8])
     requires { start + length line.now < length bytes.old }
     ensures put { take (start + length line.now + 1) bytes.new

@@ -40,8 +40,9 @@ ghost use Rattle.crx_text.specs.declared.lanes.TheConstants.{LANES};
 /// digits are written four at a time.
 const CODE_WIDTH: usize = DIGITS_LIMIT + 6;
 
-/// Appends the text of `code` to `text`: `3&123`, `-45`, or nothing for a missing value. Returns `TextFull`,
-/// with `text` unchanged, if it would be longer than [`LINE_LIMIT`] bytes.
+/// Appends the text of `code` to `text`: `3&123`, `-45`, or nothing for a missing value. Its number may have
+/// at most [`DIGITS_LIMIT`] digits, its order may be at most [`ORDER_LIMIT`]. Returns `TextFull`, with `text`
+/// unchanged, if `text` would be longer than [`LINE_LIMIT`] bytes.
 #[inline]
 #[tactic(auto, using(crate::proofs::CodeTexts::code_text_length))]
 pub fn code_print(code: Code, text: &mut Text) -> Result<(), TextFull>
@@ -59,8 +60,8 @@ pub fn code_print(code: Code, text: &mut Text) -> Result<(), TextFull>
     Ok(())
 }
 
-/// Writes a code's text and a blank over `buffer`, which has room, from index `at` on, and returns the index
-/// after them. Up to two more bytes may be overwritten.
+/// Writes a code's text and a blank over `buffer` from index `at` on, and returns the index after them. From
+/// `at` on `buffer` has to have three bytes more than the text; all three may be overwritten.
 #[inline(always)]
 pub fn write_cell(buffer: &mut [u8], at: usize, code: Code) -> usize
     requires printable { IsPrintable code }
@@ -73,8 +74,9 @@ pub fn write_cell(buffer: &mut [u8], at: usize, code: Code) -> usize
     end + 1
 }
 
-/// Writes `difference` and a blank over `buffer` from index `at` on, and returns the index after them. Does
-/// the same as [`write_cell`] for its code, without making a [`Code`] and testing it.
+/// Writes the text of `difference`, such as `-45`, and a blank over `buffer` from index `at` on, and returns
+/// the index after them. `difference` may have at most [`DIGITS_LIMIT`] digits. From `at` on `buffer` has to
+/// have three bytes more than the text; all three may be overwritten. Makes no [`Code`].
 #[inline(always)]
 #[tactic(auto, using(crate::proofs::CodeTexts::code_text_start, crate::proofs::CodeTexts::start_written))]
 pub fn write_difference(buffer: &mut [u8], at: usize, difference: i64) -> usize
@@ -88,8 +90,8 @@ pub fn write_difference(buffer: &mut [u8], at: usize, difference: i64) -> usize
     end + 1
 }
 
-// Writes a coded value's text (`3&123`, `-45`, or nothing for a missing value) from index `at` on, and
-// returns the index after it. Up to three more bytes may be overwritten.
+// Writes a coded value's text (`3&123`, `-45`, or nothing for a missing value) over `buffer` from index `at`
+// on, and returns the index after it. `buffer` has to have three more bytes, which may be overwritten.
 #[inline(always)]
 #[tactic(auto, using(crate::proofs::CodeTexts::code_text_start, crate::proofs::CodeTexts::start_written))]
 fn write_code(buffer: &mut [u8], at: usize, code: Code) -> usize
@@ -125,7 +127,9 @@ pub fn code_read(text: &[u8]) -> Result<Code, BadField>
 }
 
 /// Reads the code before the first blank of `line`, or up to its end, and returns it with the index after
-/// that blank, or of the end. Returns `BadField` if [`code_read`] does for the code's text.
+/// that blank, or of the end. The empty code is a missing value; any other is an optional minus and 1 to
+/// [`DIGITS_LIMIT`] digits, with or without an order (a digit of at most [`ORDER_LIMIT`]) and `&` before
+/// them. Returns `BadField` for any other text.
 #[inline(always)]
 pub fn code_before_blank(line: &[u8]) -> Result<(Code, usize), BadField>
     ensures value { option_map (λ cell. cell.0) (result_ok result) ≡ code_of (first_cell line.now) }
@@ -154,7 +158,8 @@ pub fn code_before_blank(line: &[u8]) -> Result<(Code, usize), BadField>
 }
 
 /// Returns how many characters the cell at index `at` of a line has, up to a blank or the line's end, but 16
-/// if it has more. A bit above the bits of the 16 characters ends the search, which saves a test.
+/// if it has more; 0 at a blank or the end, which `at` may not pass. A bit above the bits of the 16
+/// characters ends the search, which saves a test.
 #[inline(always)]
 pub fn cell_length(line: Padded<'_>, at: usize) -> usize
     requires within { at ≤ length (line_in line) }

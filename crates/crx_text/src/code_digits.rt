@@ -86,8 +86,9 @@ static SCALES: [u64; FEW + 1] = [
 ];
 
 // Returns the number of the `count` digits (at most 6) that begin `text`, or `None` unless exactly `count`
-// do. Reads 8 characters at once; the lanes after them never hold a digit. The weights of the two groups of
-// three digits depend on `count` only, so that the processor need not wait for the digits.
+// do. `text` has to have 8 characters, which are read at once; the lanes after them never hold a digit. The
+// weights of the two groups of three digits depend on `count` only, so that the processor need not wait for
+// the digits.
 #[inline(always)]
 pub(crate) fn row_number(text: &[u8], count: usize) -> Option<u64>
     requires row { ROW ≤ length text.now }
@@ -120,8 +121,8 @@ pub(crate) fn row_number(text: &[u8], count: usize) -> Option<u64>
 static PAIRS: [u8; 200] =
     *b"00010203040506070809101112131415161718192021222324252627282930313233343536373839404142434445464748495051525354555657585960616263646566676869707172737475767778798081828384858687888990919293949596979899";
 
-// Writes a number's minus, if any, and its digits from index `at` on, and returns the index after them. Up to
-// three more bytes are overwritten.
+// Writes a number's minus, if any, and its digits over `buffer` from index `at` on, and returns the index
+// after them. `buffer` has to have three more bytes, which may be overwritten.
 #[inline(always)]
 #[tactic(auto, using(crate::proofs::DigitPairs::signed_decimal_some))]
 pub(crate) fn write_signed(buffer: &mut [u8], at: usize, number: i64) -> usize
@@ -133,8 +134,8 @@ pub(crate) fn write_signed(buffer: &mut [u8], at: usize, number: i64) -> usize
     write_decimal(buffer, at + usize::from(number < 0), number.unsigned_abs())
 }
 
-// Writes a number without a sign from index `at` on, and returns the index after it. Up to three more bytes
-// may be overwritten.
+// Writes a number without a sign over `buffer` from index `at` on, and returns the index after it. `buffer`
+// has to have three more bytes, which may be overwritten.
 #[inline(always)]
 #[tactic(auto, using(itoa::proofs::Decimal::length_four, crate::proofs::DigitPairs::four_written))]
 fn write_decimal(buffer: &mut [u8], at: usize, size: u64) -> usize
@@ -156,7 +157,8 @@ fn write_decimal(buffer: &mut [u8], at: usize, size: u64) -> usize
     middle + 4
 }
 
-// Does the same as [`write_decimal`] for any count of digits: calls itself for the digits before the last 4.
+// Writes a number without a sign over `buffer` from index `at` on, and returns the index after it. `buffer`
+// has to have three more bytes, which may be overwritten. Calls itself for the digits before the last 4.
 #[tactic(auto, using(itoa::proofs::Decimal::length_four, crate::proofs::DigitPairs::four_written))]
 fn write_long(buffer: &mut [u8], at: usize, size: u64) -> usize
     requires { at + length (decimal size) + 3 ≤ length buffer.old }
@@ -172,8 +174,9 @@ fn write_long(buffer: &mut [u8], at: usize, size: u64) -> usize
     middle + 4
 }
 
-// Does the same as [`write_decimal`] for a number below 10,000: a word holds its four columns and is shifted
-// by the zeros before the number. No branch depends on the count of digits, which may differ by value.
+// Writes a number below 10,000 over `buffer` from index `at` on, and returns the index after it. `buffer` has
+// to have three more bytes, which may be overwritten, because a word holds the number's four columns, shifted
+// by the zeros before it. No branch depends on the count of digits, which may differ by value.
 #[inline(always)]
 #[tactic(auto, using(std::proofs::lemmas::Fmt::decimal_nonempty))]
 fn write_short(buffer: &mut [u8], at: usize, size: u32) -> usize
@@ -190,7 +193,8 @@ fn write_short(buffer: &mut [u8], at: usize, size: u32) -> usize
     at + 4 - zeros
 }
 
-// Returns the four digits of a number below 10,000, with zeros; the first one is the word's lowest byte.
+// Returns the characters of the four digits of a number below 10,000, with zeros at the beginning; the first
+// one is the word's lowest byte.
 #[inline(always)]
 #[tactic(auto, using(crate::proofs::DigitPairs::PAIRS_at))]
 fn four_digits(size: u32) -> u32
@@ -210,7 +214,8 @@ fn four_digits(size: u32) -> u32
     ])
 }
 
-// Writes the four bytes of a word over `buffer` from index `at` on, the lowest one first.
+// Writes the four bytes of a word over `buffer`, in which they have to fit, from index `at` on, the lowest
+// one first.
 #[inline(always)]
 fn write_word(buffer: &mut [u8], at: usize, word: u32)
     requires { at + 4 ≤ length buffer.old }

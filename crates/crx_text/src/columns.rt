@@ -14,7 +14,8 @@ pub fn character(line: &[u8], column: usize) -> u8
     line.get(column - 1).copied().unwrap_or(b' ')
 }
 
-/// Returns the `width` columns after the first `start` ones, as far as they are inside the line.
+/// Returns the `width` columns after the first `start` ones, as far as they are inside the line; empty if
+/// none is.
 fn part(line: &[u8], start: usize, width: usize) -> &[u8]
     ensures value { result.now ≡ take width (drop start line.now) }
 {

@@ -18,9 +18,10 @@ use thiserror::Error;
 #[error("bad character")]
 pub struct BadCharacter;
 
-/// Makes `out` the marks that lead from the text `old` to `new`: a blank if nothing changes, `&` if a
-/// character becomes blank, and otherwise the new character. Blanks at the end are dropped. Returns
-/// `BadCharacter`, with `out` unchanged, if `new` holds a byte outside 32 to 126, or `&`.
+/// Makes `out` the marks that lead from the text `old` to `new` (at most `LINE_LIMIT` bytes): a blank if
+/// nothing changes, `&` if a character becomes blank, and otherwise the new character. Blanks follow the
+/// shorter text; blanks at the end of the marks are dropped. Returns `BadCharacter`, with `out` unchanged, if
+/// `new` holds a byte outside 32 to 126, or `&`.
 pub fn diff_text(old: &Text, new: &[u8], out: &mut Text) -> Result<(), BadCharacter>
     requires { length new.now ≤ LINE_LIMIT }
     ensures plain { is_ok result ≡ list_all is_kept new.now }
@@ -36,7 +37,8 @@ pub fn diff_text(old: &Text, new: &[u8], out: &mut Text) -> Result<(), BadCharac
 }
 
 /// Appends to `out` the marks that lead from `old` to `new`, one for each position of the longer text, also
-/// blanks at the end. `out` has room for them; the bytes aren't tested.
+/// blanks at the end: a blank if nothing changes, `&` if a character becomes blank, and otherwise the new
+/// character. Blanks follow the shorter text. `out` has to have room for the marks; the bytes aren't tested.
 pub fn append_difference(old: &[u8], new: &[u8], out: &mut Text)
     requires old_fits { length out.old + length old.now ≤ LINE_LIMIT }
     requires new_fits { length out.old + length new.now ≤ LINE_LIMIT }
@@ -46,9 +48,10 @@ pub fn append_difference(old: &[u8], new: &[u8], out: &mut Text)
     out.len += write_by_position::<Marks>(old, new, &mut out.bytes[start..]);
 }
 
-/// Makes `out` the text that `marks` make from `old`: a blank leaves the old character, `&` becomes a blank,
-/// and any other character replaces the old one. Blanks at the end are dropped. Returns `BadCharacter`, with
-/// `out` unchanged, if `marks` holds a byte outside 32 to 126.
+/// Makes `out` the text that `marks` (at most `LINE_LIMIT` bytes) make from `old`: a blank leaves the old
+/// character, `&` becomes a blank, and any other character replaces the old one. Blanks follow the shorter of
+/// both; blanks at the end of `out` are dropped. Returns `BadCharacter`, with `out` unchanged, if `marks`
+/// holds a byte outside 32 to 126.
 pub fn patch_text(old: &Text, marks: &[u8], out: &mut Text) -> Result<(), BadCharacter>
     requires { length marks.now ≤ LINE_LIMIT }
     ensures printable { is_ok result ≡ list_all is_printable marks.now }
@@ -58,7 +61,10 @@ pub fn patch_text(old: &Text, marks: &[u8], out: &mut Text) -> Result<(), BadCha
     patch_bytes(old.bytes(), marks, out)
 }
 
-/// Makes `out` the text that `marks` make from `old`, with the rules and the error of [`patch_text`].
+/// Makes `out` the text that `marks` make from `old`, both at most `LINE_LIMIT` bytes: a blank leaves the old
+/// character, `&` becomes a blank, and any other character replaces the old one. Blanks follow the shorter of
+/// both; blanks at the end of `out` are dropped. Returns `BadCharacter`, with `out` unchanged, if `marks`
+/// holds a byte outside 32 to 126; `old` isn't tested.
 pub fn patch_bytes(old: &[u8], marks: &[u8], out: &mut Text) -> Result<(), BadCharacter>
     requires old_fits { length old.now ≤ LINE_LIMIT }
     requires marks_fit { length marks.now ≤ LINE_LIMIT }
@@ -74,7 +80,8 @@ pub fn patch_bytes(old: &[u8], marks: &[u8], out: &mut Text) -> Result<(), BadCh
     Ok(())
 }
 
-/// Returns whether marks can be made from `text`: all its bytes are 32 to 126, and none is `&`.
+/// Returns whether marks can be made from `text`: all its bytes are 32 to 126, and none is `&`; `true` if it
+/// is empty.
 pub fn all_kept(text: &[u8]) -> bool
     ensures value { result ≡ list_all is_kept text.now }
 {
@@ -98,7 +105,7 @@ impl Rule for Marks {
         }
     }
 
-    // Returns the marks of 16 pairs.
+    // Returns the marks of 16 pairs: a blank if both are the same, `&` for a new blank, and otherwise `new`.
     fn apply_to(old: u8x16, new: u8x16) -> u8x16 {
         let blank = u8x16::splat(b' ');
         let other = new.simd_eq(blank).select(u8x16::splat(b'&'), new);
@@ -123,7 +130,7 @@ impl Rule for Characters {
         }
     }
 
-    // Returns the characters that 16 marks leave.
+    // Returns the characters that 16 marks leave: `old` for a blank, a blank for `&`, and otherwise `mark`.
     #[tactic(auto, using(crate::proofs::LaneWords::character_lanes))]
     fn apply_to(old: u8x16, mark: u8x16) -> u8x16 {
         let blank = u8x16::splat(b' ');
@@ -135,7 +142,7 @@ impl Rule for Characters {
 pub(crate) static BLANKS: [u8; LINE_LIMIT] = [b' '; LINE_LIMIT];
 
 // Writes to `out` the characters that the rule makes from two texts, with blanks after the shorter one, and
-// returns their number, the length of the longer one.
+// returns their number, the length of the longer one. `out` has to be as long, and at most `LINE_LIMIT`.
 #[tactic(auto, using(crate::proofs::PositionParts::each_end))]
 fn write_by_position<R: Rule>(old: &[u8], other: &[u8], out: &mut [u8]) -> usize
     requires fits { (length old.now ≤ length out.old) × (length other.now ≤ length out.old) }

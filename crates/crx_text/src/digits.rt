@@ -8,7 +8,8 @@ ghost use Rattle.crx_text.specs.meaning.Numbers.{signed_number, without_minus};
 // The most columns of a number, with its point, that an `i64` holds however it is written.
 pub(crate) const WIDEST: usize = 19;
 
-// Returns the number that the digits of `before` and then `digits` make, or `None` if a byte is no digit.
+// Returns the number that the digits of `before` and then `digits` make, or `None` if a byte is no digit;
+// `before` if `digits` is empty. Together they may be at most 18 digits.
 #[tactic(auto, using(crate::proofs::PowersOfTen::next_digit))]
 pub(crate) fn digits_read(before: u64, digits: &[u8]) -> Option<u64>
     requires { (before + 1) * 10 ^ length digits.now ≤ 10 ^ (WIDEST - 1) }

@@ -62,7 +62,8 @@ fn of_groups(groups: u32x4) -> u64
     joined[0] * 1_000_000 + joined[1]
 }
 
-/// Returns the observation in plain columns (see [`is_plain`]), in thousandths.
+/// Returns the observation, in thousandths, of a cell's columns, which have to be plain: blanks, perhaps a
+/// minus, digits, and the point in column 11.
 #[inline(always)]
 pub(crate) fn value(columns: u8x16) -> i64
     requires { IsPlain columns }

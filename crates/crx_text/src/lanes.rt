@@ -10,7 +10,8 @@ use std::simd::prelude::*;
 /// How many characters a vector holds.
 pub(crate) const LANES: usize = 16;
 
-// Returns `others` with more lanes set: the lanes of characters outside 32 to 126 or, if `IS_TEXT`, of `&`.
+// Returns `others` with more lanes that aren't 0: the lanes of characters outside 32 to 126 or, if `IS_TEXT`,
+// of `&`.
 #[inline(always)]
 fn with_others<const IS_TEXT: bool>(others: u8x16, characters: u8x16) -> u8x16
     ensures both { list_all (λ lane. lane == 0) result
@@ -26,9 +27,9 @@ fn with_others<const IS_TEXT: bool>(others: u8x16, characters: u8x16) -> u8x16
     others | (unprintable | ampersands)
 }
 
-// Returns whether all characters are 32 to 126 and, if `IS_TEXT`, none is `&`. Nearly always they are, so one
-// test at the end is enough. From 8 characters on the two ends of a text are one vector: no test per
-// character for the 8 indicators of four types.
+// Returns whether all characters are 32 to 126 and, if `IS_TEXT`, none is `&`; `true` for the empty text.
+// Nearly always they are, so one test at the end is enough. From 8 characters on the two ends of a text are
+// one vector: no test per character for the 8 indicators of four types.
 pub(crate) fn all_allowed<const IS_TEXT: bool>(text: &[u8]) -> bool
     ensures { result ≡ list_all (is_allowed IS_TEXT) text.now }
 {
@@ -106,7 +107,8 @@ pub(crate) fn write_by_rule<R: Rule>(old: &[u8], other: &[u8], out: &mut [u8])
     }
 }
 
-// Writes the 16 characters that the rule makes at the indices from `at` on to the same places of `out`.
+// Writes the 16 characters that the rule makes at the indices from `at` on to the same places of `out`. All
+// three texts have the same length and have to have 16 characters from `at` on.
 #[inline(always)]
 fn write_lanes<R: Rule>(old: &[u8], other: &[u8], out: &mut [u8], at: usize)
     requires room { at + 16 ≤ length old.now }

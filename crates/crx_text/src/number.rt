@@ -38,9 +38,9 @@ pub fn obs_read(field: &[u8]) -> Result<Option<i64>, BadField>
     number_read(field, OBSERVATION_WIDTH, OBSERVATION_DECIMALS)
 }
 
-/// Reads the observation of a cell, whose last two columns are indicators, into `value`, as [`obs_read`]
-/// reads its field. Returns `None`, with `value` unchanged, if that is `BadField`. `Some(true)` says that
-/// [`all_kept`](crate::all_kept) is true of the indicators, `Some(false)` says nothing of them.
+/// Reads the observation of a cell, whose last two columns are indicators, into `value`: in thousandths, or
+/// `None` for 14 blanks. Returns `None`, with `value` unchanged, if the first 14 columns spell no
+/// observation. `Some(true)`: both indicators are printable and no `&`; `Some(false)`: that isn't known.
 ///
 /// The spellings that files have are read by lanes; few cells are blank, so that is tested after them. The
 /// result doesn't hold the value, which would be copied after each call.
@@ -66,8 +66,9 @@ pub fn obs_read_cell(cell: u8x16, value: &mut Option<i64>) -> Option<bool>
     None
 }
 
-// Reads the observation of a cell in an unusual spelling into `value`, and returns whether it is one; if not,
-// `value` is unchanged. Not inlined, because it would take its caller's registers.
+// Reads the observation in a cell's first 14 columns, in any spelling, into `value` (`None` for blanks), and
+// returns whether it is one; if not, `value` is unchanged. Not inlined, because it would take its caller's
+// registers.
 #[inline(never)]
 fn read_by_column(cell: u8x16, value: &mut Option<i64>) -> bool
     ensures value { MatchBool result (observation_of (take OBSERVATION_WIDTH cell) ≡ Some value.new)
@@ -83,7 +84,8 @@ fn read_by_column(cell: u8x16, value: &mut Option<i64>) -> bool
     true
 }
 
-/// Prints an observation, in thousandths, right justified into 14 columns, or blanks for `None`.
+/// Prints an observation, in thousandths, right justified into 14 columns, in which it has to fit, or blanks
+/// for `None`.
 #[inline(always)]
 pub fn obs_print(value: Option<i64>, field: &mut [u8; OBSERVATION_WIDTH])
     requires { ForSome value IsObservation }
@@ -94,8 +96,9 @@ pub fn obs_print(value: Option<i64>, field: &mut [u8; OBSERVATION_WIDTH])
     field.copy_from_slice(&cell[..OBSERVATION_WIDTH]);
 }
 
-/// Prints an observation's cell over the bytes from `at` on: the columns that [`obs_print`] prints, and the
-/// two `indicators` at index `first` and after it.
+/// Prints an observation's cell over the 16 bytes from `at` on: the observation, in thousandths, right
+/// justified into 14 columns, in which it has to fit, or blanks for `None`; and the two of `indicators` at
+/// index `first` and after it.
 #[inline(always)]
 pub fn obs_print_cell(
     value: Option<i64>,
@@ -118,7 +121,8 @@ pub fn obs_print_cell(
     bytes[end + 1] = strength;
 }
 
-// Prints an observation, or blanks for `None`, into the first 14 of 16 columns; may overwrite the last two.
+// Prints an observation, which has to fit, or blanks for `None`, into the first 14 of 16 columns; may
+// overwrite the last two.
 #[inline(always)]
 #[tactic(auto, using(crate::proofs::Spellings::printed_texts))]
 fn obs_print_row(value: Option<i64>, cell: &mut [u8])
@@ -141,8 +145,8 @@ fn obs_print_row(value: Option<i64>, cell: &mut [u8])
 }
 
 /// Reads a receiver clock offset of 15 columns, in units of 10^-12 seconds; a blank field is `None`, no
-/// offset. The spellings are those that [`obs_read`] reads, with 12 digits after the point. Returns
-/// `BadField` for any other text.
+/// offset. 12 digits follow the point. Blanks may be before the number, zeros at its beginning and a minus
+/// before 0, and the digits before the point may be missing. Returns `BadField` for any other text or length.
 pub fn clock_read(field: &[u8]) -> Result<Option<i64>, BadField>
     ensures value { result_ok result ≡ clock_of field.now }
     ensures in_range { IfOk result (λ value. IfSome value IsClock) }
@@ -150,8 +154,8 @@ pub fn clock_read(field: &[u8]) -> Result<Option<i64>, BadField>
     number_read(field, CLOCK_WIDTH, CLOCK_DECIMALS)
 }
 
-/// Prints a receiver clock offset, in units of 10^-12 seconds, right justified into 15 columns, or blanks for
-/// `None`.
+/// Prints a receiver clock offset, in units of 10^-12 seconds, right justified into 15 columns, in which it
+/// has to fit, or blanks for `None`.
 pub fn clock_print(value: Option<i64>, field: &mut [u8; CLOCK_WIDTH])
     requires { ForSome value IsClock }
     ensures written { field.new ≡ clock_text value }
@@ -160,7 +164,8 @@ pub fn clock_print(value: Option<i64>, field: &mut [u8; CLOCK_WIDTH])
 }
 
 // Reads a number of `width` columns, column by column, in units of its last digit; blanks are `None`.
-// `decimals`: the digits after its point. Returns `BadField` for any other text or length.
+// `decimals`: the digits after its point. Blanks and a minus may be before it, and the digits before the
+// point may be missing. Returns `BadField` for any other text or length.
 #[inline(never)]
 #[tactic(auto, using(crate::proofs::Sizes::number_parts, crate::proofs::Sizes::size_parts))]
 fn number_read(field: &[u8], width: usize, decimals: usize) -> Result<Option<i64>, BadField>
@@ -192,7 +197,8 @@ fn number_read(field: &[u8], width: usize, decimals: usize) -> Result<Option<i64
     Ok(Some(with_sign(is_below, size)))
 }
 
-// Prints a number, `decimals` digits after its point, right justified into `field`, or blanks for `None`.
+// Prints a number, `decimals` digits after its point, right justified into `field`, or blanks for `None`. The
+// number has to fit, with a digit before its point.
 #[inline(never)]
 #[tactic(auto, using(crate::proofs::Spellings::printed_texts))]
 fn number_print(value: Option<i64>, decimals: usize, field: &mut [u8])
@@ -210,7 +216,7 @@ fn number_print(value: Option<i64>, decimals: usize, field: &mut [u8])
 }
 
 // Prints a number without its sign, with `decimals` digits after its point, up to the last column of `field`,
-// and returns the index of its first digit. The columns before it don't change.
+// in which it has to fit, and returns the index of its first digit. The columns before it don't change.
 #[tactic(auto, using(crate::proofs::PowersOfTen::ten_pow_pos))]
 fn size_print(size: u64, decimals: usize, field: &mut [u8]) -> usize
     requires decimals { (0 < decimals) × (decimals < WIDEST) }
@@ -226,7 +232,7 @@ fn size_print(size: u64, decimals: usize, field: &mut [u8]) -> usize
     write_digits(size / unit, field, point)
 }
 
-// Prints a number with zeros before it, so that it fills the columns.
+// Prints a number with zeros before it, so that it fills the columns, in which it has to fit.
 fn padded_print(number: u64, columns: &mut [u8])
     requires { length (decimal number) ≤ length columns.old }
     ensures { columns.new ≡ zero_padded (length columns.old) number }
