@@ -78,8 +78,9 @@ impl Watch {
         }
     }
 
-    /// Counts a call on a device that has read or taken `moved` bytes. Returns `None` if the call fails,
-    /// otherwise how many of the `wanted` bytes are read or taken: all, or only those before `AfterBytes`.
+    /// Counts a call on a device that has read or taken `moved` bytes so far. Returns `None` if the call
+    /// fails, otherwise how many of the `wanted` bytes are read or taken: all, or only those before the
+    /// plan's `AfterBytes`. After the failure of a plan that fails only `once`, all.
     pub fn next_call(&mut self, moved: usize, wanted: usize) -> Option<usize>
         ensures fails { is_none result ≡ fails self.old moved }
         ensures count { IfSome result (λ n. n ≡ up_to_failure self.old moved wanted) }

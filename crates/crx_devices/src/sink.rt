@@ -84,7 +84,7 @@ impl FailingSink {
         self.failures
     }
 
-    /// Returns whether the last write or flush was a flush that succeeded.
+    /// Returns whether the last write or flush was a flush that succeeded; `false` before the first call.
     pub fn is_flushed(&self) -> bool
         ensures value { result ≡ self.now.flushed }
     {
@@ -107,8 +107,8 @@ impl Sink for FailingSink {
 
     ghost is_broken = { λ s. false };
 
-    /// Takes bytes as far as `at_most`, the room and the plan allow; fails by the plan, or if it can take
-    /// none.
+    /// Takes the first of `bytes`, as many as `at_most`, the room and the plan allow, and returns how many.
+    /// Returns `WriteFailed`, and takes none, if the plan says so or if it could take none of some bytes.
     fn write(&mut self, bytes: &[u8]) -> Result<usize, WriteFailed>
         ensures bound { IfOk result (λ n. n ≤ length bytes.now) }
         ensures bytes { IfOk result (λ n. take self.new.len self.new.memory.items
@@ -148,7 +148,8 @@ impl Sink for FailingSink {
         }
     }
 
-    /// Fails by its plan only.
+    /// Counts a flush, and returns `WriteFailed` if and only if the plan of flushes says so. Moves no bytes:
+    /// those taken are in memory.
     fn flush(&mut self) -> Result<(), WriteFailed>
         ensures none_taken { take self.new.len self.new.memory.items
             ≡ take self.old.len self.old.memory.items ++ [] }
@@ -174,7 +175,7 @@ impl Sink for FailingSink {
     /// Does nothing: the output counts as awaited from the beginning.
     fn await_output(&mut self) {}
 
-    /// Does nothing, and returns `true`: the bytes taken are kept already.
+    /// Does nothing, and returns `true`: the bytes taken are in memory already. It follows no plan.
     fn pass_on(&mut self) -> bool {
         true
     }

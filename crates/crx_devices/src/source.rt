@@ -19,7 +19,8 @@ pub struct FailingSource<'a> {
 }
 
 impl<'a> FailingSource<'a> {
-    /// Returns a source of `bytes` that returns at most `at_most`, at least 1, per call and fails by `plan`.
+    /// Returns a source of `bytes` whose reads fail by `plan`, and otherwise return at most `at_most` bytes.
+    /// `at_most` has to be at least 1.
     pub fn new(bytes: &'a [u8], at_most: usize, plan: Plan) -> Self
         requires { 0 < at_most }
         ensures left { result.left.now ≡ bytes.now }
@@ -84,12 +85,14 @@ impl Source for FailingSource<'_> {
 
     ghost waits = { λ s. true };
 
-    /// Returns `true` always.
+    /// Returns `true` always, although no read waits.
     fn may_wait(&self) -> bool {
         true
     }
 
-    /// Reads as many bytes as `at_most` and the plan allow; fails by the plan only, without a byte.
+    /// Reads the next bytes into the front of `buffer`, as many as it, `at_most` and the plan allow, and
+    /// returns how many: 0 only if none is left or `buffer` is empty. Returns `ReadFailed`, without a byte,
+    /// if and only if the plan says so.
     fn read(&mut self, buffer: &mut [u8]) -> Result<usize, ReadFailed>
         ensures bound { IfOk result (λ n. n ≤ length buffer.new) }
         ensures bytes { IfOk result (λ n. self.old.left.now ≡ take n buffer.new ++ self.new.left.now) }
