@@ -65,8 +65,9 @@ pub trait Engine {
     // The input ended after these lines.
     ghost has_ended: { Self → List InputLine → Type 0 };
 
-    /// Takes the next line; no line may be pending before. Returns its output if there is nothing to report;
-    /// after `None`, [`Engine::answer`] has the warning or fault.
+    /// Takes the next line of the input; no line of output may be pending before. Returns its output: none,
+    /// pending lines, or these and the line itself. Returns `None` if there is a warning or a fault, which
+    /// [`Engine::answer`] then returns.
     fn take(&mut self, line: Line<'_>) -> Option<LineOutput>
         requires next { IsNextLine (ready self.old) (taken self.old) (line_number line) }
         ensures stepped { HasStepped (filter self.old) (filter self.new)
@@ -84,8 +85,9 @@ pub trait Engine {
     fn answer(&self) -> Result<Step, At>
         ensures value { result ≡ answer self.now };
 
-    /// Takes line `number`, which is above the length limit, without its content; it is never fed again.
-    /// Returns the answer: quiet, pending lines, or a warning; as the error, the fault that ends the run.
+    /// Takes line `number`, which is above the length limit, without its content; it is never fed again. No
+    /// line of output may be pending before. Returns the answer: quiet, pending lines, or a warning; as the
+    /// error, the fault that ends the run.
     fn overlong(&mut self, number: u64) -> Result<Step, At>
         requires next { IsNextLine (ready self.old) (taken self.old) number }
         ensures stepped { HasStepped (filter self.old) (filter self.new) (ready self.new) result }
@@ -114,8 +116,9 @@ pub trait Engine {
             (ready new ≡ drop 1 (ready self.old)) × KeepsAllElse (filter self.old) (filter new) (shows self.old) (shows new)
             (has_ended self.old) (has_ended new))) };
 
-    /// Borrows all pending lines as one text, each followed by LF; afterwards none is pending. Returns
-    /// `None`, with nothing changed, if [`Engine::next_line`] has to be called instead.
+    /// Borrows all pending lines as one text, each followed by LF (an empty text if none is pending);
+    /// afterwards none is. Returns `None`, with nothing changed, if the engine doesn't have them as one text,
+    /// so that [`Engine::next_line`] has to be called instead.
     fn take_text(&mut self) -> Option<&[u8]>
         ensures value { IfSome result (λ text. text.now ≡ lines_text (ready self.old)) }
         ensures* after_borrow { sem 𝓛 (Rests Self.row self.entry (λ new.

@@ -71,8 +71,8 @@ pub(crate) fn finish<W: Sink, M: Sink>(
     }
 }
 
-/// Flushes `writer`, reports `OutOfMemory` at line 0, and returns it with status 1: the end of a run that was
-/// refused memory before its first line.
+/// Flushes `writer`, reports `OutOfMemory` at line 0, and returns it with status 1, even if the flush or the
+/// report fails: the end of a run that was refused memory before its first line.
 pub fn finish_without_memory<W: Sink, M: Sink>(
     writer: &mut W,
     messages: &mut M,

@@ -49,6 +49,7 @@ impl MessageLine {
 }
 
 /// Copies `text` into `bytes` so that it ends before index `end`, and returns the index of its first byte.
+/// `text` has to fit before `end`.
 #[inline(always)]
 fn put_before(text: &[u8], bytes: &mut [u8; MESSAGE_LIMIT], end: usize) -> usize
     requires { (length text.now ≤ end) × (end ≤ MESSAGE_LIMIT) }

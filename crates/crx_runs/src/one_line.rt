@@ -37,7 +37,8 @@ impl From<At> for Halt {
 }
 
 /// Reports the warning `notice` and returns `true`, or `Halt::Unreported` if `messages` fails. `_writer` is
-/// only in the contract: if its output is awaited, all earlier output was passed on, or that failed.
+/// only in the contract: if someone may be waiting for its output, all earlier output has to be passed on
+/// before, unless that failed.
 #[inline(always)]
 fn report_warning<W: Sink, M: Sink>(_writer: &W, messages: &mut M, notice: At) -> Result<bool, Halt>
     requires handed_on { (W.is_awaited _writer.now ≡ true → W.is_current _writer.now)
@@ -51,9 +52,10 @@ fn report_warning<W: Sink, M: Sink>(_writer: &W, messages: &mut M, notice: At) -
     }
 }
 
-/// Writes the lines that `step` made ready, or reports its warning; returns whether it warned. If output is
-/// awaited, the writer passes all earlier output on before a warning; if that fails, the next read reports
-/// it. Returns `Halt::Unwritten` or `Halt::Unreported` if a write fails.
+/// Writes the lines that `step` made ready, or reports its warning; returns whether it warned. Before a
+/// warning the writer passes earlier output on if someone may be waiting for it; if that fails, no error is
+/// returned here, but each later flush fails. Returns `Halt::Unwritten` if lines couldn't be written, and
+/// `Halt::Unreported` if the warning couldn't.
 #[inline(never)]
 fn write_step<E: Engine, W: Sink, M: Sink>(
     engine: &mut E,
@@ -109,8 +111,10 @@ pub(crate) fn feed_line<E: Engine, W: Sink, M: Sink>(
     }
 }
 
-/// Carries out the engine's stored answer to `line`, and feeds the line again if reading resumes at it.
-/// Returns whether there was a warning, or why the run ends: a fault, or a failed write or report.
+/// Carries out the engine's answer to `line`, for which [`feed_line`] has to have returned `false`: writes
+/// the pending lines or reports the warning, and feeds the line again, once, if reading resumes at it.
+/// Returns whether there was a warning, or why the run ends: a fault, which isn't reported yet, `Unwritten`
+/// if the writer failed, or `Unreported` if a warning couldn't be written.
 #[cold]
 #[inline(never)]
 pub(crate) fn carry_out_answer<E: Engine, W: Sink, M: Sink>(
@@ -143,7 +147,9 @@ pub(crate) fn carry_out_answer<E: Engine, W: Sink, M: Sink>(
 }
 
 /// Feeds `line` to the engine, again if reading resumes at it after a warning; writes its output and reports
-/// its warnings. Returns whether there was one, or why the run ends: a fault, or a failed write or report.
+/// its warnings. No line of output may be pending before. Returns whether there was a warning, or why the run
+/// ends: a fault, which isn't reported yet, `Unwritten` if the writer failed, or `Unreported` if a warning
+/// couldn't be written.
 #[inline(always)]
 pub fn take_line<E: Engine, W: Sink, M: Sink>(
     engine: &mut E,
@@ -163,8 +169,9 @@ pub fn take_line<E: Engine, W: Sink, M: Sink>(
     }
 }
 
-/// Passes line `number`, which is above the length limit, to the engine and carries out the answer. Returns
-/// whether there was a warning, or why the run ends: a fault, or a failed write or report.
+/// Passes line `number`, which is above the length limit, to the engine, and writes the pending lines or
+/// reports the warning. Returns whether there was a warning, or why the run ends: a fault, which isn't
+/// reported yet, `Unwritten` if the writer failed, or `Unreported` if a warning couldn't be written.
 #[cold]
 pub fn take_overlong<E: Engine, W: Sink, M: Sink>(
     engine: &mut E,
@@ -182,8 +189,10 @@ pub fn take_overlong<E: Engine, W: Sink, M: Sink>(
     write_step(engine, writer, messages, step)
 }
 
-/// Passes the end of the input to the engine, writes the output and reports the warning; doesn't flush.
-/// Returns whether there was a warning, or why the run ends: a fault, or a failed write or report.
+/// Passes the end of the input to the engine, and writes the output or reports the warning; doesn't flush. No
+/// line of output may be pending before. Returns whether there was a warning, or why the run ends: a fault,
+/// which isn't reported yet, `Unwritten` if the writer failed, or `Unreported` if a warning couldn't be
+/// written.
 pub fn take_end<E: Engine, W: Sink, M: Sink>(
     engine: &mut E,
     writer: &mut W,

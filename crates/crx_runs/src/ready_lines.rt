@@ -10,7 +10,8 @@ use crate::engine::{Engine, LineOutput};
 use crx_lines::{Sink, WriteFailed, write_all_counted};
 
 /// Writes the engine's pending lines, each with LF: usually as one text, one by one if the engine doesn't
-/// have them as one. Returns `WriteFailed` if the writer fails; lines may be pending or lost then.
+/// have them as one. Returns `WriteFailed` if the writer fails; some of the text may be written then, and
+/// lines may be pending or lost.
 #[inline(always)]
 pub(crate) fn write_ready<E: Engine, W: Sink>(
     engine: &mut E,
@@ -40,7 +41,7 @@ pub(crate) fn write_ready<E: Engine, W: Sink>(
 }
 
 /// Writes the pending lines and, if `handed_out` is `LineOutput::AsItIs`, then `content` with LF. Returns
-/// `WriteFailed` if the writer fails.
+/// `WriteFailed` if the writer fails; some of the text may be written then, and lines may be pending or lost.
 #[inline(never)]
 pub(crate) fn write_line_output<E: Engine, W: Sink>(
     engine: &mut E,

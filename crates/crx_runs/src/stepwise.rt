@@ -64,8 +64,10 @@ fn stop(ended: &mut Option<Halt>, answer: Result<bool, Halt>) -> StepOutcome
     }
 }
 
-/// Carries out the engine's stored answer to `line`. Returns whether it warned, or stores in `ended` why the
-/// run ended and returns `Stopped`.
+/// Carries out the engine's answer to `line`, for which [`feed_line`] has to have returned `false`: writes
+/// its output, reports its warnings, and feeds it again if reading resumes at it. Returns `Warned` or
+/// `Taken`, or stores in `ended` why the run ended (a fault, or a failed write or report) and returns
+/// `Stopped`.
 #[cold]
 #[inline(never)]
 fn take_answer<E: Engine, W: Sink, M: Sink>(
@@ -86,8 +88,9 @@ fn take_answer<E: Engine, W: Sink, M: Sink>(
     stop(ended, carry_out_answer(engine, writer, messages, line))
 }
 
-/// Marks the output as awaited if a read may have to wait, and passes all awaited output on; returns whether
-/// that succeeded. If not, the writer is flushed too, so that the failure is counted.
+/// Marks the output as awaited if a read may have to wait, because someone may then be waiting for it. Passes
+/// all output on if it is marked, now or earlier, and returns whether that succeeded. If not, the writer is
+/// flushed too, so that the failure is counted.
 #[cold]
 #[inline(never)]
 fn pass_on_before_wait<R: Source, W: Sink>(reader: &R, writer: &mut W) -> bool
@@ -146,10 +149,10 @@ impl<E: Engine + Drop> Run<E> {
     }
 
     /// Takes the next line: writes its output, reports its warnings, and returns `Warned` if there was one,
-    /// otherwise `Taken`; returns `AtEnd` if no line is left. A fault that isn't skipped, refused memory, or
-    /// a failed read, write or report ends the run: it is stored but not reported, and `Stopped` returned.
-    /// Before it reads on, the output and warnings of all earlier lines are written in order. The writer
-    /// passes all output on before a read that may have to wait and, if output is awaited, before a warning.
+    /// otherwise `Taken`; returns `AtEnd`, also again, if no line is left. A fault that isn't skipped,
+    /// refused memory, or a failed read, write or report ends the run: it is stored but not reported,
+    /// `Stopped` is returned, and no step may follow. Passes all earlier output on before a read that may
+    /// have to wait and, if someone may be waiting for it, before a warning.
     #[inline(always)]
     pub fn step<R: Source, W: Sink, M: Sink>(
         &mut self,
@@ -198,7 +201,9 @@ impl<E: Engine + Drop> Run<E> {
         StepOutcome::Stopped
     }
 
-    /// Takes line `number`, which is above the length limit, with the outcomes of [`Run::step`].
+    /// Passes line `number`, which is above the length limit, to the engine; writes its output or reports its
+    /// warning. Returns `Warned` or `Taken`, or stores why the run ended (a fault, or a failed write or
+    /// report) and returns `Stopped`.
     #[cold]
     #[inline(never)]
     fn take_overlong<W: Sink, M: Sink>(
@@ -221,7 +226,10 @@ impl<E: Engine + Drop> Run<E> {
         stop(&mut self.ended, answer)
     }
 
-    /// Reads on and takes the next line, as [`Run::step`] does. All output has been passed on before.
+    /// Reads the next line, writes its output and reports its warnings. Returns `Warned` or `Taken`, `AtEnd`
+    /// if no line is left, or stores why the run ended (a fault, or a failed read, write or report) and
+    /// returns `Stopped`. If a read may have to wait or someone may be waiting for output, all of it has to
+    /// be passed on before.
     #[cold]
     #[inline(never)]
     fn read_step<R: Source, W: Sink, M: Sink>(
@@ -255,8 +263,9 @@ impl<E: Engine + Drop> Run<E> {
         }
     }
 
-    /// Takes the end of the input, writes its output and reports its warning; doesn't flush. Returns whether
-    /// there was a warning, or why the run ends, which isn't stored for [`Run::ended`].
+    /// Passes the end of the input to the engine, after `AtEnd`, and writes its output or reports its
+    /// warning; doesn't flush. Returns whether there was a warning, or why the run ends: a fault, which isn't
+    /// reported, or a failed write or report. That isn't stored for [`Run::ended`].
     pub fn end<W: Sink, M: Sink>(&mut self, writer: &mut W, messages: &mut M) -> Result<bool, Halt>
         requires drained { E.ready self.old.engine ≡ [] }
         requires within { E.taken self.old.engine ≤ INPUT_LIMIT }
@@ -268,9 +277,10 @@ impl<E: Engine + Drop> Run<E> {
         take_end(&mut self.engine, writer, messages)
     }
 
-    /// Takes the run from before its first line to its end: reads the lines of the input, writes the output,
-    /// reports warnings, flushes, reports the fault, if any, and returns the outcome. The run stays with the
-    /// caller, who may ask its engine.
+    /// Takes the run from before its first line, without a step yet, to its end: reads the lines of the
+    /// input, writes the output, reports warnings, flushes, reports the fault, if any, and returns the
+    /// outcome: status 1 with the fault, 2 after warnings only, otherwise 0. The run stays with the caller,
+    /// who may ask its engine.
     #[inline(never)]
     pub fn run<R: Source, W: Sink, M: Sink>(
         &mut self,

@@ -60,7 +60,8 @@ impl<W: Write> Write for UntilFailure<W> {
         written
     }
 
-    /// Flushes as `inner` does. Returns `BrokenPipe`, without a call, after a failed write or flush.
+    /// Flushes `inner` and returns its result; any error, also an interruption, counts as a failure. After a
+    /// failed write or flush, returns `BrokenPipe` without calling `inner`.
     fn flush(&mut self) -> io::Result<()>
         ensures bytes { Keeps (W.contents self.old.inner) (W.contents self.new.inner) }
         ensures left_alone { self.old.failed ≡ true → self.new ≡ self.old }
