@@ -5,7 +5,8 @@ ghost use Rattle.crx_base.specs.declared.limits.TheConstants.{LINE_LIMIT};
 
 use crx_text::copies::{copy_text, put_blanks};
 
-/// Writes `flags`, two for each type, over the first of the indicators `held`, and blanks over the others.
+/// Writes `flags`, two for each type, over the beginning of `held`, and blanks over the rest of it. `flags`
+/// has to be no longer than `held`.
 pub fn put_flags(held: &mut [u8], flags: &[u8])
     requires fitting { length flags.now ≤ length held.old }
     requires few { length held.old ≤ LINE_LIMIT }

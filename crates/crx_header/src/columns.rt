@@ -40,7 +40,8 @@ pub fn is_labelled(line: &[u8], label: &[u8]) -> bool
     trim_end_columns(line, 61, 20) == label
 }
 
-/// Returns the three characters from column `first` on, unchecked, with blanks after the line's end.
+/// Returns the three characters from column `first` on (the first column is 1), unchecked, with blanks after
+/// the line's end.
 #[inline(always)]
 pub fn identifier(line: &[u8], first: usize) -> [u8; NAME_WIDTH]
     requires from_one { 1 ≤ first }
@@ -58,8 +59,8 @@ pub fn identifier(line: &[u8], first: usize) -> [u8; NAME_WIDTH]
     ]
 }
 
-/// Writes `name` over the three bytes from index `at` on. They are stored singly, because a copy would test
-/// whether the two texts overlap.
+/// Writes `name` over the three bytes from index `at` on, which `bytes` has to have. They are stored singly,
+/// because a copy would test whether the two texts overlap.
 #[inline(always)]
 pub fn put_identifier(bytes: &mut [u8], at: usize, name: [u8; NAME_WIDTH])
     requires { at + NAME_WIDTH ≤ length bytes.old }

@@ -34,8 +34,8 @@ pub fn is_event_flag(flag: u8) -> bool
     matches!(flag, b'2'..=b'6')
 }
 
-/// Returns how many records follow an event, from columns 33 to 35 of its first line: 0 if they are blank,
-/// and `None` if they hold no number.
+/// Returns how many records follow an event, from columns 33 to 35 of its first line: 0 if they are blank or
+/// after the line's end, and `None` if they hold anything but digits with blanks before or after them.
 pub fn records_in(line: &[u8]) -> Option<usize>
     ensures value { result ≡ records_in line.now }
 {
@@ -67,8 +67,9 @@ pub fn satellites(columns: &[u8]) -> Option<usize>
     satellites_by_count(columns)
 }
 
-/// Does the same as [`satellites`] for columns with `>` and the flag of an observation epoch, which it
-/// doesn't test. Returns `None` if a character isn't allowed, or columns 33 to 35 hold no count.
+/// Returns how many satellites `columns`, columns 1 to 41 of a line, announce; that they begin an observation
+/// epoch, with `>` and the flag 0 or 1, isn't tested. Returns `None` if columns 33 to 35 hold no count of at
+/// most [`SATELLITES_LIMIT`], or a character is `&` or outside 32 to 126.
 #[inline(always)]
 pub fn satellites_by_count(columns: &[u8]) -> Option<usize>
     ensures value { result ≡ (if list_all is_kept columns.now then satellites_in columns.now else None) }

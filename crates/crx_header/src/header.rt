@@ -11,9 +11,9 @@ use crx_text::columns::{character, trim_columns};
 
 /// Checks the first line of a header, `RINEX VERSION / TYPE` (RINEX 3.05, table A2).
 ///
-/// Returns `MissingVersion` if columns 61 to 80 hold another label; otherwise `UnsupportedVersion` if the
-/// version in columns 1 to 9 is none of `3`, `3.0` and `3.0` with one more digit; otherwise `NotObservation`
-/// if column 21 isn't `O`.
+/// Returns `MissingVersion` if columns 61 to 80 hold another label; otherwise `UnsupportedVersion` if columns
+/// 1 to 9, without blanks at their ends, are none of `3`, `3.0` and `3.0` with one more digit; otherwise
+/// `NotObservation` if column 21 isn't `O`.
 pub fn header_first(line: &[u8]) -> Result<(), Fault>
     ensures fault { MatchResult result
         (λ _. first_header_fault line.now ≡ None)
@@ -42,7 +42,8 @@ fn is_supported(version: &[u8]) -> bool
     }
 }
 
-/// Returns whether a line ends the header: `END OF HEADER` in columns 61 to 80 (RINEX 3.05, table A2).
+/// Returns whether a line ends the header: columns 61 to 80 hold `END OF HEADER` and only blanks after it
+/// (RINEX 3.05, table A2).
 pub fn is_end(line: &[u8]) -> bool
     ensures value { result ≡ is_end_of_header line.now }
 {

@@ -47,6 +47,8 @@ impl Identifiers {
     }
 
     /// Adds `name` and returns `true`. If it was in the set already, returns `false` and changes nothing.
+    /// `name` has to be a system's letter, a digit or a blank, and a digit; `G 1` and `G01` are two
+    /// identifiers.
     #[inline(always)]
     pub fn put(&mut self, name: [u8; NAME_WIDTH]) -> bool
         requires named { is_identifier name ≡ true }

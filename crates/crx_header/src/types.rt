@@ -58,12 +58,12 @@ impl Types {
     }
 
     /// Accepts a header line. If its label is `SYS / # / OBS TYPES` and column 1 isn't blank (RINEX 3.05,
-    /// table A2), the count in columns 4 to 6 becomes the count of the system in column 1. Any other line,
-    /// also a continuation, changes nothing.
+    /// table A2), the count in columns 4 to 6 becomes the count of the system in column 1, instead of an
+    /// earlier one. Any other line, also a continuation, changes nothing.
     ///
     /// Returns `BadTypesLine` if column 1 of such a line is no system's letter, or columns 4 to 6 hold no
     /// count from 1 to [`TYPES_LIMIT`]. Returns `OutOfMemory` only if such a line is valid and no system has
-    /// types yet, because room for all systems is reserved at once. After either the types are unchanged.
+    /// types yet, because memory for all systems is reserved at once. After either the types are unchanged.
     pub fn accept_line(&mut self, line: &[u8]) -> Result<(), Fault>
         // The accepted lines declare the types.
         ensures declared { (lines : List (List ℕ)) → self.old ≡ types_of lines
@@ -115,7 +115,8 @@ impl Types {
         self.counts.len()
     }
 
-    /// Returns the letter and the count of the system at place `index`, from 0, or `None` after the last.
+    /// Returns the letter and the count of the system at place `index`, from 0, in the order in which the
+    /// letters first appeared, or `None` after the last.
     #[inline(always)]
     pub fn entry(&self, index: usize) -> Option<(u8, usize)>
         ensures value { result ≡ slice_get self.now index }
@@ -126,9 +127,9 @@ impl Types {
     }
 }
 
-/// Replaces the count of the system with this `letter`, or adds it after the other counts. Reserves room for
-/// all systems if none has types yet, so that later no more room is needed. If that memory is refused, it
-/// returns `Refused` and changes nothing.
+/// Replaces the count of the system with this `letter`, or adds it after the other counts. Reserves memory
+/// for all systems if none has types yet, so that later no more is needed. Returns `Refused`, with nothing
+/// changed, if that memory is refused. `letter` has to be a system's letter.
 #[tactic(auto, using(crate::proofs::Counts::put_counts))]
 fn put(counts: &mut IndexMap<u8, usize>, letter: u8, count: usize) -> Result<(), Refused>
     requires counts { AreCounts counts.old.entries }
