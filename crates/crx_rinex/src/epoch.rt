@@ -53,10 +53,11 @@ impl Epoch {
         }
     }
 
-    /// Adds a row after the others.
+    /// Adds a row after the others. The epoch has to have fewer rows than its line announces.
     ///
-    /// Returns `RepeatedSatellite` if the epoch has a row with the same identifier already, otherwise
-    /// `OutOfMemory` if memory is refused. Either returns the row too, and leaves the epoch unchanged.
+    /// Returns `RepeatedSatellite` if the epoch has a row with the same identifier already; otherwise
+    /// `OutOfMemory` if it has no rows yet and memory is refused, because the first row reserves memory for
+    /// all that the line announces. Either returns the row too, and leaves the epoch unchanged.
     pub fn push(&mut self, row: SatRow) -> Result<(), (SatRow, Fault)>
         requires { is_full_epoch self.old ≡ false }
         ensures ok { OnOk result (self.new ≡ with_row self.old row) }
@@ -84,7 +85,8 @@ impl Epoch {
         Ok(())
     }
 
-    /// Returns whether the epoch has all rows that its line announces.
+    /// Returns whether the epoch has all rows that its line announces; `true` from the beginning if it
+    /// announces none.
     pub fn is_full(&self) -> bool
         ensures value { result ≡ is_full_epoch self.now }
         ensures sound { IsSoundEpoch self.now }

@@ -39,8 +39,8 @@ impl Model for EpochLine {
 }
 
 impl EpochLine {
-    /// Makes a line of `columns`, columns 1 to 41, and `clock`, an offset in units of 10^-12 seconds, or
-    /// none.
+    /// Makes a line of `columns`, columns 1 to 41, and `clock`, an offset in units of 10^-12 seconds that has
+    /// to fit 15 columns, or none.
     ///
     /// Returns `BadEpoch` unless the columns begin an observation epoch: `>` in column 1, a flag of 0 or 1 in
     /// column 32, a count of satellites within the limit in columns 33 to 35, and only characters from 32 to

@@ -9,8 +9,9 @@ ghost use Rattle.crx_header.specs.declared.identifiers.Identifiers.TheInside.{In
 ghost use Rattle.crx_rinex.specs.declared.epoch_line.EpochLine.TheInside.{Inside as EpochLineInside};
 ghost use Rattle.crx_rinex.specs.declared.epoch.Epoch.TheInside.{Inside as EpochInside};
 
-/// Lists everything that an epoch and the types hold: a value with these parts of another one is equal to it.
-/// So it has no further part.
+/// Does nothing at run time. Its contract states which parts the types, rows, row buffers, sets of
+/// identifiers, epoch lines and epochs have: a value that takes over these parts of another is equal to it,
+/// so there are no further parts.
 pub fn epochs_hold()
     ensures types { (one other : TypesInside) → types_with one other ≡ other }
     ensures row { (one other : SatRowInside) → row_with_parts one other ≡ other }

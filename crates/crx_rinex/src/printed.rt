@@ -46,8 +46,8 @@ impl Printed {
         }
     }
 
-    /// Borrows the next pending line, without its line end, and removes it from the pending lines. Returns
-    /// `None` if none is pending.
+    /// Borrows the next pending line, without its line end, and removes it from the pending lines: first the
+    /// epoch line, then a line for each satellite. Returns `None` if none is pending.
     #[tactic(auto, using(crate::proofs::Lines::each_line))]
     pub fn next_line(&mut self) -> Option<&[u8]>
         ensures value { option_copied result ≡ slice_get self.old 0 }
@@ -63,7 +63,8 @@ impl Printed {
     }
 }
 
-/// Replaces `text` by the printed epoch line `head`, without blanks at its end.
+/// Replaces `text` by the printed epoch line `head`, which is columns 1 to 41 and the clock offset, if any,
+/// without blanks at its end.
 pub fn print_head(head: &EpochLine, text: &mut Text)
     ensures value { text.new ≡ printed_head head.now.head head.now.clock }
 {

@@ -24,8 +24,8 @@ const ODD: [u8; CELL_WIDTH] = *b"000000000000.000";
 
 /// Returns `true` only if the line, read as a satellite line, is printed as the same bytes, as nearly every
 /// one is: it ends with its identifier, a field or an indicator, which isn't blank, and each field has a
-/// digit before its point, and no zero before its number or after a minus. `false` says nothing, and neither
-/// does `true` if the line can't be read.
+/// digit before its point, and no zero before its number or after a minus. `false`, as for an empty line,
+/// says nothing, and neither does `true` if the line can't be read.
 #[inline(always)]
 pub fn has_printed_form(line: &[u8]) -> bool
     ensures form { OnTrue result ((types : List Count) (row : Row) → row_of types line.now ≡ Ok row → printed_row row ≡ line.now) }
@@ -43,7 +43,8 @@ pub fn has_printed_form(line: &[u8]) -> bool
     true
 }
 
-/// Returns `true` only if the field in the last 14 lanes is surely its value's text; `false` says nothing.
+/// Returns `true` only if the field in the last 14 of `columns`, if it can be read, is surely printed as the
+/// same bytes; `false` says nothing.
 #[inline(always)]
 fn is_printed_field(columns: u8x16) -> bool
     ensures form { OnTrue result ((value : Option ℤ) → observation_of (drop BEFORE columns) ≡ Some value

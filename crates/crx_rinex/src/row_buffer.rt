@@ -49,8 +49,8 @@ impl Model for RowBuffer {
 }
 
 impl RowBuffer {
-    /// Returns a buffer before the first line: it has the row of a satellite with one type, whose value is
-    /// missing.
+    /// Returns a buffer before the first line: it has the row of satellite G01 with one type, whose value is
+    /// missing and whose indicators are blank.
     pub fn new() -> RowBuffer
         ensures value { result ≡ blank_row (codes "G01") 1 }
     {
@@ -63,7 +63,8 @@ impl RowBuffer {
         }
     }
 
-    /// Reads a satellite line over the row before. `types`: the counts of types that the header declared.
+    /// Reads a satellite line, whose row replaces the row before. `types`: the counts of types that the
+    /// header declared.
     ///
     /// Returns `BadSatellite` if columns 1 to 3 hold no identifier of a system with types; otherwise
     /// `BadField` if a field is neither blank nor a number of format F14.3, or more than blanks follow the
@@ -100,7 +101,7 @@ impl RowBuffer {
         Err(fault)
     }
 
-    /// Returns the identifier: the system's letter and the satellite's number.
+    /// Returns the identifier: the system's letter and the satellite's number; `G01` before the first line.
     #[inline(always)]
     pub fn name(&self) -> &[u8; NAME_WIDTH]
         ensures value { result.now ≡ self.now.name }
@@ -109,8 +110,8 @@ impl RowBuffer {
         &self.name
     }
 
-    /// Returns the values, one for each type, in thousandths of its unit, or `None` if the observation is
-    /// missing.
+    /// Returns the last row's values in thousandths of their units, one for each type; `None` if an
+    /// observation is missing. Before the first line there is one, which is missing.
     #[inline(always)]
     pub fn values(&self) -> &[Option<i64>]
         ensures value { result.now ≡ self.now.values }
@@ -119,8 +120,8 @@ impl RowBuffer {
         &self.values[..self.count]
     }
 
-    /// Returns an index from which on all values are missing. It need not be the least one: values before it
-    /// may be missing too.
+    /// Returns an index, at most the number of types, from which on all values are missing. It need not be
+    /// the least one: values before it may be missing too. It is 0 before the first line.
     #[inline(always)]
     pub fn filled_count(&self) -> usize
         ensures missing { AreMissingFrom result self.now.values }
@@ -128,7 +129,8 @@ impl RowBuffer {
         self.filled
     }
 
-    /// Returns the indicators, two for each type: loss of lock and signal strength.
+    /// Returns the last row's indicators, two for each type: loss of lock and signal strength. Before the
+    /// first line there are two blanks.
     #[inline(always)]
     pub fn flags(&self) -> &[u8]
         ensures value { result.now ≡ self.now.flags }
@@ -137,8 +139,8 @@ impl RowBuffer {
         &self.flags[..2 * self.count]
     }
 
-    /// Returns how many values aren't missing. The loop is compiled to vectors: no step per value, as an
-    /// iterator's count has.
+    /// Returns how many values of the last row aren't missing: 0 before the first line. The loop is compiled
+    /// to vectors: no step per value, as an iterator's count has.
     pub fn observations(&self) -> usize
         ensures value { result ≡ observations_of self.now }
         ensures within { result ≤ TYPES_LIMIT }
@@ -151,7 +153,7 @@ impl RowBuffer {
         count
     }
 
-    /// Replaces `text` by the printed satellite line, without blanks at its end.
+    /// Replaces `text` by the last row's printed satellite line, without blanks at its end.
     pub fn print(&self, text: &mut Text)
         ensures value { text.new ≡ printed_row self.now }
     {
@@ -174,10 +176,11 @@ fn are_kept(is_seen: bool, flags: &[u8]) -> bool
     is_seen || all_kept(flags)
 }
 
-/// Reads the cells that the line reaches, at most `count`, the last of which its end may cut, into `values`
-/// and `flags`. Returns their number, and `true` if all their indicators were seen to be allowed (`false`
-/// says nothing). Returns `None` if a field is neither blank nor a number, or more than blanks follow the
-/// last of `count` cells; then some cells may have been stored.
+/// Reads the first cells of the line into `values` and `flags`: the whole ones, at most `count`, and, if
+/// these are fewer, the next one, which the line's end cuts or leaves blank. Returns their number, and `true`
+/// if all their indicators were seen to be allowed (`false` says nothing). Returns `None` if a field is
+/// neither blank nor a number, or more than blanks follow the last of `count` cells; then some cells may have
+/// been stored.
 #[inline(always)]
 fn read_first_cells(
     line: Padded<'_>,
@@ -211,8 +214,9 @@ fn read_first_cells(
 }
 
 /// Stores the value and the indicators of `cell`, of 16 columns, as those of type `k`, from 0. Returns `true`
-/// if the indicators were seen to be allowed, as [`obs_read_cell`] does; `false` says nothing. Returns `None`
-/// and stores nothing if the field is neither blank nor a number. The two indicators are one store.
+/// if the indicators were seen to be characters 32 to 126 other than `&`; `false` says nothing. Returns
+/// `None` and stores nothing if the field is neither blank nor a number of format F14.3. The two indicators
+/// are one store.
 #[inline(always)]
 pub(crate) fn read_cell(
     cell: u8x16,
@@ -236,7 +240,8 @@ pub(crate) fn read_cell(
     Some(is_seen)
 }
 
-/// Returns the 16 columns after the last whole cell, with blanks after the line's end.
+/// Returns the 16 columns after the last whole cell, with blanks after the line's end; 16 blanks if nothing
+/// follows that cell, or the line has at most three columns.
 #[inline(always)]
 fn cut_columns(line: Padded<'_>) -> u8x16
     ensures { result ≡ columns (line_in line.entry) (CELL_WIDTH * ((length (line_in line.entry) - NAME_WIDTH) / CELL_WIDTH)

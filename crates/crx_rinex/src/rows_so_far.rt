@@ -19,7 +19,7 @@ impl Model for RowsSoFar {
 }
 
 impl RowsSoFar {
-    /// Returns an empty list of rows.
+    /// Returns an empty list of rows, which only contracts read: it has no content at run time.
     pub fn new() -> RowsSoFar
         ensures rows { result.rows ≡ [] }
     {
@@ -28,7 +28,7 @@ impl RowsSoFar {
         }
     }
 
-    /// Adds a row after the others.
+    /// Adds a row after the others, for contracts only: it does nothing at run time.
     #[inline(always)]
     pub fn add(&mut self, _row: &RowBuffer)
         ensures rows { self.new.rows ≡ self.old.rows ++ _row.now ∷ [] }

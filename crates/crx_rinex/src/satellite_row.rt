@@ -49,7 +49,7 @@ impl Model for SatRow {
 
 impl SatRow {
     /// Reads a satellite line of any length, with the counts of types that the header declared (RINEX 3.05,
-    /// table A3).
+    /// table A3). Columns after its end count as blank: their values are missing.
     ///
     /// Returns `BadSatellite` if columns 1 to 3 hold no identifier (a letter that has types, a digit or a
     /// blank, a digit); otherwise `OutOfMemory` if memory is refused; otherwise `BadField` if a field is
@@ -86,8 +86,8 @@ impl SatRow {
         })
     }
 
-    /// Returns a row with `m` missing values and blank indicators. Returns `OutOfMemory`, its only error, if
-    /// memory is refused.
+    /// Returns a row with `m` missing values and blank indicators. `name` has to be an identifier, and `m`
+    /// from 1 to [`TYPES_LIMIT`]. Returns `OutOfMemory`, its only error, if memory is refused.
     pub fn blank(alloc: Global, name: [u8; NAME_WIDTH], m: usize) -> Result<SatRow, Fault>
         requires named { is_identifier name ≡ true }
         requires allowed { IsAllowedCount m }
@@ -135,7 +135,8 @@ impl SatRow {
         &self.flags
     }
 
-    /// Replaces the value of type `k`, from 0, by `value`, in thousandths of its unit; `None` is missing.
+    /// Replaces the value of type `k`, from 0, by `value`, in thousandths of its unit; `None` is missing. `k`
+    /// has to be below the number of types, and `value` has to fit 14 columns.
     pub fn set(&mut self, k: usize, value: Option<i64>)
         requires within { k < length self.old.values }
         requires ranged { ForSome value IsObservation }
@@ -145,6 +146,8 @@ impl SatRow {
     }
 
     /// Writes `flags` over the first indicators, two for each type; the other indicators become blank.
+    /// `flags` has to have at most two for each type of the row, all of them characters 32 to 126 other than
+    /// `&`.
     pub fn set_flags(&mut self, flags: &[u8])
         requires fitting { length flags.now ≤ 2 * length self.old.values }
         requires kept { list_all is_kept flags.now ≡ true }
@@ -162,7 +165,8 @@ impl SatRow {
     }
 }
 
-/// Returns `m` missing values, and two blank indicators for each, or `Refused` if memory is refused.
+/// Returns `m` missing values, and two blank indicators for each, or `Refused` if memory is refused. `m` has
+/// to be at most [`TYPES_LIMIT`].
 fn blank_cells(alloc: Global, m: usize) -> Result<(Vec<Option<i64>>, Vec<u8>), Refused>
     requires allowed { m ≤ TYPES_LIMIT }
     ensures values { IfOk result (λ cells. cells.0.items ≡ replicate m None) }
@@ -178,7 +182,8 @@ fn blank_cells(alloc: Global, m: usize) -> Result<(Vec<Option<i64>>, Vec<u8>), R
     Ok((values, flags))
 }
 
-/// Replaces `text` by the printed satellite line of these parts of a row, without blanks at its end.
+/// Replaces `text` by the printed satellite line of a row with these parts, without blanks at its end.
+/// `flags`: two indicators for each of `values`.
 pub(crate) fn print_row(
     name: [u8; NAME_WIDTH],
     values: &[Option<i64>],
@@ -194,8 +199,9 @@ pub(crate) fn print_row(
     text.trim_end_blanks();
 }
 
-/// Prints cells over the bytes from index `at` on, each with its value and two indicators, and returns the
-/// index after them.
+/// Prints a cell for each of `values` over the bytes from index `at` on, which `bytes` has to have: the
+/// value, or 14 blanks if it is missing, and two of `flags`. Returns the index after the last cell, which is
+/// `at` without values.
 fn print_cells(values: &[Option<i64>], flags: &[u8], bytes: &mut [u8], at: usize) -> usize
     requires ranged { All IsValue values.now }
     requires paired { length flags.now ≡ 2 * length values.now }
