@@ -59,7 +59,8 @@ impl<const WIDTH: usize> Model for Arc<WIDTH> {
 }
 
 /// Replaces the first `order` differences, of order 0, 1, .. at the previous value, by the differences of
-/// order 0 to `order` at `value`, and returns the last of these.
+/// order 0 to `order` at `value`, and returns the last of these, which is `value` if `order` is 0. `order`
+/// has to be at most [`ORDER_LIMIT`].
 fn advance_differences(differences: &mut [i64; KEPT_LIMIT], order: usize, value: i64) -> i64
     requires few { order ≤ ORDER_LIMIT }
     requires below { AreBelow value_bound (take order differences.old) }
@@ -77,7 +78,8 @@ fn advance_differences(differences: &mut [i64; KEPT_LIMIT], order: usize, value:
     next
 }
 
-/// Replaces the first four differences: `value` has order 0, the others have order 1 to 3.
+/// Replaces the first four of `differences`, which has at least four: `value` has order 0, the others have
+/// order 1 to 3.
 #[inline(always)]
 fn put_four(differences: &mut [i64], value: i64, first: i64, second: i64, third: i64)
     requires { 3 < length differences.old }
@@ -90,7 +92,7 @@ fn put_four(differences: &mut [i64], value: i64, first: i64, second: i64, third:
 }
 
 /// Returns the next value of an arc: the sum of `number`, its next difference, and `differences`, the latest
-/// differences of all lower orders.
+/// differences of all lower orders; `number` itself if there are none.
 fn value_after(differences: &[i64], number: i64) -> i64
     requires few { length differences.now ≤ ORDER_LIMIT }
     requires below { AreBelow value_bound differences.now }
@@ -117,9 +119,10 @@ impl<const WIDTH: usize> Arc<WIDTH> {
         }
     }
 
-    /// Returns the coded value of `value`, which the arc then contains. If `value` is missing, this is
-    /// `Missing`, and the arc ends. A first value is coded as itself, with the order [`WRITTEN_ORDER`]; any
-    /// other as the next difference of the arc's order, or of a lower one while the arc has too few values.
+    /// Returns the coded value of `value`, which the arc then contains; `value` has to fit `WIDTH` columns.
+    /// If it is missing, this is `Missing`, and the arc ends. A first value is coded as itself, with the
+    /// order [`WRITTEN_ORDER`]; any other as the next difference of the arc's order, or of a lower one while
+    /// the arc has too few values.
     #[inline(always)]
     pub fn push(&mut self, value: Option<i64>) -> Code
         requires { IsMissingOrWithin WIDTH value }
@@ -150,9 +153,9 @@ impl<const WIDTH: usize> Arc<WIDTH> {
         Code::Step(highest)
     }
 
-    /// Codes `value` like [`Arc::push`], without a loop, if its coded value is a difference of order 3, and
-    /// returns that. Returns `None`, with the arc unchanged, if it has another order or fewer than four
-    /// values.
+    /// Adds `value`, which has to fit `WIDTH` columns, to the arc and returns its difference of order 3,
+    /// which is its coded value, without a loop. Returns `None`, with the arc unchanged, if the arc has
+    /// another order than 3 or fewer than four values.
     #[inline(always)]
     pub(crate) fn push_third(&mut self, value: i64) -> Option<i64>
         requires { IsWithin WIDTH value }
@@ -217,9 +220,9 @@ impl<const WIDTH: usize> Arc<WIDTH> {
         }
     }
 
-    /// Applies the difference `number` like [`Arc::apply`], but without a loop, if it is of order 3, and
-    /// returns the value. Returns `None`, with the arc unchanged, if it has another order or fewer than four
-    /// values, or if the value doesn't fit `WIDTH` columns.
+    /// Adds to the arc the value that `number`, a difference of order 3, codes, and returns the value,
+    /// without a loop. Returns `None`, with the arc unchanged, if the arc has another order than 3 or fewer
+    /// than four values, or if the value doesn't fit `WIDTH` columns.
     #[inline(always)]
     pub(crate) fn apply_third(&mut self, number: i64) -> Option<i64>
         requires { IsShort number }
@@ -254,7 +257,7 @@ impl<const WIDTH: usize> Arc<WIDTH> {
         Some(self.differences[0])
     }
 
-    /// Ends the arc, which then has no values.
+    /// Ends the arc, which then has no values; the next one begins a new arc.
     #[inline(always)]
     pub fn end(&mut self)
         ensures ended { self.new ≡ None }

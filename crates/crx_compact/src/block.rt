@@ -109,7 +109,8 @@ impl Block {
         self.front = FIRST_LINES;
     }
 
-    /// Puts `line`, without LF, in front of the pending lines. There is space for two such lines.
+    /// Puts `line`, without LF, in front of the pending lines. It may be called at most twice after
+    /// [`Block::new`] or [`Block::clear`], with at most [`EPOCH_TEXT_LIMIT`] bytes each time.
     pub(crate) fn put_front(&mut self, line: &[u8])
         requires front { 0 < self.old.front }
         requires short { length line.now ≤ EPOCH_TEXT_LIMIT }
@@ -125,7 +126,8 @@ impl Block {
         self.front -= 1;
     }
 
-    /// Appends `line`, without LF, after the other lines.
+    /// Appends `line`, without LF and of at most `LINE_LIMIT` bytes, after the other lines. At most
+    /// [`LINES_LIMIT`] lines may be appended after [`Block::new`] or [`Block::clear`].
     pub(crate) fn put(&mut self, line: &[u8])
         requires left { 0 < self.old.left }
         requires short { length line.now ≤ LINE_LIMIT }
@@ -139,8 +141,10 @@ impl Block {
         self.filled += line.len() + 1;
     }
 
-    /// Appends the compact line of a row, coded after `satellite`, which then includes the row. Only the
-    /// first `filled` of `values` may be present; `flags` are two indicators for each.
+    /// Appends the compact line of a row, coded after the earlier rows of `satellite`, which then includes
+    /// the row and has to have memory for its types. Only the first `filled` of `values` may be present;
+    /// `flags` are two indicators for each value. At most [`LINES_LIMIT`] lines may be appended after
+    /// [`Block::new`] or [`Block::clear`].
     #[inline(always)]
     pub(crate) fn put_row(
         &mut self,
@@ -168,7 +172,8 @@ impl Block {
         self.filled = start + (length + 1);
     }
 
-    /// Appends the RINEX line of the newest row of `satellite`, whose identifier is `name`.
+    /// Appends the RINEX line of the newest row of `satellite`, whose identifier is `name`, without blanks at
+    /// its end. At most [`LINES_LIMIT`] lines may be appended after [`Block::new`] or [`Block::clear`].
     #[inline(always)]
     pub(crate) fn put_printed(&mut self, name: &[u8; NAME_WIDTH], satellite: &SatelliteHistory)
         requires left { 0 < self.old.left }
@@ -210,7 +215,8 @@ impl Block {
         Some(&self.bytes[start..end])
     }
 
-    /// Borrows the text of all pending lines, each followed by LF. After this call none is pending.
+    /// Borrows the text of all pending lines, each followed by LF; it is empty if none is pending. After this
+    /// call none is pending.
     pub fn take_text(&mut self) -> &[u8]
         ensures value { result.now ≡ lines_text self.old.lines }
         ensures* after_borrow { sem 𝓛 (Rests the_row self.entry (λ new.
@@ -223,7 +229,8 @@ impl Block {
     }
 }
 
-/// Lengthens the list, if necessary, so that `room` bytes follow its first `filled`; it has the memory.
+/// Lengthens `bytes`, if necessary, so that at least `room` bytes follow its first `filled`. Memory for these
+/// has to be reserved already.
 #[inline(always)]
 fn use_bytes(bytes: &mut Vec<u8>, filled: usize, room: usize)
     requires memory { filled + room ≤ vec_capacity bytes.old }
@@ -235,8 +242,8 @@ fn use_bytes(bytes: &mut Vec<u8>, filled: usize, room: usize)
     }
 }
 
-/// Lengthens a list to `count` items by copies of `item`. It has the memory. Meanwhile the list is held as
-/// a value, because then one call of the C library fills it.
+/// Lengthens a list to `count` items by copies of `item`. It has to have the memory, and no more items than
+/// `count`. Meanwhile a local variable owns the list, because then one call of the C library fills it.
 #[cold]
 #[inline(never)]
 fn lengthen<T: Copy>(items: &mut Vec<T>, count: usize, item: T)

@@ -26,7 +26,8 @@ use crx_text::{
 pub const CELL_ROOM: usize = DIGITS_LIMIT + 6;
 
 /// Adds `value` to `arc`, writes its coded value and a blank from index `at` on, and returns the index after
-/// them; two more bytes may be overwritten. For the few coded values that aren't differences of order 3.
+/// them; two more bytes may be overwritten. `bytes` has to have [`CELL_ROOM`] bytes from `at` on. For the few
+/// coded values that aren't differences of order 3.
 #[cold]
 #[inline(never)]
 fn write_value(arc: &mut ObsArc, value: i64, bytes: &mut [u8], at: usize) -> usize
@@ -38,7 +39,7 @@ fn write_value(arc: &mut ObsArc, value: i64, bytes: &mut [u8], at: usize) -> usi
     write_cell(bytes, at, code)
 }
 
-/// Cuts or extends `arcs` to `count` items, for which there is memory; new arcs have no values.
+/// Cuts or extends `arcs` to `count` items, for which memory has to be reserved; new arcs have no values.
 #[cold]
 #[inline(never)]
 fn keep_arcs(arcs: &mut Vec<ObsArc>, count: usize)
@@ -53,9 +54,11 @@ fn keep_arcs(arcs: &mut Vec<ObsArc>, count: usize)
 }
 
 /// Writes the coded values of `values`, one for each type, and a blank after each, from index `at` on, adds
-/// the values to the arcs, and returns the index after the last blank. Only the first `filled` values may be
-/// present, and only their arcs stay stored. A type without a stored arc has one without values. Up to two
-/// more bytes may be overwritten. Inlined: no call per line.
+/// the values to the arcs, and returns the index after the last blank. A missing value is written as its
+/// blank only, and ends its arc. Only the first `filled` values may be present, and only their arcs stay
+/// stored. A type without a stored arc has one without values. Up to two more bytes may be overwritten.
+/// Memory for an arc of each type has to be reserved, and `bytes` has to have [`CELL_ROOM`] bytes for each.
+/// Inlined: no call per line.
 ///
 /// Most values are missing, or coded as differences of order 3: these are written without a call and without
 /// a test of the coded value.
@@ -102,7 +105,8 @@ pub(crate) fn write_cells(
 }
 
 /// Reads the cell at the beginning of `text`, whatever its coded value, applies it to the arc at `index`, and
-/// returns the index after the cell and its blank. For the few cells that [`read_cell_fast`] doesn't read.
+/// returns the index after the cell and its blank. An empty cell ends the arc. For the few cells that
+/// [`read_cell_fast`] doesn't read.
 ///
 /// Returns `BadField` if the cell is no coded value, `NoArc` if it is a difference and the arc has no values,
 /// and `OutOfRange` if the value doesn't fit its columns. The arcs are then unchanged.
@@ -118,9 +122,10 @@ fn read_cell(arcs: &mut [ObsArc], index: usize, text: &[u8]) -> Result<usize, Fa
     Ok(length)
 }
 
-/// Applies the difference `number` and returns its value. Returns `None` if the arc has no values or the
-/// value doesn't fit its columns; then the arc is unchanged. It is called for the few differences that aren't
-/// of order 3 or whose value doesn't fit, and keeps the `Result` of [`ObsArc::apply`] out of the loop.
+/// Adds to `arc` the value that the difference `number` codes, and returns the value. Returns `None` if the
+/// arc has no values or the value doesn't fit its columns; then the arc is unchanged. It is called for the
+/// few differences that aren't of order 3 or whose value doesn't fit, and keeps the `Result` of
+/// [`ObsArc::apply`] out of the loop.
 #[inline(never)]
 fn apply_step(arc: &mut ObsArc, number: i64) -> Option<i64>
     requires { IsShort number }
@@ -134,10 +139,10 @@ fn apply_step(arc: &mut ObsArc, number: i64) -> Option<i64>
     }
 }
 
-/// Reads the cell at index `at` of `line` if it is empty or a difference, as most cells are, applies it to
-/// the arc at `index`, and returns how many bytes it takes with its blank. Returns `None` if it has another
-/// coded value, more than six digits, or a fault; then the arcs are unchanged. Differences of order 3 have a
-/// form of their own, because most are.
+/// Reads the cell at index `at` of `line` if it is empty, which ends the arc at `index`, or a difference, as
+/// most cells are, which is applied to this arc. Returns how many bytes the cell takes with its blank.
+/// Returns `None` if it has another coded value, more than six digits, or a fault; then the arcs are
+/// unchanged. Differences of order 3 have a form of their own, because most are.
 ///
 /// The end of the cell is known before its number is read, so that the next cell needn't wait for the number.
 /// The blank after the line makes the last cell like the others: no branch per line.
@@ -166,11 +171,13 @@ fn read_cell_fast(arcs: &mut [ObsArc], index: usize, line: Padded<'_>, at: usize
 }
 
 /// Reads a cell of `line` for each of `count` types, applies it to the type's arc, and returns the index at
-/// which the marks of the indicators begin. A type without a stored arc has one without values. After the
-/// line no more arcs are stored than it has bytes, because each cell takes one, except empty ones at its end.
+/// which the marks of the indicators begin. An empty cell ends the arc, and so does the line's end for all
+/// later types. Memory for `count` arcs has to be reserved; no more are stored than the line has bytes,
+/// because each cell takes one, except empty ones at its end.
 ///
-/// The first cell with a fault decides: returns `BadField`, `NoArc` or `OutOfRange` like [`read_cell`]. The
-/// arcs before it have then changed.
+/// The first cell with a fault decides: returns `BadField` if it is no coded value, `NoArc` if it is a
+/// difference and its arc has no values, and `OutOfRange` if its value doesn't fit its columns. Other arcs
+/// may have changed then.
 ///
 /// The calls for the few other cells are in the loop, because a loop without calls cost more
 /// (bench/README.md).

@@ -75,7 +75,8 @@ impl Model for Columns {
 }
 
 impl Columns {
-    /// Returns columns without a history. Inlined, because a call copies its texts.
+    /// Returns columns without a history: no epoch is open, and the first epoch has to be full, or is encoded
+    /// so. Inlined, because a call copies its texts.
     #[inline(always)]
     pub fn new(alloc: Global) -> Columns
         ensures empty { result ≡ Idle None }
@@ -91,7 +92,8 @@ impl Columns {
         }
     }
 
-    /// Forgets every epoch, the open one included.
+    /// Forgets every epoch, the open one included: the next one has to be full, or is encoded so. The memory
+    /// is used again.
     pub fn reset(&mut self)
         // The memory is used again.
         ensures emptied { self.new ≡ Idle None }
@@ -99,15 +101,17 @@ impl Columns {
         forget(&mut self.is_kept, &mut self.is_named, &mut self.expected);
     }
 
-    /// Returns whether no epoch is open: the next line has to be an epoch line.
+    /// Returns whether no epoch is open, as at the beginning and after an error: the next line has to be an
+    /// epoch line.
     pub fn is_idle(&self) -> bool
         ensures value { result ≡ is_idle self.now }
     {
         matches!(self.expected, Expected::EpochLine)
     }
 
-    /// Returns `epoch`, which has all its rows, with its compact lines: full if `full` is set or there is no
-    /// history, otherwise as differences from the previous epoch. The history then includes the epoch.
+    /// Returns `epoch`, which has to have all its rows, with its compact lines: full if `full` is set or
+    /// there is no history, otherwise as differences from the previous epoch. The history then includes the
+    /// epoch. No epoch may be open.
     ///
     /// Returns `OutOfMemory` with the epoch if memory is refused; then the columns are unchanged. There is no
     /// other error.
@@ -152,7 +156,8 @@ impl Columns {
     }
 
     /// Begins an epoch with its epoch line, which is read after the previous epoch, or after nothing if it
-    /// begins with `>`. `types`: the counts for all lines of the epoch.
+    /// begins with `>`. `types`: the counts for all lines of the epoch. No epoch may be open, and the line
+    /// may not be an event's.
     ///
     /// Returns `NotAnEpoch` if there is no history and the line doesn't begin with `>`; otherwise `BadEpoch`
     /// if the line has a character outside 32 to 126, or the text that it makes doesn't begin with an
@@ -202,8 +207,9 @@ impl Columns {
         }
     }
 
-    /// Reads the next line of the open epoch, which is the clock line, then a line for each satellite.
-    /// Returns the epoch with its last line, `None` before.
+    /// Reads the next line of the open epoch, which is the clock line, then a line for each satellite. An
+    /// epoch has to be open. Returns the epoch with its last line (the clock line if it has no satellites),
+    /// `None` before.
     ///
     /// Returns `Truncated` if the line begins with `>`. In the clock line, returns `BadClock` if it is no
     /// coded value. In a satellite line, returns `BadField` if a cell is no coded value, and `BadFlags` if
@@ -255,12 +261,14 @@ impl Columns {
         }
     }
 
-    /// Reads the next line of the open epoch like [`Columns::feed`], but appends its row to `lines`, printed,
-    /// instead of making an epoch. After the clock line, the printed epoch line replaces all `lines`. Returns
-    /// whether the line is the epoch's last one; then its printed lines are complete.
+    /// Reads the next line of the open epoch, and prints it into `lines`: the clock line replaces all `lines`
+    /// by the printed epoch line, and each satellite line appends its printed row. Returns whether the line
+    /// is the epoch's last one; then its printed lines are complete, and no epoch is open.
     ///
-    /// Returns `NotAnEpoch` if no epoch is open, `Truncated` if the line begins with `>`, and `BadClock`,
-    /// `BadField`, `BadFlags`, `NoArc` or `OutOfRange` like `feed`. After an error `lines` is empty, and
+    /// Returns `NotAnEpoch` if no epoch is open, `Truncated` if the line begins with `>`, `BadClock` or
+    /// `BadField` if the clock line or a cell is no coded value, `NoArc` for a difference if its arc has no
+    /// values, `OutOfRange` if a value doesn't fit its columns, and `BadFlags` if the marks have a character
+    /// outside 32 to 126, or more than blanks after the indicators. After an error `lines` is empty, and
     /// every epoch is forgotten.
     #[inline(always)]
     pub fn feed_into(&mut self, line: Padded<'_>, lines: &mut Block) -> Result<bool, Fault>
@@ -299,7 +307,7 @@ impl Columns {
     }
 }
 
-/// Forgets every epoch: none is kept, the satellites aren't known by their text, and an epoch line is
+/// Forgets every epoch: there is no history, the satellites aren't known by their text, and an epoch line is
 /// expected. The parameters are fields of [`Columns`], whose history may be inconsistent after a fault.
 fn forget(is_kept: &mut bool, is_named: &mut bool, expected: &mut Expected)
     ensures kept { is_kept.new ≡ false }
@@ -314,9 +322,10 @@ fn forget(is_kept: &mut bool, is_named: &mut bool, expected: &mut Expected)
 /// Reads the next line of an open epoch, which is the clock line, then a line for each satellite, and returns
 /// whether it is the last one. `count`: the number of satellite lines read.
 ///
-/// Returns `NotAnEpoch` if no epoch is open, `Truncated` if the line begins with `>`, and `BadClock`,
-/// `BadField`, `BadFlags`, `NoArc` or `OutOfRange` like [`Columns::feed`]; then the parameters may be
-/// inconsistent.
+/// Returns `NotAnEpoch` if no epoch is open, `Truncated` if the line begins with `>`, `BadClock` or
+/// `BadField` if the clock line or a cell is no coded value, `NoArc` for a difference if its arc has no
+/// values, `OutOfRange` if a value doesn't fit its columns, and `BadFlags` if the marks have a character
+/// outside 32 to 126, or more than blanks after the indicators. Then the parameters may be inconsistent.
 #[inline(always)]
 fn read_line(
     history: &mut History,

@@ -66,8 +66,8 @@ impl Encoder {
     ghost use Rattle.std.specs.Option.{option_copied};
     ghost use Rattle.crx_compact.specs.contracts.encoder.Encoder.{the_row};
 
-    /// Returns an encoder without epochs and lines, which has the memory for all lines. Returns `Refused` if
-    /// memory is refused.
+    /// Returns an encoder without epochs and lines, which has the memory for all lines; only satellites need
+    /// more later. Returns `Refused` if memory is refused.
     pub fn new(alloc: Global) -> Result<Encoder, Refused>
         ensures before { IfOk result (λ e. e.before ≡ None) }
         ensures closed { IfOk result (λ e. e.is_open ≡ false) }
@@ -90,7 +90,7 @@ impl Encoder {
         })
     }
 
-    /// Forgets every epoch, the open one included, and drops all lines.
+    /// Forgets every epoch, the open one included, and drops all lines: the next epoch is full.
     pub fn reset(&mut self)
         ensures emptied { self.new ≡ forgotten self.old [] }
     {
@@ -99,7 +99,8 @@ impl Encoder {
         self.made.clear();
     }
 
-    /// Replaces all lines by the two lines before the header, with this `date`, and forgets every epoch.
+    /// Replaces all lines by the two lines before the header, with this `date` of at most `DATE_LIMIT` bytes,
+    /// and forgets every epoch, the open one included.
     pub fn put_first_lines(&mut self, date: &[u8])
         requires dated { length date.now ≤ DATE_LIMIT }
         ensures put { self.new ≡ forgotten self.old (lines_before_header date.now true) }
@@ -115,8 +116,8 @@ impl Encoder {
         self.made.put_front(&CRINEX_VERSION_LINE);
     }
 
-    /// Begins an epoch and drops all lines: full if `full` is set or there is no earlier epoch, otherwise
-    /// as differences from the previous epoch.
+    /// Begins an epoch and drops all lines: full if `full` is set or there is no earlier epoch, otherwise as
+    /// differences from the previous epoch. No epoch may be open.
     pub fn begin_epoch(&mut self, full: bool)
         requires closed { self.old.is_open ≡ false }
         ensures begun { self.new ≡ record self.old {
@@ -135,7 +136,8 @@ impl Encoder {
 
     /// Adds the compact line of the next row of the open epoch, and returns `true`. Returns `false` and
     /// changes nothing if the epoch has a row of the satellite already. Returns `Refused` if memory is
-    /// refused; then every epoch is forgotten, the open one included, and no line is left.
+    /// refused; then every epoch is forgotten, the open one included, and no line is left. An epoch has to be
+    /// open, with at most 999 rows.
     #[inline(always)]
     pub fn encode_row(&mut self, row: &RowBuffer) -> Result<bool, Refused>
         requires open { self.old.is_open ≡ true }
@@ -169,7 +171,8 @@ impl Encoder {
         }
     }
 
-    /// Ends the open epoch, which has all its rows; `head`: its epoch line. Its lines are then pending.
+    /// Ends the open epoch; `head`: its epoch line, which has to announce as many satellites as it has rows.
+    /// An epoch has to be open. Its lines are then pending.
     pub fn end(&mut self, head: &EpochLine)
         requires open { self.old.is_open ≡ true }
         requires counted { length self.old.rows ≡ head.now.count }
@@ -189,7 +192,8 @@ impl Encoder {
         self.is_open || self.made.is_drained()
     }
 
-    /// Borrows the next pending line, without LF, and removes it; returns `None` if none is pending.
+    /// Borrows the next pending line, without LF, and removes it; returns `None` if none is pending, as while
+    /// an epoch is open.
     pub fn next_line(&mut self) -> Option<&[u8]>
         ensures value { option_copied result ≡ slice_get self.old.pending 0 }
         ensures* after_borrow { sem 𝓛 (Rests the_row self.entry
@@ -201,7 +205,8 @@ impl Encoder {
         self.made.next_line()
     }
 
-    /// Borrows all pending lines as one text, each followed by LF. After this call none is pending.
+    /// Borrows all pending lines as one text, each followed by LF; it is empty if none is pending, as while
+    /// an epoch is open. After this call none is pending.
     pub fn take_text(&mut self) -> &[u8]
         ensures value { result.now ≡ lines_text self.old.pending }
         ensures* after_borrow { sem 𝓛 (Rests the_row self.entry (λ new. new ≡ record self.old { pending = [] })) }

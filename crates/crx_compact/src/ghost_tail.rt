@@ -21,7 +21,8 @@ impl Model for GhostTail {
 }
 
 impl GhostTail {
-    /// Returns the tail of the epochs in `_history`, for contracts only.
+    /// Returns a value for contracts only, by which they know what `_history` says of the epochs so far. It
+    /// does nothing at run time.
     #[inline(always)]
     pub(crate) fn of(_history: &History) -> GhostTail
         ensures { result.tail ≡ tail_of_history _history.now }

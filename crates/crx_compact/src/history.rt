@@ -76,8 +76,8 @@ impl Model for History {
 }
 
 impl History {
-    /// Returns the history before a full epoch: an empty text, no arcs and no satellites. Inlined, because
-    /// a call copies its texts.
+    /// Returns a history without epochs: an empty text, no arcs and no satellites. Inlined, because a call
+    /// copies its texts.
     #[inline(always)]
     pub(crate) fn new(alloc: Global) -> History
         ensures empty { result ≡ no_history }
@@ -92,7 +92,8 @@ impl History {
         }
     }
 
-    /// Forgets the newest epoch. Its satellites stay until the next one begins, and their memory is used
+    /// Forgets the newest epoch: its text is empty, the clock's arc ends, and no row is left. Its satellites
+    /// count as the previous epoch's until the next epoch begins, and then as absent; their memory is used
     /// again.
     pub(crate) fn clear(&mut self)
         ensures emptied { self.new ≡ history_cleared self.old }
@@ -102,8 +103,9 @@ impl History {
         self.satellites.begin_epoch();
     }
 
-    /// Writes the compact lines of an epoch into `lines`, which is empty: full if `in_full` is set, otherwise
-    /// as differences from the previous epoch. The history then includes the epoch.
+    /// Writes the compact lines of `epoch`, which has to have all its rows, into `lines`, which has to be
+    /// empty: full if `in_full` is set, otherwise as differences from the previous epoch. The history then
+    /// includes the epoch.
     ///
     /// Returns `Refused` if memory is refused. All memory is reserved first, so that the history and `lines`
     /// are then unchanged.
@@ -147,8 +149,8 @@ impl History {
         Ok(())
     }
 
-    /// Begins an epoch whose rows are written one by one: full if `in_full` is set, otherwise as differences
-    /// from the previous epoch.
+    /// Begins an epoch whose rows are written one by one, without rows yet: full if `in_full` is set, which
+    /// forgets the previous epoch, otherwise as differences from the previous epoch.
     pub(crate) fn begin_rows(&mut self, in_full: bool)
         ensures begun { AreRowsWritten (if in_full then no_tail else tail_of_history self.old) [] self.new [] }
         ensures rooms { self.new.satellites.rooms ≡ self.old.satellites.rooms }
@@ -160,9 +162,9 @@ impl History {
     }
 
     /// Appends the compact line of the epoch's next row to `lines`, and returns `true`. Only the first
-    /// `filled` of `values` may be present. Returns `false` and changes nothing if the epoch has a row of the
-    /// satellite already. Returns `Refused` if memory is refused; then `lines` is unchanged, but the history
-    /// may be inconsistent.
+    /// `filled` of `values` may be present; `flags` are two indicators for each value. Returns `false` and
+    /// changes nothing if the epoch has a row of the satellite already. Returns `Refused` if memory is
+    /// refused; then `lines` is unchanged, but the history may be inconsistent.
     #[inline(always)]
     pub(crate) fn write_row(
         &mut self,
@@ -199,7 +201,8 @@ impl History {
     }
 
     /// Ends an epoch whose rows are all written: puts its epoch line and its clock line, coded, in front of
-    /// their lines. `head`: its epoch line. The history then includes the epoch.
+    /// their lines. `head`: its epoch line, which has to announce as many satellites as there are rows. The
+    /// history then includes the epoch.
     pub(crate) fn end_rows(&mut self, head: &EpochLine, scratch: &mut Text, lines: &mut Block)
         requires counted { length self.old.satellites.rows ≡ head.now.count }
         requires front { FIRST_LINES ≤ lines.old.front }
@@ -226,8 +229,10 @@ impl History {
     /// satellite named there, with its system's number of types. `is_named`: the satellites of the previous
     /// epoch are those that its text names.
     ///
-    /// Returns `BadEpoch` if the line has a character outside 32 to 126, or `BadEpoch`, `BadSatellite`,
-    /// `RepeatedSatellite` or `OutOfMemory` for the text that it makes, like [`read_satellites`]. After an
+    /// Returns `BadEpoch` if the line has a character outside 32 to 126, or the text that it makes doesn't
+    /// begin with an observation epoch's columns 1 to 41 or has more than blanks after its identifiers;
+    /// otherwise, at the first identifier with a fault, `BadSatellite` if it isn't well-formed or its system
+    /// has no types, `RepeatedSatellite` if it is repeated, and `OutOfMemory` if memory is refused. After an
     /// error the text is unchanged, but the satellites may be inconsistent.
     pub(crate) fn read_epoch_line(
         &mut self,
@@ -256,8 +261,8 @@ impl History {
     /// Reads a clock line and applies its coded value to the clock's arc. Blanks at the line's end don't
     /// count; an empty line ends the arc.
     ///
-    /// Returns `Truncated` if the line begins another epoch, `BadClock` if it is no coded value, `NoArc` for
-    /// a difference if the arc has no values, and `OutOfRange` if the value doesn't fit its columns. After an
+    /// Returns `Truncated` if the line begins with `>`, `BadClock` if it is no coded value, `NoArc` for a
+    /// difference if the arc has no values, and `OutOfRange` if the value doesn't fit its columns. After an
     /// error nothing has changed.
     #[inline(never)]
     pub(crate) fn read_clock(&mut self, line: &[u8]) -> Result<(), Fault>
@@ -290,9 +295,12 @@ impl History {
         self.satellites.placed_count()
     }
 
-    /// Reads the satellite line of the row at `index`, from 0. Returns `Truncated` if the line begins another
-    /// epoch; then nothing changes. Otherwise returns `BadField`, `NoArc`, `OutOfRange` or `BadFlags` like
-    /// [`SatelliteHistory::read`] if a cell or the marks have this fault; then the row may have changed.
+    /// Reads the satellite line of the row at `index`, from 0, which has to exist. Returns `Truncated` if the
+    /// line begins with `>`; then nothing changes. Otherwise, at the first cell with a fault, returns
+    /// `BadField` if it is no coded value, `NoArc` if it is a difference and its arc has no values, and
+    /// `OutOfRange` if its value doesn't fit its columns; otherwise `BadFlags` if the marks after the cells
+    /// have a character outside 32 to 126, or more than blanks after two for each type. Then the row may have
+    /// changed.
     #[inline(always)]
     pub(crate) fn read_row(
         &mut self,
@@ -315,7 +323,8 @@ impl History {
             .read(line, scratch)
     }
 
-    /// Returns the newest epoch. Returns `OutOfMemory` if it has satellites and memory is refused.
+    /// Returns the newest epoch: its line, and a row for each satellite with the newest values and
+    /// indicators. Returns `OutOfMemory`, its only error, if it has satellites and memory is refused.
     pub(crate) fn epoch(&self) -> Result<Epoch, Fault>
         requires announced { IsAnnounced self.now }
         ensures ok { IfOk result (λ epoch. epoch
@@ -333,7 +342,8 @@ impl History {
         Ok(epoch)
     }
 
-    /// Returns the epoch line of the newest epoch.
+    /// Returns the epoch line of the newest epoch, with its clock offset, if any. The text has to begin with
+    /// an observation epoch's columns 1 to 41.
     pub(crate) fn head(&self) -> EpochLine
         requires { is_some (epoch_count (columns self.now.text 1 HEAD_WIDTH)) ≡ true }
         ensures head { result.head ≡ columns self.now.text 1 HEAD_WIDTH }
@@ -376,13 +386,14 @@ impl History {
     }
 }
 
-/// Adds a row for every satellite named in an epoch text, with its system's number of types. `are_same`: the
-/// text names exactly the satellites of the previous epoch, if it announces their number.
+/// Adds a row for every satellite named in an epoch text, with its system's number of types, to an epoch
+/// without rows. `are_same`: the text names exactly the satellites of the previous epoch, if it announces
+/// their number.
 ///
 /// Returns `BadEpoch` if columns 1 to 41 don't begin an observation epoch, or anything but blanks follows the
 /// last announced identifier; otherwise, at the first identifier with a fault, `BadSatellite` if it isn't
 /// well-formed or its system has no types, `RepeatedSatellite` if it is repeated, and `OutOfMemory` if memory
-/// is refused.
+/// is refused. Rows before it stay.
 fn read_satellites(
     types: &Types,
     text: &[u8],
@@ -406,7 +417,8 @@ fn read_satellites(
     read_names(types, text, count, satellites)
 }
 
-/// Reads `count` identifiers after column 41, from left to right, and adds a row for each.
+/// Reads `count` identifiers after column 41, from left to right, and adds a row for each to an epoch without
+/// rows.
 ///
 /// At the first with a fault, returns `BadSatellite` if it isn't well-formed or its system has no types,
 /// `RepeatedSatellite` if it is repeated, and `OutOfMemory` if memory is refused. Earlier rows stay.

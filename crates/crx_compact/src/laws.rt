@@ -11,8 +11,9 @@ ghost use Rattle.crx_compact.specs.declared.history.History.TheInside.{Inside as
 ghost use Rattle.crx_compact.specs.declared.block.Block.TheInside.{Inside as BlockInside};
 ghost use Rattle.crx_compact.specs.declared.columns.Columns.TheInside.{Inside as ColumnsInside};
 
-/// States which parts columns, their history, their lines and an encoder have. A value that takes over
-/// these parts of another is equal to it, so there are no further parts.
+/// Does nothing at run time. Its contract states which parts columns, their history, their lines and an
+/// encoder have: a value that takes over these parts of another is equal to it, so there are no further
+/// parts.
 pub fn columns_hold()
     ensures satellite { (one other : SatelliteHistoryInside) → satellite_with one other ≡ other }
     ensures satellites { (one other : SatellitesInside) → satellites_with one other ≡ other }

@@ -20,8 +20,8 @@ fn has_same_ends<const N: usize>(text: &[u8], other: &[u8]) -> bool
         && Simd::<u8, N>::from_slice(&text[last..]) == Simd::<u8, N>::from_slice(&other[last..])
 }
 
-/// Returns whether two texts are the same. The indicators of 2 to 16 types are compared here by their two
-/// ends, which may overlap: no call per line.
+/// Returns whether two texts are the same; texts of different lengths aren't. The indicators of 2 to 16 types
+/// are compared here by their two ends, which may overlap: no call per line.
 #[inline(always)]
 pub fn is_same_text(text: &[u8], other: &[u8]) -> bool
     ensures same { MatchBool result (text.now ≡ other.now) (text.now ≢ other.now) }

@@ -89,7 +89,7 @@ impl SatelliteHistory {
         self.count
     }
 
-    /// Returns whether there is room for `count` types.
+    /// Returns whether memory for `count` types is reserved.
     #[inline(always)]
     pub(crate) fn has_room(&self, count: usize) -> bool
         ensures value { IsTrue result ↔ (count ≤ self.now.room) }
@@ -97,8 +97,8 @@ impl SatelliteHistory {
         count <= self.arcs.capacity()
     }
 
-    /// Reserves room for `count` types if there is less, and adds none. Returns `Refused` if memory is
-    /// refused. The stored types never change.
+    /// Reserves memory for `count` types, at most `TYPES_LIMIT`, unless it is reserved already, and adds
+    /// none. Returns `Refused` if memory is refused. The stored types never change.
     pub(crate) fn make_room(&mut self, count: usize) -> Result<(), Refused>
         requires allowed { count ≤ TYPES_LIMIT }
         ensures { AnswersRoom count self.old self.new result }
@@ -117,8 +117,8 @@ impl SatelliteHistory {
         Ok(())
     }
 
-    /// Sets the number of types to `count`, for which there is room. Of the types that it has, the first
-    /// `count` stay; new ones have no arcs and blank indicators.
+    /// Sets the number of types to `count`, for which memory has to be reserved. Of the types that it has,
+    /// the first `count` stay; new ones have no arcs and blank indicators.
     #[inline(always)]
     pub(crate) fn resize(&mut self, count: usize)
         requires room { count ≤ self.old.room }
@@ -133,8 +133,9 @@ impl SatelliteHistory {
         put_blanks(&mut self.indicators[2 * from..2 * count]);
     }
 
-    /// Sets the indicators to `flags` and the number of types to `count`. Returns `false` if nothing changes,
-    /// as usual; otherwise `true`, and the difference of the indicators is in `scratch`.
+    /// Sets the indicators to `flags`, two for each type, and the number of types to `count`. Returns `false`
+    /// if nothing changes, as usual; otherwise `true`, and `scratch` is then the difference of the
+    /// indicators, without blanks at its end. Memory for `count` types has to be reserved.
     #[inline(always)]
     fn mark(&mut self, count: usize, flags: &[u8], scratch: &mut Text) -> bool
         requires fits { FitsFlags count flags.now self.old }
@@ -148,7 +149,9 @@ impl SatelliteHistory {
         true
     }
 
-    /// Does the work of [`SatelliteHistory::mark`] if the indicators change. `scratch` is empty before.
+    /// Sets the indicators to `flags`, two for each type, and the number of types to `count`. Makes
+    /// `scratch`, which has to be empty, the difference from the indicators before, without blanks at its
+    /// end. Memory for `count` types has to be reserved.
     #[inline(never)]
     fn change_indicators(&mut self, count: usize, flags: &[u8], scratch: &mut Text)
         requires fits { FitsFlags count flags.now self.old }
@@ -162,8 +165,9 @@ impl SatelliteHistory {
     }
 
     /// Writes the compact line of a row over `bytes` from `at` on, without LF, and returns its length; bytes
-    /// after it may be overwritten. Only the first `filled` of `values` may be present. The history then
-    /// includes the row.
+    /// after it may be overwritten. Only the first `filled` of `values` may be present; `flags` are two
+    /// indicators for each value. The history then includes the row, for whose types memory has to be
+    /// reserved.
     #[inline(always)]
     pub(crate) fn write_line(
         &mut self,
@@ -209,7 +213,9 @@ impl SatelliteHistory {
         patch_indicators(&mut self.indicators, self.count, marks, scratch)
     }
 
-    /// Returns the newest row, named `name`. Returns `OutOfMemory`, its only error, if memory is refused.
+    /// Returns the newest row, named `name`, which has to be an identifier; a type whose arc has no values
+    /// has no value. The satellite has to have a type. Returns `OutOfMemory`, its only error, if memory is
+    /// refused.
     pub(crate) fn row(&self, alloc: Global, name: [u8; NAME_WIDTH]) -> Result<SatRow, Fault>
         requires named { is_identifier name ≡ true }
         requires allowed { IsAllowedCount (length self.now.cells) }
@@ -251,8 +257,8 @@ impl SatelliteHistory {
     }
 }
 
-/// Prints the cells of `arcs`, each with its newest value and two of `flags`, over `bytes` from `at` on, two
-/// per turn of the loop. The two indicators of a cell are one load and one store.
+/// Prints a cell for each of `arcs` over `bytes` from `at` on, two per turn of the loop: its newest value, or
+/// 14 blanks if it has no values, and in either case two of `flags`, which are one load and one store.
 #[inline(always)]
 fn print_cells(arcs: &[ObsArc], flags: &[u8], bytes: &mut [u8], at: usize)
     requires paired { 2 * length arcs.now ≤ length flags.now }
@@ -277,8 +283,8 @@ fn print_cells(arcs: &[ObsArc], flags: &[u8], bytes: &mut [u8], at: usize)
     obs_print_cell(arcs[last].value(), flags, 2 * last, bytes, place);
 }
 
-/// Prints the cells of the types from index `first` to before `count`, whose values are missing, with their
-/// `flags`. The first cell of the line is at index `at`.
+/// Prints the cells of the types from index `first` to before `count`, whose values are missing: 14 blanks
+/// and two of `flags` each. The first cell of the line is at index `at`.
 #[cold]
 #[inline(never)]
 fn print_missing(first: usize, count: usize, flags: &[u8], bytes: &mut [u8], at: usize)
@@ -295,7 +301,7 @@ fn print_missing(first: usize, count: usize, flags: &[u8], bytes: &mut [u8], at:
     }
 }
 
-/// Replaces the beginning of `bytes` by `text`.
+/// Replaces the beginning of `bytes` by `text`, which has to be no longer.
 pub(crate) fn put_first(bytes: &mut [u8], text: &[u8])
     requires { length text.now ≤ length bytes.old }
     ensures { take (length text.now) bytes.new ≡ text.now }
@@ -303,10 +309,11 @@ pub(crate) fn put_first(bytes: &mut [u8], text: &[u8])
     copy_text(&mut bytes[..text.len()], text);
 }
 
-/// Changes the indicators of the first `count` types by `marks`.
+/// Changes the indicators of the first `count` types by `marks`: a blank, or no mark, leaves an indicator,
+/// `&` makes it blank, and any other character replaces it.
 ///
 /// Returns `BadFlags`, with the indicators unchanged, if the marks have a character outside 32 to 126, or
-/// anything but blanks after the indicators.
+/// anything but blanks after two for each type.
 #[inline(never)]
 fn patch_indicators(
     indicators: &mut [u8],

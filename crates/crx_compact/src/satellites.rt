@@ -30,7 +30,8 @@ use std::marker::Model;
 /// The number of slots for hints.
 pub(crate) const MARKS: usize = 2048;
 
-/// Returns the slot of an identifier's hint. The 770 possible identifiers have 760 slots, so few share one.
+/// Returns the slot, below [`MARKS`], that stores the index at which the satellite with this identifier
+/// usually is. The 770 possible identifiers have 760 slots, so few share one.
 #[inline(always)]
 pub(crate) fn place_of_mark(name: [u8; NAME_WIDTH]) -> usize
     ensures value { result ≡ mark_place name }
@@ -95,7 +96,8 @@ impl Satellites {
         }
     }
 
-    /// Begins an epoch: it has no rows, and the satellites of the previous epoch are expected.
+    /// Begins an epoch without rows. The satellites that had a row are now those of the previous epoch; all
+    /// others count as absent, and their memory stays.
     pub(crate) fn begin_epoch(&mut self)
         ensures begun { self.new ≡ record self.old { rows = []; rest = self.old.rows } }
     {
@@ -114,7 +116,7 @@ impl Satellites {
 
     /// Adds a row for satellite `name` after the others and returns `true`. The row continues the satellite's
     /// history if it was in the previous epoch; otherwise it has no types. Returns `false` if the epoch has
-    /// its row already, and `None` if the satellite isn't known or has too little room for `count` types;
+    /// its row already, and `None` if the satellite isn't known or has memory for fewer than `count` types;
     /// after either nothing has changed.
     ///
     /// Usually the next satellite is the one that followed the last one in the previous epoch; one comparison
@@ -147,9 +149,11 @@ impl Satellites {
         self.place_by_lookup(name, count)
     }
 
-    /// Does the same as [`Satellites::place`], but looks for the satellite by its hint, then in the map:
-    /// returns `true` if a row was added, `false` if the epoch has its row already, and `None` if it isn't
-    /// known or has too little room for `count` types.
+    /// Adds a row for satellite `name` after the others and returns `true`. The row continues the satellite's
+    /// history if it was in the previous epoch; otherwise it has no types. Returns `false` if the epoch has
+    /// its row already, and `None` if the satellite isn't known or has memory for fewer than `count` types;
+    /// after either nothing has changed. It looks at the index that the identifier's slot stores, then in the
+    /// map.
     #[inline(never)]
     pub(crate) fn place_by_lookup(&mut self, name: &[u8; NAME_WIDTH], count: usize) -> Option<bool>
         ensures { AnswersPlacing name.now count self.old self.new result }
@@ -184,7 +188,7 @@ impl Satellites {
 
     /// Adds a row for each satellite of the previous epoch, in their order, and returns `true`, if there are
     /// `count` and each has its system's number of types in `types`. Otherwise returns `false` and changes
-    /// nothing. No identifier is looked up.
+    /// nothing. The epoch has to have no rows yet. No identifier is looked up.
     pub(crate) fn repeat_rows(&mut self, types: &Types, count: usize) -> bool
         requires none { self.old.rows ≡ [] }
         requires awaited { All IsAwaitedSatellite (map satellite_of self.old.rest) }
@@ -214,9 +218,9 @@ impl Satellites {
         true
     }
 
-    /// Makes satellite `name` known, with memory for `count` types; if it is known already, only missing
-    /// memory is reserved. The rows of the open epoch don't change. Returns `Refused` if memory is refused;
-    /// the satellite may be known then too.
+    /// Makes satellite `name` known, with memory for `count` types, at most `TYPES_LIMIT`; if it is known
+    /// already, only missing memory is reserved. The rows of the open epoch don't change. Returns `Refused`
+    /// if memory is refused; the satellite may be known then too.
     #[inline(never)]
     pub(crate) fn prepare(&mut self, name: [u8; NAME_WIDTH], count: usize) -> Result<(), Refused>
         requires allowed { count ≤ TYPES_LIMIT }
@@ -237,7 +241,8 @@ impl Satellites {
         satellite.make_room(count)
     }
 
-    /// Writes the identifiers of the rows over the bytes of `text` after column 41.
+    /// Writes the identifiers of the rows, in their order, over the bytes of `text` after column 41, where it
+    /// has to have three for each row.
     pub(crate) fn put_names(&self, text: &mut [u8])
         requires within { HEAD_WIDTH + NAME_WIDTH * length self.now.rows ≤ length text.old }
         ensures { take (HEAD_WIDTH + NAME_WIDTH * length self.now.rows) text.new
@@ -249,8 +254,9 @@ impl Satellites {
         }
     }
 
-    /// Borrows the history of the satellite whose row is at `index`, from 0, to change it and so the row. It
-    /// always returns `Some`: only within an `Option` can a clause relate the borrow's end to its start.
+    /// Borrows the history of the satellite whose row is at `index`, from 0, to change it and so the row. The
+    /// row has to exist. It always returns `Some`: only within an `Option` can a clause relate the borrow's
+    /// end to its start.
     #[inline(always)]
     pub(crate) fn entry_mut(&mut self, index: usize) -> Option<&mut SatelliteHistory>
         requires within { index < length self.old.rows }
@@ -263,7 +269,8 @@ impl Satellites {
         Some(satellite)
     }
 
-    /// Returns the identifier and the history of the satellite whose row is at `index`, from 0.
+    /// Returns the identifier and the history of the satellite whose row is at `index`, from 0. The row has
+    /// to exist.
     #[inline(always)]
     pub(crate) fn entry(&self, index: usize) -> (&[u8; NAME_WIDTH], &SatelliteHistory)
         requires within { index < length self.now.rows }
@@ -273,7 +280,7 @@ impl Satellites {
     }
 }
 
-/// Returns the number at `index`.
+/// Returns the number at `index`, which has to be below the length.
 #[inline(always)]
 fn number_at(numbers: &Vec<usize>, index: usize) -> usize
     requires within { index < length numbers.now.items }
@@ -282,7 +289,7 @@ fn number_at(numbers: &Vec<usize>, index: usize) -> usize
     numbers[index]
 }
 
-/// Returns the identifier at `index`.
+/// Returns the identifier at `index` of the map, which has to be below its length.
 #[inline(always)]
 fn key_at(map: &IndexMap<[u8; NAME_WIDTH], SatelliteHistory>, index: usize) -> [u8; NAME_WIDTH]
     requires within { index < length map.now.entries }
@@ -345,8 +352,9 @@ fn find_or_add(
     Ok(count)
 }
 
-/// Returns the place of the expected satellite after an absent one was added: `expected`, or, if it was the
-/// first without a row, the last place in use. `placed`: the number of rows; `live`: of satellites in use.
+/// Returns the place of the satellite that is expected next after an absent one got a row: still `expected`,
+/// unless that is now a row's place; then the last place in use, `live - 1`, but at least `placed`. `placed`:
+/// the number of rows; `live`: the number of satellites in use, at least 1.
 #[inline(always)]
 fn place_after(expected: usize, placed: usize, live: usize) -> usize
     requires some { 0 < live }
