@@ -73,9 +73,9 @@ impl Model for Checking {
 }
 
 impl Noted {
-    /// Counts the observations of the last row of `reader`, read from `line`. `is_last`: its epoch is
-    /// complete, and is counted too. Notes the number of `line` if it is the first that isn't standard: it
-    /// has CR or no LF, or differs from its printed form.
+    /// Counts the last row of `reader`, read from `line`: each value that isn't missing is an observation.
+    /// `is_last`: its epoch is complete, and is counted too. Notes the number of `line` if it is the first
+    /// that isn't standard: it has CR or no LF, or differs from the row as the reader prints it.
     #[inline(always)]
     fn note_row(&mut self, reader: &RinexReader, is_last: bool, line: Line<'_>)
         requires behind { IsBehindARow self.old.observed (line_shown line).content reader.now }
@@ -202,10 +202,12 @@ impl Direction for Checking {
 
     ghost no_report_when_skipping = { λ c choices lines taken skips. never_skips choices taken skips };
 
+    /// Returns the options of a check, whatever the user gave: none full, nothing skipped, no date.
     fn options_used(_options: Options) -> Options {
         no_options()
     }
 
+    /// Returns a check before the first line. It reserves no memory, so it is never refused.
     fn new(alloc: Global) -> Result<Checking, Refused> {
         Ok(Checking {
             reader: RinexReader::new(alloc),
@@ -225,12 +227,15 @@ impl Direction for Checking {
         })
     }
 
+    /// Returns the reader's stage.
     #[inline(always)]
     fn stage(&self) -> Stage {
         self.reader.stage
     }
 
-    /// Notes a row. Returns `Ok(false)`, `RepeatedSatellite`, or the faults of [`RinexReader::read_row`].
+    /// Reads a satellite line of the open epoch and notes its row. Returns `Ok(false)`, because a check has
+    /// no lines before its end; or `Truncated` if the line begins with `>`, `RepeatedSatellite`, or
+    /// `BadSatellite`, `BadField` or `BadFlags` of [`RowBuffer::read`](crx_rinex::RowBuffer::read).
     #[inline(always)]
     fn take_in_epoch(&mut self, line: Line<'_>) -> Result<bool, Fault> {
         self.reader.read_row(line.padded())?;
@@ -242,12 +247,15 @@ impl Direction for Checking {
         Ok(false)
     }
 
+    /// Reads and notes a line when no epoch is open. Returns `Nothing`, or the line's fault or `OutOfMemory`,
+    /// as [`RinexReader::take`] does; then nothing is noted.
     fn take_elsewhere(&mut self, _options: &Options, line: Line<'_>) -> Result<LineOutput, Fault> {
         let step = self.reader.take(line.bytes())?;
         self.noted.note(&self.reader, step, line);
         Ok(LineOutput::Nothing)
     }
 
+    /// Enters `stage`, after a fault. The types and the notes stay, and no line of the report is ready.
     fn end_with(&mut self, stage: Stage) {
         self.reader.stage = stage;
     }
@@ -259,10 +267,14 @@ impl Direction for Checking {
         true
     }
 
+    /// Returns whether no line of the report is pending: before the end of the input, and after its last
+    /// line.
     fn is_drained(&self) -> bool {
         self.handed_out >= REPORT_LINES
     }
 
+    /// Lends the next line of the report, without its line end; `None` before the end of the input, and after
+    /// the report's last line.
     fn next_line(&mut self) -> Option<&[u8]> {
         if print_report_line(
             self.handed_out,
@@ -277,7 +289,7 @@ impl Direction for Checking {
         None
     }
 
-    /// Returns `None`: the report is lent line by line.
+    /// Returns `None` and leaves the lines pending: the report is lent line by line.
     fn take_text(&mut self) -> Option<&[u8]> {
         None
     }

@@ -85,7 +85,8 @@ fn compact_row(
     }
 }
 
-/// Ends the epoch of `reader`, whose rows have all been encoded: its compact lines are then pending.
+/// Ends the epoch of `reader`, whose rows have all been encoded: its compact lines are then pending, and the
+/// next epoch is written as differences from it.
 fn end_epoch(reader: &RinexReader, encoder: &mut Encoder)
     requires whole { HasWholeEpoch reader.now encoder.old }
     ensures ends { (head : ObservationHead) → reader.now.head ≡ Some head → EndsEpoch head encoder.old encoder.new }
@@ -139,10 +140,12 @@ impl Direction for Compaction {
 
     ghost no_report_when_skipping = { λ c choices lines taken skips. tt };
 
+    /// Returns the user's options unchanged.
     fn options_used(options: Options) -> Options {
         options
     }
 
+    /// Returns a compaction before the first line, or `Refused` if memory for its encoder is refused.
     fn new(alloc: Global) -> Result<Compaction, Refused> {
         // `?` would need a temporary as large as an encoder.
         match Encoder::new(alloc) {
@@ -155,11 +158,14 @@ impl Direction for Compaction {
         }
     }
 
+    /// Returns the reader's stage.
     #[inline(always)]
     fn stage(&self) -> Stage {
         self.reader.stage
     }
 
+    /// Reads a satellite line of the open epoch and encodes its row. `Ok(true)`: it was the last, and the
+    /// epoch's compact lines are pending. Returns the line's fault, as `compact_row` does, or `OutOfMemory`.
     #[inline(always)]
     fn take_in_epoch(&mut self, line: Line<'_>) -> Result<bool, Fault> {
         let is_last = compact_row(&mut self.reader, &mut self.encoder, line.padded())?;
@@ -171,8 +177,10 @@ impl Direction for Compaction {
         Ok(true)
     }
 
-    /// Returns `Lines` at an epoch line without satellites, `AsItIs` at a line of the header or of an event,
-    /// otherwise `Nothing`; or the faults of [`RinexReader::take`].
+    /// Reads a line when no epoch is open. Returns `Lines` at an epoch line without satellites, whose compact
+    /// lines are then pending; `AsItIs` at a line of the header (the first after the two first lines of
+    /// compact text, which are pending) or of an event; otherwise `Nothing`; or the line's fault or
+    /// `OutOfMemory`, as [`RinexReader::take`] does.
     fn take_elsewhere(&mut self, options: &Options, line: Line<'_>) -> Result<LineOutput, Fault> {
         match self.reader.take(line.bytes())? {
             RinexStep::Nothing => Ok(LineOutput::Nothing),
@@ -197,6 +205,8 @@ impl Direction for Compaction {
         }
     }
 
+    /// Enters `stage`, after a fault, and forgets all epochs: the next one is full, and no line is pending.
+    /// The types and the number of epochs stay.
     fn end_with(&mut self, stage: Stage) {
         self.encoder.reset();
         self.reader.stage = stage;
@@ -208,14 +218,17 @@ impl Direction for Compaction {
         false
     }
 
+    /// Returns whether no compact line is pending; the lines of an open epoch aren't pending yet.
     fn is_drained(&self) -> bool {
         self.encoder.is_drained()
     }
 
+    /// Lends the next pending compact line, without its line end; `None` if none is pending.
     fn next_line(&mut self) -> Option<&[u8]> {
         self.encoder.next_line()
     }
 
+    /// Lends all pending compact lines as one text, each followed by LF; then none is pending.
     fn take_text(&mut self) -> Option<&[u8]> {
         Some(self.encoder.take_text())
     }

@@ -162,8 +162,9 @@ impl<D: Direction> LineEngine<D> {
         }
     }
 
-    /// Takes line `number`, which is too long. Returns `Quiet` while looking for `>` or after the end;
-    /// otherwise `LineTooLong`, as a warning or the fault that ends the run; or the fault that had ended it.
+    /// Takes line `number`, which is too long. Returns `LineTooLong`: as a warning if it is skipped (between
+    /// units, or in an epoch, which is dropped), otherwise as the fault that ends the run. Returns `Quiet`
+    /// while looking for `>` and after the end; in an ended run, the fault that ended it.
     pub(crate) fn overlong(&mut self, number: u64) -> Result<Step, At>
         requires next { IsNextLine (engine_ready D.Direction self.old) self.old.number number }
         ensures steps { step_made result [] (engine_state D.Direction self.new)
@@ -186,9 +187,10 @@ impl<D: Direction> LineEngine<D> {
         }
     }
 
-    /// Ends the input. Returns `Ready` if lines are ready (a check's report), `Warned` if the fault at the
-    /// end is skipped, otherwise `Quiet`; or as an error the fault at the end, or the fault that had ended
-    /// the run.
+    /// Ends the input. Returns `Ready` for a check, whose report is then pending, otherwise `Quiet`. In an
+    /// unfinished header, event or epoch, returns the fault at the end: as a warning if it is skipped (only
+    /// in an epoch), otherwise as the fault that ends the run. In an ended run, returns the fault that ended
+    /// it.
     pub(crate) fn end(&mut self) -> Result<Step, At>
         requires drained { engine_ready D.Direction self.old ≡ [] }
         ensures takes { TakesEnd D.Direction self.old result (engine_ready D.Direction self.new) self.new }
@@ -237,7 +239,9 @@ impl<D: Direction> crx_runs::Engine for LineEngine<D> {
 
     ghost answer = { λ e. e.answer };
 
-    /// Takes a line as [`LineEngine::answer_line`] does.
+    /// Takes the next line and returns its output, as [`LineEngine::answer_line`] does: `None` after a fault
+    /// or once the run has ended; then [`Engine::answer`](crx_runs::Engine::answer) returns the warning or
+    /// fault.
     #[inline(always)]
     fn take(&mut self, line: Line<'_>) -> Option<LineOutput> {
         self.answer_line(line)
@@ -248,18 +252,28 @@ impl<D: Direction> crx_runs::Engine for LineEngine<D> {
         self.answer
     }
 
+    /// Takes line `number`, which is too long. Returns `LineTooLong`: as a warning if it is skipped (between
+    /// units, or in an epoch, which is dropped), otherwise as the fault that ends the run. Returns `Quiet`
+    /// while looking for `>` and after the end; in an ended run, the fault that ended it.
     fn overlong(&mut self, number: u64) -> Result<Step, At> {
         LineEngine::overlong(self, number)
     }
 
+    /// Ends the input. Returns `Ready` for a check, whose report is then pending, otherwise `Quiet`. In an
+    /// unfinished header, event or epoch, returns the fault at the end: as a warning if it is skipped (only
+    /// in an epoch), otherwise as the fault that ends the run. In an ended run, returns the fault that ended
+    /// it.
     fn end(&mut self) -> Result<Step, At> {
         LineEngine::end(self)
     }
 
+    /// Borrows the direction's next pending line, without its line end; `None` if none is pending.
     fn next_line(&mut self) -> Option<&[u8]> {
         self.direction.next_line()
     }
 
+    /// Borrows all pending lines as one text, each followed by LF; then none is pending. Returns `None` for a
+    /// check, whose lines stay pending for `next_line`, and for an expansion in an open epoch.
     fn take_text(&mut self) -> Option<&[u8]> {
         self.direction.take_text()
     }

@@ -87,10 +87,12 @@ impl Direction for Expansion {
 
     ghost no_report_when_skipping = { λ e choices lines taken skips. tt };
 
+    /// Returns the user's options unchanged.
     fn options_used(options: Options) -> Options {
         options
     }
 
+    /// Returns an expansion before the first line, or `Refused` if its memory is refused.
     fn new(alloc: Global) -> Result<Expansion, Refused> {
         let lines = Block::new(alloc)?;
         let columns = try_box(alloc, Columns::new(alloc))?;
@@ -102,17 +104,22 @@ impl Direction for Expansion {
         Ok(Expansion { reader, lines })
     }
 
+    /// Returns the reader's stage.
     #[inline(always)]
     fn stage(&self) -> Stage {
         self.reader.stage
     }
 
+    /// Reads the clock line or a satellite line of the open epoch. `Ok(true)`: it was the last, and the
+    /// epoch's lines of RINEX are pending. Returns the line's fault: `Truncated`, `BadClock`, `BadField`,
+    /// `NoArc`, `OutOfRange` or `BadFlags`; then all epochs are forgotten.
     #[inline(always)]
     fn take_in_epoch(&mut self, line: Line<'_>) -> Result<bool, Fault> {
         self.reader.continue_epoch(line.padded(), &mut self.lines)
     }
 
-    /// Returns `AsItIs` at a line to copy, otherwise `Nothing`, or a fault of `CompactReader::read_between`.
+    /// Reads a line when no epoch is open. Returns `AsItIs` at a line of the header or of an event, otherwise
+    /// `Nothing`; or the line's fault or `OutOfMemory`.
     fn take_elsewhere(&mut self, _options: &Options, line: Line<'_>) -> Result<LineOutput, Fault> {
         if self.reader.read_between(line.bytes())? {
             return Ok(LineOutput::AsItIs);
@@ -120,6 +127,7 @@ impl Direction for Expansion {
         Ok(LineOutput::Nothing)
     }
 
+    /// Enters `stage`, after a fault, forgets all epochs and drops all lines. The types stay.
     fn end_with(&mut self, stage: Stage) {
         self.lines.clear();
         let reader = &mut self.reader;
@@ -138,6 +146,8 @@ impl Direction for Expansion {
         self.reader.stage.is_in_epoch() || self.lines.is_drained()
     }
 
+    /// Lends the next pending line of RINEX, without its line end; `None` in an open epoch or if none is
+    /// pending.
     fn next_line(&mut self) -> Option<&[u8]> {
         if self.reader.stage.is_in_epoch() {
             return None;
@@ -145,7 +155,8 @@ impl Direction for Expansion {
         self.lines.next_line()
     }
 
-    /// Lends all ready lines as one text; `None` in an open epoch, which has no ready line.
+    /// Lends all pending lines as one text, each followed by LF; then none is pending. Returns `None` in an
+    /// open epoch, none of whose lines is pending.
     fn take_text(&mut self) -> Option<&[u8]> {
         if self.reader.stage.is_in_epoch() {
             return None;

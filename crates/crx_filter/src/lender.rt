@@ -64,8 +64,9 @@ impl<D: Direction> Lender<D> {
         })
     }
 
-    /// Takes line `number`, which is too long. Returns `Quiet` while looking for `>` or after the end;
-    /// otherwise `LineTooLong`, as a warning or the fault that ends the run; or the fault that had ended it.
+    /// Takes line `number`, which is too long. Returns `LineTooLong`: as a warning if it is skipped (between
+    /// units, or in an epoch, which is dropped), otherwise as the fault that ends the run. Returns `Quiet`
+    /// while looking for `>` and after the end; in an ended run, the fault that ended it.
     pub fn overlong(&mut self, number: u64) -> Result<Step, At>
         requires next { IsNextLine (lender_ready D.Direction self.old) self.old.engine.number number }
         ensures steps { step_made result [] (lender_state D.Direction self.new)
@@ -77,9 +78,10 @@ impl<D: Direction> Lender<D> {
         self.engine.overlong(number)
     }
 
-    /// Ends the input. Returns `Ready` if the direction now has lines (a check's report), `Warned` if the
-    /// fault at the end is skipped, otherwise `Quiet`; or the fault at the end, or the fault that had ended
-    /// the run. A second call returns the same lines or the same fault, and `Quiet` after `Warned`.
+    /// Ends the input; no line may be pending before. Returns `Ready` if the direction now has lines (a
+    /// check's report), `Warned` if the fault at the end is skipped, otherwise `Quiet`; or the fault at the
+    /// end, or the fault that had ended the run. A second call returns the same lines or the same fault, and
+    /// `Quiet` after `Warned`.
     pub fn end(&mut self) -> Result<Step, At>
         requires drained { lender_ready D.Direction self.old ≡ [] }
         ensures takes { TakesEnd D.Direction self.old.engine result (lender_ready D.Direction self.new) self.new.engine }
@@ -116,7 +118,8 @@ impl<D: Direction> Lender<D> {
         !self.is_pending && self.engine.direction.is_drained()
     }
 
-    /// Lends the next ready line, a copied line last, without its line end; `None` if none is pending.
+    /// Lends the next pending line, without its line end; `None` if none is pending. If the line that was fed
+    /// is copied into the output, it is lent last.
     pub fn next_line(&mut self) -> Option<&[u8]>
         ensures value { option_copied result ≡ slice_get (lender_ready D.Direction self.old) 0 }
         // The direction changes too: it counts the lines that it has lent.

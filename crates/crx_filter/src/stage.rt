@@ -84,8 +84,8 @@ pub fn with_records_left(left: usize, counted: bool) -> Stage
     }
 }
 
-/// Returns whether types lines count among an event's records: column 32 of `line`, its first, is from 2 to
-/// 5.
+/// Returns whether types lines among an event's records are read, and change the counts of types: `line`, the
+/// event's first, has a digit from 2 to 5 in column 32. A shorter line has none.
 pub fn counts_types(line: &[u8]) -> bool
     ensures value { result ≡ counts_types line.now }
 {
