@@ -14,7 +14,8 @@ static MONTHS: [&str; 12] = [
     "Jan", "Feb", "Mar", "Apr", "May", "Jun", "Jul", "Aug", "Sep", "Oct", "Nov", "Dec",
 ];
 
-/// Appends `number`, which is below 100, in two digits. Returns `AllocError` if memory is refused.
+/// Appends `number`, which is below 100, in two digits. Returns `AllocError` if memory is refused; then the
+/// first digit may have been appended.
 fn push_two_digits(text: &mut String, number: u8) -> Result<(), AllocError>
     requires { number < 100 }
     ensures { OnOk result (string_bytes text.new ≡ string_bytes text.old ++ two_digits number) }
@@ -50,7 +51,8 @@ pub fn date_text(alloc: Global, at: Timestamp) -> Result<String, AllocError>
     Ok(text)
 }
 
-/// Returns `moment` as [`date_text`] does, `None` as an empty text; `AllocError` if memory is refused.
+/// Returns `moment` in UTC as a date like `31-Dec-23 23:59`, or an empty text for `None`. Returns
+/// `AllocError` if memory is refused.
 pub fn date_of(alloc: Global, moment: Option<Timestamp>) -> Result<String, AllocError>
     ensures date { IfOk result (λ text. IsDateOf moment (string_bytes text)) }
 {
@@ -65,7 +67,8 @@ pub fn moment_now<C: Clock>(clock: &C) -> Option<Timestamp> {
     Timestamp::now(clock).ok()
 }
 
-/// Returns the date of the clock's moment, empty if it has none; `AllocError` if memory is refused.
+/// Returns the clock's moment in UTC as a date like `31-Dec-23 23:59`, or an empty text if the clock fails or
+/// its time is too late for a [`Timestamp`]. Returns `AllocError` if memory is refused.
 pub fn default_date<C: Clock>(clock: &C, alloc: Global) -> Result<String, AllocError>
     ensures date { IfOk result (λ text. IsDefaultDate (string_bytes text)) }
 {

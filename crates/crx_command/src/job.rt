@@ -107,6 +107,7 @@ impl From<Refused> for UsageFault {
 impl From<AllocError> for UsageFault {
     ghost from_gives = { λ _ fault. fault ≡ usage_fault.Memory };
 
+    /// Returns `Memory`.
     fn from(_error: AllocError) -> UsageFault {
         UsageFault::Memory
     }

@@ -70,6 +70,7 @@ impl Word {
 }
 
 impl fmt::Display for Word {
+    /// Writes the text; fails only if the formatter does.
     fn fmt<W: fmt::Write>(&self, f: &mut fmt::Formatter<W>) -> fmt::Result {
         f.write_str(self.text.as_str())
     }
