@@ -134,6 +134,7 @@ impl<S: Source> Source for Logged<S> {
 
     ghost waits = { λ s. S.waits s.inner };
 
+    /// Returns the inner device's answer: whether a read may have to wait; `true` if that isn't known.
     fn may_wait(&self) -> bool {
         self.inner.may_wait()
     }
@@ -178,14 +179,18 @@ impl<S: Sink> Sink for Logged<S> {
         Ok(count)
     }
 
+    /// Flushes the inner device. Returns `WriteFailed` if that does.
     fn flush(&mut self) -> Result<(), WriteFailed> {
         self.inner.flush()
     }
 
+    /// Marks the inner device's output as awaited.
     fn await_output(&mut self) {
         self.inner.await_output();
     }
 
+    /// Passes the inner device's bytes on if the output is awaited; returns `false` if that fails or failed
+    /// before.
     fn pass_on(&mut self) -> bool {
         self.inner.pass_on()
     }

@@ -36,9 +36,9 @@ pub struct Ended<F: Write + Drop> {
     pub target: Option<TargetFile<F>>,
 }
 
-/// Flushes the buffer of `device`, drops it and returns the log of its bytes. Ignores an error, because bytes
-/// are left only if the status is 1 already: after a message that couldn't be written, the output before it
-/// is written now; after a failed write nothing is.
+/// Flushes the buffer of `device`, drops it and returns the log of its bytes. Ignores an error of the flush.
+/// Bytes are left only if the status is 1 already: after a message that couldn't be written, the output
+/// before it is written now; after a failed write nothing is.
 pub(crate) fn close_buffer<W: Write + Drop>(device: Logged<Std<BufWriter<W>>>) -> Log
     ensures { result.bytes ≡ device.log.bytes }
 {
@@ -98,7 +98,8 @@ fn options_of(alloc: Global, moment: Option<Timestamp>, job: &Job) -> Result<Opt
     Ok(options.unwrap())
 }
 
-/// Runs the filter or check `tool` and returns the exit status of its outcome. A check uses no options.
+/// Runs the filter or check `tool` over three devices and returns the exit status: 0, 1 after a fault, or 2
+/// after warnings or, for a check, if the file isn't standard. A check uses no options.
 fn filter<R: Source, W: Sink, M: Sink>(
     alloc: Global,
     tool: Tool,
@@ -117,9 +118,9 @@ fn filter<R: Source, W: Sink, M: Sink>(
     }
 }
 
-/// Runs the job's filter into its output file, or into `output` if it names none. A file that exists is
-/// overwritten only if the job says so. If memory for the file's buffer is refused, or then the file can't be
-/// made or exists, nothing is read; only this is reported, and the status is 1.
+/// Runs the job's filter into its output file, which is returned still open, or into `output` if it names
+/// none. If memory for the file's buffer is refused, the file can't be made, or it exists and the job doesn't
+/// allow overwriting, nothing is read; only this is reported, and the status is 1.
 fn run_to_target<H: Files, R: Source, W: Sink, M: Sink>(
     files: &mut Opener<'_, H>,
     alloc: Global,
@@ -163,8 +164,10 @@ fn run_to_target<H: Files, R: Source, W: Sink, M: Sink>(
     }
 }
 
-/// Runs a job: makes the default date if needed, opens the input file, makes the output file, and runs the
-/// filter. The first step before the filter that fails is reported, with status 1, and ends the run.
+/// Runs a job and returns its status with the files that it opened, still open. Makes the date if needed
+/// (empty without `moment`), opens the input file (without a name it reads `input`), makes the output file
+/// (without a name it writes to `output`), and then runs the filter. If a step before the filter fails,
+/// reports it and does no more; the status is 1.
 fn run_job<H: Files, R: Source, W: Sink, M: Sink>(
     files: &mut Opener<'_, H>,
     alloc: Global,
