@@ -10,6 +10,7 @@ pub use crx_command::word::Word;
 pub use crx_program::program::run;
 use std::process::ExitCode;
 
+/// Runs the program over the standard streams and exits with its status.
 fn main(rt: HostRuntime) -> ExitCode {
     host::run_host(&rt)
 }
