@@ -34,7 +34,8 @@ pub struct Answer {
     pub code: u32,
 }
 
-/// Returns an answer with these numbers, and 0 as the length of both texts.
+/// Returns an answer with this status, line and code of a fault (0 for none), and 0 as the length of both
+/// texts.
 pub(crate) fn answer_without_texts(status: u32, line: u64, code: u32) -> Answer
     ensures { result ≡ bare_answer status line code }
 {

@@ -38,6 +38,7 @@ impl Source for Given<'_> {
 
     ghost waits = { λ s. true };
 
+    /// Returns `true`, which is always allowed; a read never waits.
     fn may_wait(&self) -> bool {
         true
     }
@@ -177,6 +178,7 @@ impl Sink for Counted {
         Ok(())
     }
 
+    /// Does nothing: the text stays in memory, where the caller gets it.
     fn await_output(&mut self) {}
 
     /// Returns `true`: nothing has to be passed on.

@@ -26,7 +26,9 @@ pub enum AnyEngine {
     Checking(LineEngine<Checking>),
 }
 
-/// Feeds `bytes` to the engine as [`take_bytes`] does. Returns how many were used, or why the run ended.
+/// Feeds the lines in `bytes` to the engine until `READY_LIMIT` bytes of output and messages wait in `held`.
+/// A line without LF at the end is kept there and counts as used. Returns how many bytes were used, or why
+/// the run ended: a fault, which isn't reported yet, refused memory, or the output's limit.
 pub(crate) fn feed_engine(
     engine: &mut AnyEngine,
     held: &mut HandleState,
@@ -45,7 +47,9 @@ pub(crate) fn feed_engine(
     }
 }
 
-/// Ends the input of the engine as [`take_last`] does. An error is the reason why the run ended early.
+/// Feeds the last line, if no LF ended it, and the end of the input to the engine; their output and warnings
+/// are added to `held`. Returns why the run ended early, if it did: a fault, which isn't reported yet,
+/// refused memory, or the output's limit.
 pub(crate) fn end_engine(engine: &mut AnyEngine, held: &mut HandleState) -> Result<(), Stop>
     requires { EngineCanBeFed engine.old held.old 0 }
     ensures keeps { (task : Task) → IsOf task engine.old → IsOf task engine.new }

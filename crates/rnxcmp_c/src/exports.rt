@@ -71,7 +71,10 @@ pub extern "C" fn rnxcmp_c_compact(
 }
 
 /// Expands Compact RINEX 3.0. `skip`: an epoch with a fault is skipped with a warning; `max_output`: the most
-/// bytes of output (0: no limit). The status is as in [`rnxcmp_c_compact`], except `BAD_DATE`.
+/// bytes of output (0: no limit). The status is 1 after a fault (also an input above [`INPUT_LIMIT`], or
+/// refused memory), `OUTPUT_LIMIT` if the output is above `max_output`, `NO_ROOM` if `output` is too short, 2
+/// after warnings, otherwise 0. `output` and `messages` get the first bytes of their texts; their whole
+/// lengths are returned.
 #[unsafe(no_mangle)]
 pub extern "C" fn rnxcmp_c_expand(
     alloc: Global,
@@ -117,7 +120,8 @@ pub extern "C" fn rnxcmp_c_expand(
 }
 
 /// Checks RINEX 3.0x: the output is the report. The status is 0 if the file is standard, 2 if it isn't, 1
-/// after a fault, without a report, and `NO_ROOM` if the report doesn't fit.
+/// after a fault (also refused memory), without a report, and `NO_ROOM` if the report doesn't fit into
+/// `output`.
 #[unsafe(no_mangle)]
 pub extern "C" fn rnxcmp_c_check(
     alloc: Global,

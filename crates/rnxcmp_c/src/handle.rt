@@ -58,7 +58,7 @@ fn take_out(handle: &mut Handle, alloc: Global) -> Box<Reader>
     held.place.into_loose(alloc).into_box()
 }
 
-/// Opens a handle for this reader.
+/// Stores `reader` in a closed handle, which is then open.
 fn put_in(handle: &mut Handle, reader: Box<Reader>)
     ensures reader { Holds handle.new reader.value }
     ensures opened { handle.new.is_open ≡ true }

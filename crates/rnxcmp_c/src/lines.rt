@@ -70,8 +70,9 @@ fn count_output(
     }
 }
 
-/// Feeds the bytes kept of a line to an engine and clears them. `is_ended`: an LF followed the line. Copies
-/// the line first, because a blank and more bytes have to follow it. Returns why the run ended, if it did.
+/// Feeds the bytes kept of a line, now complete, to `engine`, adds its output and warnings to `held`, and
+/// clears the kept bytes. `is_ended`: an LF followed the line. Copies the line first, because a blank and
+/// more bytes have to follow it. Returns why the run ended, if it did.
 fn take_within<E: Engine>(
     engine: &mut E,
     held: &mut HandleState,
@@ -126,9 +127,9 @@ fn take_to_line_end<E: Engine>(
     }
 }
 
-/// Feeds the lines in `bytes` to `engine` until `READY_LIMIT` bytes of output and messages wait for the
-/// caller. A line without LF at the end is kept in `held` and counts as used. Returns the number used, or why
-/// the run ended.
+/// Feeds the lines in `bytes` to `engine` until `READY_LIMIT` bytes of output and messages wait in `held`. A
+/// line without LF at the end is kept there and counts as used. Returns how many bytes were used, or why the
+/// run ended: a fault, which isn't reported yet, refused memory, or the output's limit.
 pub(crate) fn take_bytes<E: Engine>(
     engine: &mut E,
     held: &mut HandleState,
@@ -148,7 +149,9 @@ pub(crate) fn take_bytes<E: Engine>(
     Ok(bytes.len() - left.len())
 }
 
-/// Feeds the last line, if no LF ended it, and the end of the input. An error is why the run ended early.
+/// Feeds the last line, if no LF ended it, and the end of the input to `engine`; their output and warnings
+/// are added to `held`. Returns why the run ended early, if it did: a fault, which isn't reported yet,
+/// refused memory, or the output's limit.
 pub(crate) fn take_last<E: Engine>(engine: &mut E, held: &mut HandleState) -> Result<(), Stop>
     requires going { CanBeFed E.Engine engine.old held.old 0 }
     ensures filter { E.filter engine.new ≡ E.filter engine.old }

@@ -141,6 +141,7 @@ impl Sink for Pending {
         Ok(())
     }
 
+    /// Does nothing: the text stays in memory, where the caller gets it.
     fn await_output(&mut self) {}
 
     /// Returns `true`: nothing has to be passed on.

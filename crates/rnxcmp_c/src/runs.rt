@@ -11,9 +11,10 @@ use crate::devices::Counted;
 use crx_runs::Outcome;
 
 /// Returns the answer of a finished run, and copies the collected texts into the caller's buffers, as far as
-/// they fit. The status is the outcome's, or `NO_ROOM` if the output doesn't fit. If the output is longer
-/// than `most` (0: no limit), the status is `OUTPUT_LIMIT`; if memory was refused in the run or for a text,
-/// the fault is `OutOfMemory`. In these two cases the buffers stay as they are.
+/// they fit. The status is the outcome's, or `NO_ROOM` if the output doesn't fit; messages that don't fit
+/// change nothing. If the output is longer than `most` (0: no limit), the status is `OUTPUT_LIMIT`; if memory
+/// was refused in the run or for a text, it is 1, for the fault `OutOfMemory`. In these two cases the buffers
+/// stay as they are.
 pub(crate) fn answer_of(
     outcome: Outcome,
     output: Counted,
