@@ -102,7 +102,8 @@ impl<D: Direction> LineEngine<D> {
     }
 
     /// Takes the next line and returns its output. After a fault, or once the run has ended, returns `None`
-    /// and stores the answer, a warning or the fault that ended the run: no notice is copied per line.
+    /// and stores the answer (no copy per line): the fault that ended the run, or a warning, which also says
+    /// whether the line has to be fed again.
     #[inline(always)]
     pub(crate) fn answer_line(&mut self, line: Line<'_>) -> Option<LineOutput>
         requires next { IsNextLine (engine_ready D.Direction self.old) self.old.number (line_number line) }

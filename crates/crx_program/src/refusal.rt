@@ -49,8 +49,9 @@ pub fn report_no_memory<M: Sink>(messages: &mut M) -> u8
     report_at_start(messages, Fault::OutOfMemory)
 }
 
-/// Reports `ERROR: `, `words` and `name` in one line, such as `ERROR: file exists: a.crx`, and returns the
-/// exit status, which is 1. If memory for the line is refused, reports `OutOfMemory` at line 0 instead.
+/// Reports `ERROR: `, `words` and `name` in one line, with nothing between them, and returns the exit status,
+/// which is 1: `file exists: ` and `a.crx` make `ERROR: file exists: a.crx`. If memory for the line is
+/// refused, reports `OutOfMemory` at line 0 instead. A failure of `messages` is ignored.
 pub fn report<M: Sink>(alloc: Global, messages: &mut M, words: &str, name: &str) -> u8
     ensures shown { IsShownOr (span M.Sink messages.old messages.new) (error_line words.now name.now) }
     ensures status { result ≡ 1 }

@@ -10,8 +10,8 @@ use std::simd::prelude::*;
 /// How many characters a vector holds.
 pub(crate) const LANES: usize = 16;
 
-// Returns `others` with more lanes that aren't 0: the lanes of characters outside 32 to 126 or, if `IS_TEXT`,
-// of `&`.
+// Returns `others` with more lanes that aren't 0: always the lanes of characters outside 32 to 126, and if
+// `IS_TEXT` also the lanes of `&`. The other lanes keep their values.
 #[inline(always)]
 fn with_others<const IS_TEXT: bool>(others: u8x16, characters: u8x16) -> u8x16
     ensures both { list_all (λ lane. lane == 0) result

@@ -97,9 +97,9 @@ fn open(alloc: Global, handle: &mut Handle, engine: AnyEngine, max_output: u64) 
     }
 }
 
-/// Opens a closed handle for a compaction, with the options of `rnxcmp_c_compact`. The status is 0, `MISUSED`
-/// if the handle is open, `BAD_DATE` if the date is refused, or 1 if memory is refused; unless it is 0, the
-/// handle doesn't change.
+/// Opens a closed handle for a compaction, with the options of `rnxcmp_c_compact` (`max_output` 0: no limit).
+/// Returns status 0; or, with the handle unchanged, `MISUSED` if it is open, `BAD_DATE` if `date` is too long
+/// or has a byte outside 32 to 126, or 1 if memory is refused.
 #[unsafe(no_mangle)]
 pub extern "C" fn rnxcmp_c_open_compact(
     alloc: Global,

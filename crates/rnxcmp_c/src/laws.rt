@@ -26,10 +26,11 @@ pub fn handle_holds()
 
 /// Does nothing; by its contract a handle agrees with a call over the whole input. If its run has ended with
 /// its result, such a call with large enough buffers returns the same status, code and line, and the same
-/// texts. If the output is longer than its limit, both say so. For every input whose output is within the
-/// limit there are such answers. For an input that is too long both have the same status, and the same code
-/// unless memory is refused; but the call says so before it reads, at line 0 and without texts, and the
-/// handle at the line of the first byte above the limit.
+/// texts. If the output is longer than its limit, both return the same status, code and line, but the call
+/// returns no texts. For every input whose output is within the limit there are such answers. For an input
+/// that is too long both have the same status, and the same code unless memory is refused; but the call says
+/// so before it reads, at line 0 and without texts, and the handle at the line of the first byte above the
+/// limit.
 pub fn a_handle_answers_as_a_call()
     ensures same { (task : Task) (fed : List ℕ) (made kept : BothTexts) (answer call : Answer)
         (before after : BothTexts)
