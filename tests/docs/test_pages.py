@@ -66,7 +66,7 @@ def made_pages():
 
 def prose(path):
     """A page without its code."""
-    return re.sub(r"^```.*?^```|^ {4}.*$|`[^`\n]*`", "", path.read_text(encoding="utf-8"), flags=re.M | re.S)
+    return re.sub(r"^```.*?^```|^ {4}[^\n]*$|`[^`\n]*`", "", path.read_text(encoding="utf-8"), flags=re.M | re.S)
 
 
 @cache
@@ -272,8 +272,8 @@ def damage_drawn():
 
 
 def promise_shown():
-    """Whether the clause and the definitions that README.md shows are those of the sources."""
-    text = (TOP / "README.md").read_text(encoding="utf-8").partition("as it is written")[2].partition("\n## ")[0]
+    """Whether the clause and the definitions that docs/READING.md shows are those of the sources."""
+    text = (TOP / "docs/READING.md").read_text(encoding="utf-8").partition("as it is written")[2].partition("\n## ")[0]
     files = [*(TOP / "crates/crx_filter/src").glob("*.rt"), *(TOP / "crates/crx_filter/specs").rglob("*.antt")]
     sources = [re.sub(r"\s+", " ", path.read_text(encoding="utf-8")) for path in files]
     shown = [re.sub(r"\s+", " ", block).strip() for block in re.findall(r"(?:^    .*\n)+", text, re.M)]
