@@ -195,7 +195,8 @@ def of_code(code):
     """The section of a code, as `explain` has it."""
     lines = [f"## Code {code}", "", f"`{faults()[code]}`" + (", skipped by `-s`" if is_skipped(code) else ""), ""]
     if entry := causes().ERRORS.get(code):
-        lines += [f"- expected: {linked(entry.expected)}", f"- likely: {'; '.join(entry.causes)}", f"- to do: {entry.remedy}"]
+        remedy = entry.remedy.removesuffix("; -s drops the epoch")  # which the words above say
+        lines += [f"- expected: {linked(entry.expected)}", f"- likely: {'; '.join(entry.causes)}", f"- to do: {remedy}"]
     if entry := causes().COMPACT_ERRORS.get(code):
         lines += [f"- in compact text: {entry.expected}", f"- likely there: {'; '.join(entry.causes)}"]
     return "\n".join([*lines, ""])
