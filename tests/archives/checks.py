@@ -41,6 +41,7 @@ WANTED = {
     "Checksums before and after": ["the same sums"],
     "Do the files come back?": ["the messages say which"],
     "Other programs that read the files": ["the same"],
+    "Damaged compact files": ["\n"],
 }
 ELSEWHERE = ("GNU parallel over several machines",)  # recipes that need other machines
 # what stands after a recipe, and what doesn't
@@ -78,6 +79,8 @@ def make_files(program, folder):
     (archive / "again_MO.rnx").write_bytes(of_epochs(130).replace(b".000\n", b".000  \n"))
     compact = subprocess.run([program, "rnx2crx"], input=of_epochs(65), capture_output=True, check=True, timeout=60).stdout
     (archive / "again_MO.crx.gz").write_bytes(gzip.compress(compact))
+    packed = gzip.compress(subprocess.run([program, "rnx2crx"], input=good, capture_output=True, check=True, timeout=60).stdout)
+    (archive / "damaged.crx.gz").write_bytes(packed[: len(packed) // 2])
     (archive / "padded.24o").write_bytes(b"\n".join(lines[:first] + [line + b"  " for line in lines[first:-1]] + [b""]))
     (archive / "faulty.24o").write_bytes(good + b"\n")
     (archive / "two.24o").write_bytes(good.replace(b"     3.05", b"     2.11", 1))
@@ -110,6 +113,13 @@ def check_lists(work):
     """The files that a nightly compaction lists as verified: two, with their absolute names."""
     listed = sorted((work / "verified.txt").read_text().split("\0")[:-1])
     return [] if listed == [f"{work}/archive/{name}" for name in ("a_MO.rnx", "sub/b_MO.rnx")] else [f"listed: {listed}"]
+
+
+def check_rest(work):
+    """The epochs before a cut of a packed file are expanded exactly, and `rnxcmp-file` makes nothing of the file."""
+    rest = (work / "rest.rnx").read_bytes()
+    wrong = [] if len(rest) > 4000 and SAMPLE.read_bytes().startswith(rest) else [f"{len(rest)} bytes, or not the beginning"]
+    return wrong + ["something is made of it"] * (work / "archive/damaged.rnx.gz").exists()
 
 
 def check_next_nights(work, environment):
@@ -190,6 +200,8 @@ def checks(program):
             yield heading, lambda: run_block(heading, block, work, environment)
             if heading == "A compaction every night":
                 yield f"{heading}: its lists", lambda: check_lists(work)
+            if heading == "Damaged compact files":
+                yield f"{heading}: the rest", lambda: check_rest(work)
         yield from hostile.checks(environment)
         before = "" if (work / "nightly.sh").exists() else "its recipe, A check every night, wasn't chosen"
         yield "the next nights", lambda: before or check_next_nights(work, environment)

@@ -22,7 +22,7 @@ USUAL = "abcd0010"
 LIKE_AN_OPTION = "-t"
 # Files by which the own rules of `make` would write or remove USUAL.24o
 RULED = {f"{USUAL}.24o.sh": b"touch ran\n", f"{USUAL}.24o.c": b"int main(void) { return 0; }\n", f"{USUAL}.24o,v": b"head;\n"}
-NOT_HERE = ("GNU parallel over several machines", "Other programs that read the files")  # one has machines of its own, one a file
+NOT_HERE = ("GNU parallel over several machines", "Other programs that read the files", "Damaged compact files")  # of other machines, of one file
 
 
 def make_files(archive, names):
