@@ -46,7 +46,10 @@ SYSTEMS = {
 SLOT_CHANNELS = [1, -4, 5, 6, 1, -4, 5, 6, -2, -7, 0, -1, -2, -7, 0, -1, 4, -3, 3, 2, 4, -3, 3, 2]
 FIRST_NUMBER = {"S": 20}
 SATELLITE_LIMIT = 100
-TYPE_LIMIT = 100
+KINDS = "CLDS"                     # code, phase, Doppler, strength
+RECEIVER = (math.radians(47.0), math.radians(8.0))  # latitude and longitude
+HORIZON = math.sin(math.radians(5.0))
+START = datetime.datetime(2024, 1, 1)  # the first epoch, GPS time
 
 
 class Signal:
@@ -74,9 +77,9 @@ class Satellite:
         self.signals = signals
         self.lost_for = 0
 
-    def range_to(self, receiver, seconds):
+    def range_to(self, seconds):
         """The distance in metres, and the sine of the elevation."""
-        latitude, longitude = receiver
+        latitude, longitude = RECEIVER
         angle = self.phase + self.motion * seconds
         turn = longitude + EARTH_TURN * seconds - self.node
         along, across = math.cos(angle), math.sin(angle)
@@ -134,20 +137,20 @@ class ReceiverClock:
             self.offset += 1e-3
 
 
-def cells_of(signal, kinds, distance, rate, sine, clock_metres, rng):
+def cells_of(signal, distance, rate, sine, clock_metres, rng):
     """The cells of one signal, 16 columns for each kind of observation."""
     strength = 29.0 + 22.0 * sine - 4.0 * signal.loss + rng.uniform(-0.6, 0.6)
     if signal.lost_for > 0:
         signal.lost_for -= 1
         if signal.lost_for == 0:
             signal.cycles += rng.randrange(-5000, 5000)
-        return MISSING * len(kinds)
+        return MISSING * len(KINDS)
     if sine < signal.loss:
-        return MISSING * len(kinds)
+        return MISSING * len(KINDS)
     chance = rng.random()
     if chance < 0.0015:
         signal.lost_for = rng.randrange(1, 12)
-        return MISSING * len(kinds)
+        return MISSING * len(KINDS)
     slip = " "
     if chance > 0.9985:
         signal.cycles += rng.randrange(-200, 200)
@@ -157,7 +160,7 @@ def cells_of(signal, kinds, distance, rate, sine, clock_metres, rng):
     delay = 3.0 * signal.ionosphere * slant
     level = min(9, max(1, int(strength / 6.0)))
     text = []
-    for kind in kinds:
+    for kind in KINDS:
         if kind == "C":
             text.append("%14.3f %d" % (metres + delay + signal.bias + rng.uniform(-0.4, 0.4), level))
         elif kind == "L":
@@ -174,14 +177,14 @@ def cells_of(signal, kinds, distance, rate, sine, clock_metres, rng):
     return "".join(text)
 
 
-def satellite_line(satellite, kinds, distance, rate, sine, clock_metres, rng):
+def satellite_line(satellite, distance, rate, sine, clock_metres, rng):
     """The line of one satellite, None where nothing of it was received."""
     if satellite.lost_for > 0:
         satellite.lost_for -= 1
         return None
     if rng.random() < 0.0008:
         satellite.lost_for = rng.randrange(1, 25)
-    text = "".join([cells_of(signal, kinds, distance, rate, sine, clock_metres, rng)
+    text = "".join([cells_of(signal, distance, rate, sine, clock_metres, rng)
                     for signal in satellite.signals])
     text = text.rstrip(" ")
     return satellite.name + text if text else None
@@ -191,7 +194,7 @@ def header_line(content, label):
     return content.ljust(60) + label + "\n"
 
 
-def header(letters, types, start, interval, args):
+def header(letters, types, interval):
     """The header of the file."""
     kind = "M" if len(letters) > 1 else letters
     yield header_line("%9s%11s%-20s%-20s" % ("3.05", "", "OBSERVATION DATA", kind), "RINEX VERSION / TYPE")
@@ -202,7 +205,7 @@ def header(letters, types, start, interval, args):
     yield header_line("%-20s%-40s" % ("rnxcmp", "rnxcmp"), "OBSERVER / AGENCY")
     yield header_line("%-20s%-20s%-20s" % ("1", "MODEL RECEIVER", "1.0"), "REC # / TYPE / VERS")
     yield header_line("%-20s%-20s" % ("1", "MODEL ANTENNA   NONE"), "ANT # / TYPE")
-    latitude, longitude = math.radians(args.latitude), math.radians(args.longitude)
+    latitude, longitude = RECEIVER
     place = (math.cos(latitude) * math.cos(longitude), math.cos(latitude) * math.sin(longitude), math.sin(latitude))
     yield header_line("%14.4f%14.4f%14.4f" % tuple(EARTH_RADIUS * x for x in place), "APPROX POSITION XYZ")
     yield header_line("%14.4f%14.4f%14.4f" % (0.0, 0.0, 0.0), "ANTENNA: DELTA H/E/N")
@@ -214,8 +217,8 @@ def header(letters, types, start, interval, args):
             yield header_line(begin + codes, "SYS / # / OBS TYPES")
     yield header_line("DBHZ", "SIGNAL STRENGTH UNIT")
     yield header_line("%10.3f" % (interval / TICKS), "INTERVAL")
-    yield header_line("%6d%6d%6d%6d%6d%13.7f     GPS" % (start.year, start.month, start.day, start.hour,
-                                                       start.minute, start.second), "TIME OF FIRST OBS")
+    yield header_line("%6d%6d%6d%6d%6d%13.7f     GPS" % (START.year, START.month, START.day, START.hour,
+                                                       START.minute, START.second), "TIME OF FIRST OBS")
     for letter in letters:
         for name in types[letter]:
             if name[0] == "L":
@@ -230,10 +233,10 @@ def header(letters, types, start, interval, args):
     yield header_line("", "END OF HEADER")
 
 
-def epoch_line(start, ticks, count, clock):
+def epoch_line(ticks, count, clock):
     """The epoch line: 41 columns without the blanks at their end, or 56 where the clock offset is given."""
     whole, part = divmod(ticks, TICKS)
-    moment = start + datetime.timedelta(seconds=whole)
+    moment = START + datetime.timedelta(seconds=whole)
     line = "> %04d %02d %02d %02d %02d %2d.%07d  0%3d" % (
         moment.year, moment.month, moment.day, moment.hour, moment.minute, moment.second, part, count)
     if clock is None:
@@ -241,10 +244,8 @@ def epoch_line(start, ticks, count, clock):
     return "%-41s%15.12f\n" % (line, round(clock, 12) + 0.0)
 
 
-def epochs(args, satellites, kinds, start, interval, rng):
+def epochs(args, satellites, interval, rng):
     """The text of one epoch after another, without end."""
-    receiver = (math.radians(args.latitude), math.radians(args.longitude))
-    horizon = math.sin(math.radians(args.mask))
     clock = ReceiverClock(rng)
     places = random.Random(args.random)  # apart, so that the lines stay what they are without it
     with_clock = 0
@@ -254,12 +255,12 @@ def epochs(args, satellites, kinds, start, interval, rng):
         clock.move(interval / TICKS)
         rows = []
         for satellite in satellites:
-            distance, sine = satellite.range_to(receiver, seconds)
-            if sine < horizon or len(rows) == SATELLITE_LIMIT:
+            distance, sine = satellite.range_to(seconds)
+            if sine < HORIZON or len(rows) == SATELLITE_LIMIT:
                 continue
-            later, _ = satellite.range_to(receiver, seconds + 0.5)
+            later, _ = satellite.range_to(seconds + 0.5)
             rate = 2.0 * (later - distance) + clock.drift * LIGHT
-            line = satellite_line(satellite, kinds, distance, rate, sine, clock.offset * LIGHT, rng)
+            line = satellite_line(satellite, distance, rate, sine, clock.offset * LIGHT, rng)
             if line is not None:
                 rows.append(line)
         rows = [row for row in rows if places.random() >= args.left_out]
@@ -268,7 +269,7 @@ def epochs(args, satellites, kinds, start, interval, rng):
         has_clock = args.clock and (args.clock_epochs is None or with_clock < args.clock_epochs)
         with_clock += has_clock
         given = clock.offset if has_clock else None
-        yield epoch_line(start, ticks, len(rows), given) + "".join(row + "\n" for row in rows)
+        yield epoch_line(ticks, len(rows), given) + "".join(row + "\n" for row in rows)
         ticks += interval
         if rng.random() < args.gaps:
             ticks += interval * rng.randrange(1, 40)
@@ -282,24 +283,17 @@ def arguments():
     parser.add_argument("--random", type=int, default=1, help="the start of the random numbers (1)")
     parser.add_argument("--systems", default="GREC", help="letters of GRECJSI (GREC)")
     parser.add_argument("--interval", type=float, default=30.0, help="seconds between epochs (30)")
-    parser.add_argument("--start", default="2024-01-01 00:00:00", help="the first epoch, GPS time")
     parser.add_argument("--satellites", type=int, help="at most so many satellites of each system")
     parser.add_argument("--bands", type=int, help="at most so many signals of each system")
-    parser.add_argument("--kinds", default="CLDS", help="letters of CLDS: code, phase, Doppler, strength (CLDS)")
-    parser.add_argument("--mask", type=float, default=5.0, help="lowest elevation in degrees (5)")
     parser.add_argument("--gaps", type=float, default=0.0005, help="chance of a gap after an epoch (0.0005)")
     parser.add_argument("--left-out", type=float, default=0.0, help="chance of a satellite's line to be left out (0)")
     parser.add_argument("--shuffled", action="store_true", help="another order of the satellites in each epoch")
     parser.add_argument("--clock", action="store_true", help="receiver clock offsets in the epoch lines")
     parser.add_argument("--clock-epochs", type=int, help="those of the first so many epochs alone")
-    parser.add_argument("--latitude", type=float, default=47.0, help="degrees (47)")
-    parser.add_argument("--longitude", type=float, default=8.0, help="degrees (8)")
     parser.add_argument("-o", "--output", help="the file to write (standard output)")
     args = parser.parse_args()
     if not args.systems or set(args.systems) - set(SYSTEMS) or len(set(args.systems)) != len(args.systems):
         parser.error("--systems: letters of GRECJSI, each once")
-    if not args.kinds or set(args.kinds) - set("CLDS") or len(set(args.kinds)) != len(args.kinds):
-        parser.error("--kinds: letters of CLDS, each once")
     if round(args.interval * TICKS) < 1:
         parser.error("--interval: above zero")
     return args
@@ -307,18 +301,16 @@ def arguments():
 
 def write(args, out):
     rng = random.Random(args.random)
-    start = datetime.datetime.strptime(args.start, "%Y-%m-%d %H:%M:%S")
     interval = round(args.interval * TICKS)
     satellites, types = [], {}
     for letter in args.systems:
         bands = SYSTEMS[letter]["bands"][:args.bands]
-        types[letter] = [kind + band for band, _ in bands for kind in args.kinds]
-        assert 1 <= len(types[letter]) <= TYPE_LIMIT
+        types[letter] = [kind + band for band, _ in bands for kind in KINDS]
         satellites += constellation(letter, bands, args.satellites, rng)
     limit = None if args.megabytes is None else int(args.megabytes * 1e6)
-    text = "".join(header(args.systems, types, start, interval, args))
+    text = "".join(header(args.systems, types, interval))
     written, chunk, held = len(text), [text], len(text)
-    for made, epoch in enumerate(epochs(args, satellites, args.kinds, start, interval, rng)):
+    for made, epoch in enumerate(epochs(args, satellites, interval, rng)):
         if (limit is not None and written >= limit) or (args.epochs is not None and made >= args.epochs):
             break
         chunk.append(epoch)
