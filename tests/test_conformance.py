@@ -141,7 +141,7 @@ class Suite(unittest.TestCase):
         done = conformed(*commands(), self.cases, self.random, "--files", TOP / "samples", "--profile")
         self.assertEqual(done.returncode, 0, done.stdout[:3000] + done.stderr)
         self.assertRegex(done.stdout, rf"\n{len(self.collected) + RANDOM + 1} cases, 0 differ; 0 more")
-        self.assertGreater(len(self.collected), 100)
+        self.assertGreater(len(self.collected), 90)
 
     def test_odd_names(self):
         """A name with control characters is printed quoted: of a file that is left out, and of one that differs."""
