@@ -106,6 +106,13 @@ def run(*words, given=b"", seconds=120, **more):
     return with_messages(words, call)
 
 
+def wrong_run(command, seconds=600, **more):
+    """What is wrong with a run of a command that is to end with status 0: its last lines."""
+    command = [str(word) for word in command]
+    done = subprocess.run(command, stdout=subprocess.PIPE, stderr=subprocess.STDOUT, text=True, errors="replace", timeout=seconds, **more)
+    return [] if done.returncode == 0 else [f"{command[0]}: status {done.returncode}", *done.stdout.splitlines()[-20:]]
+
+
 def files_in(folder):
     """The files below a folder, each with its content."""
     return {str(path.relative_to(folder)): path.read_bytes() for path in Path(folder).rglob("*") if path.is_file()}

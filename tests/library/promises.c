@@ -9,7 +9,7 @@
 #include <stdlib.h>
 #include <string.h>
 
-enum { ROOM = 1 << 17, WARNED = 200, MANY = 20000, STACK = 256 << 10 };
+enum { ROOM = 1 << 17, MANY = 20000, STACK = 256 << 10 };
 
 #define HEADER                                                                                                                                 \
     "     3.04           OBSERVATION DATA    G                   RINEX VERSION / TYPE\n"                                                       \
@@ -27,8 +27,6 @@ enum { ROOM = 1 << 17, WARNED = 200, MANY = 20000, STACK = 256 << 10 };
 #define COMPACT_SECOND "                    1\n\n100500\n"
 #define SECOND_IN_FULL "> 2024 01 01 00 00  1.0000000  0  1      G01\n\n3&20000100500\n"
 #define STRANGE "> 2024 01 01 00 00  1.0000000  0  1\nX01\n"
-#define EVENT "> 2024 01 01 00 00  1.0000000  4  1\n"
-#define NO_TYPES "G    0 C1C                                                  SYS / # / OBS TYPES\n"
 
 static const char rinex[] = HEADER FIRST SECOND, compact[] = FIRST_LINES(DATE "     ") HEADER COMPACT_FIRST COMPACT_SECOND;
 static const char strange[] = HEADER FIRST STRANGE, before_strange[] = FIRST_LINES("                    ") HEADER COMPACT_FIRST;
@@ -346,129 +344,75 @@ static void check_takings(void) {
     rnxcmp_close(&handle);
 }
 
-/* Feeds lines again and again, and takes nothing, until no more are taken; gives how many bytes were. */
-static size_t fed_until_full(rnxcmp_handle *handle, const char *bytes) {
-    size_t length = strlen(bytes), all = 0;
-    used = length;
-    for (int k = 0; used == length && k < 100000; k++) {
-        size_t ready = answer.output_length + answer.messages_length;
-        EXPECT(rnxcmp_feed(handle, bytes, length, &used, &answer) == RNXCMP_GOOD && (used == length || ready >= RNXCMP_READY || bytes[used - 1] == '\n'));
-        all += used;
-    }
-    return all;
-}
-
-static void check_back_pressure(const char *epoch, int skip) {
+/* While so much is ready that nothing more is taken, a feed changes nothing; a taking makes room for more. */
+static void check_back_pressure(void) {
     rnxcmp_handle handle = RNXCMP_CLOSED;
-    rnxcmp_options options = RNXCMP_OPTIONS;
-    options.skip = (uint32_t)skip;
-    EXPECT(rnxcmp_open_compact(&handle, &options, &answer) == RNXCMP_GOOD);
+    EXPECT(rnxcmp_open_compact(&handle, NULL, &answer) == RNXCMP_GOOD);
     EXPECT(rnxcmp_feed(&handle, HEADER FIRST, strlen(HEADER FIRST), &used, &answer) == RNXCMP_GOOD);
-    EXPECT(fed_until_full(&handle, epoch) > 1000);
-    size_t ready = answer.output_length + answer.messages_length;
-    EXPECT(ready >= RNXCMP_READY && ready < RNXCMP_READY + 200 && used < strlen(epoch));
+    for (used = 1; used > 0 && answer.output_length < 2 * RNXCMP_READY;) {
+        EXPECT(rnxcmp_feed(&handle, SECOND, strlen(SECOND), &used, &answer) == RNXCMP_GOOD);
+    }
     rnxcmp_answer before = answer;
-    EXPECT(rnxcmp_feed(&handle, epoch, strlen(epoch), &used, &answer) == RNXCMP_GOOD && used == 0 && same(answer, before));
+    EXPECT(used == 0 && before.output_length >= RNXCMP_READY && before.output_length < RNXCMP_READY + 200);
     EXPECT(rnxcmp_feed(&handle, NULL, 0, &used, &answer) == RNXCMP_GOOD && used == 0 && same(answer, before));
-    size_t of_output = before.output_length > 0 && !skip, over = ready - RNXCMP_READY + 1;
-    EXPECT(rnxcmp_take(&handle, output, of_output ? over : 0, messages, of_output ? 0 : over, &answer) == RNXCMP_GOOD);
-    EXPECT(answer.output_length + answer.messages_length == RNXCMP_READY - 1);
-    EXPECT(rnxcmp_feed(&handle, epoch, strlen(epoch), &used, &answer) == RNXCMP_GOOD && used > 0);
+    EXPECT(rnxcmp_take(&handle, output, before.output_length - RNXCMP_READY + 1, NULL, 0, &answer) == RNXCMP_GOOD);
+    EXPECT(answer.output_length == RNXCMP_READY - 1);
+    EXPECT(rnxcmp_feed(&handle, SECOND, strlen(SECOND), &used, &answer) == RNXCMP_GOOD && used > 0);
     EXPECT(rnxcmp_end(&handle, &answer) != RNXCMP_MISUSED);
     rnxcmp_close(&handle);
 }
 
 /* A limit ends a handle's run before the line by which the output would be longer. */
 static void check_limit_of_handles(void) {
-    rnxcmp_handle handle = RNXCMP_CLOSED;
     rnxcmp_options options = dated(DATE);
-    size_t length = strlen(FIRST_LINES(DATE "     ") HEADER COMPACT_FIRST);
-    for (size_t limit = length; limit <= strlen(compact); limit++) {
-        int is_over = limit < strlen(compact);
-        options.max_output = limit;
-        EXPECT(rnxcmp_open_compact(&handle, &options, &answer) == RNXCMP_GOOD);
+    for (int kind = 0; kind < 2; kind++) {
+        rnxcmp_handle handle = RNXCMP_CLOSED;
+        const char *input = kind == 0 ? rinex : compact, *wanted = kind == 0 ? compact : rinex;
+        size_t length = strlen(kind == 0 ? FIRST_LINES(DATE "     ") HEADER COMPACT_FIRST : HEADER FIRST);
+        options.max_output = strlen(wanted) - 1;
+        EXPECT((kind == 0 ? rnxcmp_open_compact : rnxcmp_open_expand)(&handle, &options, &answer) == RNXCMP_GOOD);
         clear();
-        EXPECT(rnxcmp_feed(&handle, rinex, strlen(rinex), &used, &answer) == (is_over ? RNXCMP_OUTPUT_LIMIT : RNXCMP_GOOD) && used == strlen(rinex));
-        EXPECT(is(is_over ? RNXCMP_OUTPUT_LIMIT : RNXCMP_GOOD, 0, 0, is_over ? length : strlen(compact), 0));
-        EXPECT(!is_over || (rnxcmp_feed(&handle, "x", 1, &used, NULL) == RNXCMP_MISUSED && rnxcmp_end(&handle, NULL) == RNXCMP_MISUSED));
-        EXPECT(rnxcmp_take(&handle, output, 3, messages, 3, &answer) == (is_over ? RNXCMP_OUTPUT_LIMIT : RNXCMP_GOOD));
-        EXPECT(rnxcmp_take(&handle, output + 3, ROOM - 3, messages, ROOM, &answer) == (is_over ? RNXCMP_OUTPUT_LIMIT : RNXCMP_GOOD));
-        EXPECT(answer.output_length == 0 && holds(output, compact, is_over ? length : strlen(compact)) && holds_text(messages, ""));
+        EXPECT(rnxcmp_feed(&handle, input, strlen(input), &used, &answer) == RNXCMP_OUTPUT_LIMIT && used == strlen(input));
+        EXPECT(is(RNXCMP_OUTPUT_LIMIT, 0, 0, length, 0));
+        EXPECT(rnxcmp_feed(&handle, "x", 1, &used, NULL) == RNXCMP_MISUSED && rnxcmp_end(&handle, NULL) == RNXCMP_MISUSED);
+        EXPECT(rnxcmp_take(&handle, output, ROOM, messages, ROOM, &answer) == RNXCMP_OUTPUT_LIMIT && is(RNXCMP_OUTPUT_LIMIT, 0, 0, 0, 0));
+        EXPECT(holds(output, wanted, length) && holds_text(messages, ""));
         rnxcmp_close(&handle);
     }
 }
 
-/* What a limit counts is all output, also what was taken, and a warning isn't output. */
-static void check_limit_over_takings(void) {
-    rnxcmp_handle handle = RNXCMP_CLOSED;
-    rnxcmp_options options = RNXCMP_OPTIONS;
-    options.skip = 1, options.max_output = strlen(HEADER FIRST) + strlen(FIRST);
-    const char *broken = "                    1\n\n?\n";
-    EXPECT(rnxcmp_open_expand(&handle, &options, &answer) == RNXCMP_GOOD);
-    const char *texts[] = {FIRST_LINES("                    ") HEADER COMPACT_FIRST, "                    1\n\n0\n", broken, COMPACT_FIRST};
-    for (int k = 0; k < 4; k++) {
-        clear();
-        int status = rnxcmp_feed(&handle, texts[k], strlen(texts[k]), &used, &answer);
-        EXPECT(status == (k == 3 ? RNXCMP_OUTPUT_LIMIT : RNXCMP_GOOD) && used == strlen(texts[k]));
-        EXPECT(answer.output_length == (k == 0 ? strlen(HEADER FIRST) : k == 1 ? strlen(FIRST) : 0));
-        EXPECT((answer.messages_length > 0) == (k == 2));
-        EXPECT(rnxcmp_take(&handle, output, ROOM, messages, ROOM, NULL) == status);
-    }
-    rnxcmp_close(&handle);
-}
-
-/* ---- many warnings, and a fault */
-
-static void check_many_warnings(void) {
-    static char input[ROOM], wanted[ROOM];
-    char *at = input + sprintf(input, "%s", HEADER FIRST), *told = wanted;
-    for (int k = 0; k < WARNED; k++) {
-        at += sprintf(at, "%s", STRANGE);
-        told += sprintf(told, "WARNING line %d code 13: bad satellite\n", 7 + 2 * k);
-    }
-    sprintf(at, "%s", EVENT NO_TYPES);
-    sprintf(told, "ERROR line %d code 6: bad types line\n", 7 + 2 * WARNED);
-    const char *made = FIRST_LINES("                    ") HEADER COMPACT_FIRST EVENT;
-    rnxcmp_options options = RNXCMP_OPTIONS;
-    options.skip = 1;
-    EXPECT(filled(0, input, &options) == RNXCMP_FAULT && is(RNXCMP_FAULT, 6, 7 + 2 * WARNED, strlen(made), strlen(wanted)));
-    EXPECT(holds_text(output, made) && holds_text(messages, wanted));
-    rnxcmp_handle handle = RNXCMP_CLOSED;
-    EXPECT(rnxcmp_open_compact(&handle, &options, &answer) == RNXCMP_GOOD);
-    for (size_t k = 0; k < strlen(input); k += 100) {
-        rnxcmp_feed(&handle, input + k, strlen(input + k) < 100 ? strlen(input + k) : 100, &used, &answer);
-    }
-    EXPECT(is(RNXCMP_FAULT, 6, 7 + 2 * WARNED, strlen(made), strlen(wanted)));
-    clear();
-    rnxcmp_take(&handle, output, ROOM, messages, ROOM, &answer);
-    EXPECT(holds_text(output, made) && holds_text(messages, wanted) && is(RNXCMP_FAULT, 6, 7 + 2 * WARNED, 0, 0));
-    rnxcmp_close(&handle);
-}
-
 /* ---- memory that is refused */
 
+/* A run of a handle over a whole input; gives the status of its last call. */
+static int run_of(int kind, const char *input) {
+    rnxcmp_handle handle = RNXCMP_CLOSED;
+    int status = kind == 0   ? rnxcmp_open_compact(&handle, NULL, &answer)
+                 : kind == 1 ? rnxcmp_open_expand(&handle, NULL, &answer)
+                             : rnxcmp_open_check(&handle, &answer);
+    EXPECT(handle.is_open == (status == RNXCMP_GOOD));
+    status = status == RNXCMP_GOOD ? rnxcmp_feed(&handle, input, strlen(input), &used, &answer) : status;
+    status = status == RNXCMP_GOOD ? rnxcmp_end(&handle, &answer) : status;
+    EXPECT(status == (int)answer.status && (!handle.is_open || rnxcmp_take(&handle, output, ROOM, messages, ROOM, NULL) == status));
+    rnxcmp_close(&handle);
+    return status;
+}
+
+/* With each growth refused in turn, and all later ones, a call and a run end with that, and nothing stays. */
 static void check_refusals(void) {
     size_t before = held;
     for (int kind = 0; kind < 3; kind++) {
         const char *input = kind == 1 ? compact : rinex;
-        uint64_t all;
-        growths = 0;
-        EXPECT(filled(kind, input, NULL) == RNXCMP_GOOD);
-        all = growths;
-        EXPECT(all > 0 && held == before);
-        for (uint64_t k = 1; k <= all; k++) {
-            growths = 0, refused = k, refuse_on = 1;
-            int status = filled(kind, input, NULL);
-            refused = 0;
-            EXPECT(status == RNXCMP_FAULT && is(RNXCMP_FAULT, RNXCMP_OUT_OF_MEMORY, answer.line, 0, 0) && are_untouched() && held == before);
+        for (int in_pieces = 0; in_pieces < 2; in_pieces++) {
+            growths = 0;
+            EXPECT((in_pieces ? run_of(kind, input) : filled(kind, input, NULL)) == RNXCMP_GOOD && growths > 0 && held == before);
+            for (uint64_t k = growths; k > 0; k--) {
+                growths = 0, refused = k, refuse_on = 1;
+                int status = in_pieces ? run_of(kind, input) : filled(kind, input, NULL);
+                refused = 0;
+                EXPECT(status == RNXCMP_FAULT && answer.code == RNXCMP_OUT_OF_MEMORY && held == before);
+                EXPECT(in_pieces || (is(RNXCMP_FAULT, RNXCMP_OUT_OF_MEMORY, answer.line, 0, 0) && are_untouched()));
+            }
         }
-        rnxcmp_handle handle = RNXCMP_CLOSED;
-        clear();
-        growths = 0, refused = 1, refuse_on = 1;
-        int status = kind == 0 ? rnxcmp_open_compact(&handle, NULL, &answer) : kind == 1 ? rnxcmp_open_expand(&handle, NULL, &answer) : rnxcmp_open_check(&handle, &answer);
-        refused = 0;
-        EXPECT(status == RNXCMP_FAULT && is(RNXCMP_FAULT, RNXCMP_OUT_OF_MEMORY, 0, 0, 0) && !handle.is_open && held == before);
-        EXPECT(rnxcmp_feed(&handle, "x", 1, &used, NULL) == RNXCMP_MISUSED);
     }
 }
 
@@ -499,11 +443,8 @@ static void *check_all(void *unused) {
     check_null_handles();
     check_null_in_a_run();
     check_takings();
-    check_back_pressure(SECOND, 0);
-    check_back_pressure(STRANGE, 1);
+    check_back_pressure();
     check_limit_of_handles();
-    check_limit_over_takings();
-    check_many_warnings();
     check_refusals();
     check_constants();
     return unused;

@@ -1,5 +1,5 @@
-/* The program over the library, as far as tests/machines/libraries.py asks for it: calls KIND WAY SKIP. KIND is rnx2crx, crx2rnx or check, WAY
-   is whole or pieces, SKIP is 0 or 1. It reads standard input, and writes and answers what the program does. */
+/* The program over the library: calls WAY rnx2crx|crx2rnx|check [--date TEXT] [-e N] [-s] [--most N]. WAY is `whole`, or how many bytes a
+   piece has; --most is max_output. It reads standard input, and writes and answers what the program does. */
 #include <rnxcmp.h>
 #include <stdio.h>
 #include <stdlib.h>
@@ -9,10 +9,10 @@
 #include <io.h>
 #endif
 
-enum { PIECE = 777, ROOM = 1000 };
+enum { LONGEST = 1 << 24, ROOM = 1000 };
 
-static char *input;
-static size_t length;
+static const char *kind;
+static rnxcmp_options options = RNXCMP_OPTIONS;
 static rnxcmp_answer answer;
 
 static void *asked(size_t size) {
@@ -23,28 +23,24 @@ static void *asked(size_t size) {
     return place;
 }
 
-static void read_all(void) {
-    size_t room = 1 << 24;
-    input = asked(room);
-    length = fread(input, 1, room, stdin);
-}
-
-static int call(const char *kind, const rnxcmp_options *options, char *output, size_t output_room, char *messages, size_t messages_room) {
+static int call(const char *input, size_t length, char *output, size_t output_room, char *messages, size_t messages_room) {
     if (strcmp(kind, "rnx2crx") == 0) {
-        return rnxcmp_compact(input, length, options, output, output_room, messages, messages_room, &answer);
+        return rnxcmp_compact(input, length, &options, output, output_room, messages, messages_room, &answer);
     }
     if (strcmp(kind, "crx2rnx") == 0) {
-        return rnxcmp_expand(input, length, options, output, output_room, messages, messages_room, &answer);
+        return rnxcmp_expand(input, length, &options, output, output_room, messages, messages_room, &answer);
     }
     return rnxcmp_check(input, length, output, output_room, messages, messages_room, &answer);
 }
 
 /* One call that says how long the rooms have to be, and one that fills them. */
-static int whole(const char *kind, const rnxcmp_options *options) {
-    call(kind, options, NULL, 0, NULL, 0);
+static int whole(void) {
+    char *input = asked(LONGEST);
+    size_t length = fread(input, 1, LONGEST, stdin);
+    call(input, length, NULL, 0, NULL, 0);
     size_t output_room = answer.output_length, messages_room = answer.messages_length;
     char *output = asked(output_room), *messages = asked(messages_room);
-    int status = call(kind, options, output, output_room, messages, messages_room);
+    int status = call(input, length, output, output_room, messages, messages_room);
     fwrite(output, 1, output_room, stdout);
     fwrite(messages, 1, messages_room, stderr);
     return status;
@@ -60,15 +56,19 @@ static void take_all(rnxcmp_handle *handle) {
     }
 }
 
-static int pieces(const char *kind, const rnxcmp_options *options) {
+/* The loop of the header. */
+static int pieces(size_t piece) {
     rnxcmp_handle handle = RNXCMP_CLOSED;
-    int status = strcmp(kind, "rnx2crx") == 0   ? rnxcmp_open_compact(&handle, options, &answer)
-                 : strcmp(kind, "crx2rnx") == 0 ? rnxcmp_open_expand(&handle, options, &answer)
+    int status = strcmp(kind, "rnx2crx") == 0   ? rnxcmp_open_compact(&handle, &options, &answer)
+                 : strcmp(kind, "crx2rnx") == 0 ? rnxcmp_open_expand(&handle, &options, &answer)
                                                 : rnxcmp_open_check(&handle, &answer);
-    size_t used = 0;
-    for (size_t from = 0; from < length && status == RNXCMP_GOOD; from += used) {
-        status = rnxcmp_feed(&handle, input + from, length - from < PIECE ? length - from : PIECE, &used, &answer);
-        take_all(&handle);
+    char *bytes = asked(piece);
+    size_t length, used;
+    while (status == RNXCMP_GOOD && (length = fread(bytes, 1, piece, stdin)) > 0) {
+        for (size_t from = 0; status == RNXCMP_GOOD && from < length; from += used) {
+            status = rnxcmp_feed(&handle, bytes + from, length - from, &used, &answer);
+            take_all(&handle);
+        }
     }
     if (status == RNXCMP_GOOD) {
         status = rnxcmp_end(&handle, &answer);
@@ -79,17 +79,24 @@ static int pieces(const char *kind, const rnxcmp_options *options) {
 }
 
 int main(int count, char **words) {
-    if (count != 4) {
-        return 9;
-    }
 #ifdef _WIN32
     for (int stream = 0; stream < 3; stream++) {
         _setmode(stream, _O_BINARY);
     }
 #endif
-    rnxcmp_options options = RNXCMP_OPTIONS;
-    options.date = "01-Jan-24 00:00";
-    options.skip = strcmp(words[3], "1") == 0;
-    read_all();
-    return strcmp(words[2], "whole") == 0 ? whole(words[1], &options) : pieces(words[1], &options);
+    kind = count > 2 ? words[2] : "";
+    for (int k = 3; k < count; k++) {
+        if (strcmp(words[k], "-s") == 0) {
+            options.skip = 1;
+        } else if (k + 1 == count) {
+            return 9;
+        } else if (strcmp(words[k], "--date") == 0) {
+            options.date = words[++k];
+        } else if (strcmp(words[k], "-e") == 0) {
+            options.every = (uint32_t)atoi(words[++k]);
+        } else {
+            options.max_output = strtoull(words[++k], NULL, 10);
+        }
+    }
+    return strcmp(words[1], "whole") == 0 ? whole() : pieces((size_t)atoi(words[1]));
 }

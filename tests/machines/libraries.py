@@ -7,21 +7,19 @@ import subprocess
 import tempfile
 from pathlib import Path
 
-from runner import SAMPLE, SEED, TOP
-from texts import damaged
+from runner import SAMPLE, SEED, TOP, wrong_run
+from texts import DATED, damaged
 
-HERE = Path(__file__).resolve().parent
+CALLS = Path(__file__).resolve().parent / "calls.c"
 SECONDS = 100
 DAMAGED = 7  # copies of the sample with damage, beside it
-DATE = ("--date", "01-Jan-24 00:00")
+WAYS = ("whole", "777")  # of calls.c
 COUNTED = "-Wl,--wrap=malloc,--wrap=realloc,--wrap=free"  # tests/library/counted.h
 
 
 def compiled(machine, library, source, target, linked):
     """Compiles a program of C with a machine's compiler: what went wrong, as lines."""
-    command = [machine.compiler, "-std=gnu11", "-O1", "-I", library, source, *linked, "-o", target, "-pthread"]
-    run = subprocess.run([str(word) for word in command], capture_output=True, text=True, timeout=SECONDS)
-    return [] if run.returncode == 0 else [f"{source.name}: {line}" for line in run.stderr.splitlines()[-8:]]
+    return wrong_run([machine.compiler, "-std=gnu11", "-O1", "-Wall", "-Werror", "-I", library, source, *linked, "-o", target, "-pthread"])
 
 
 def linked_ways(machine, library):
@@ -41,39 +39,37 @@ def answer(command, words, data):
     return run.stdout, run.stderr, run.returncode
 
 
+def differing(program, command, words, data):
+    """What differs between the program and calls.c, whole and in pieces, as lines."""
+    wanted = answer([program], words, data)
+    found = ((way, answer([*command, way], words, data)) for way in WAYS)
+    return [f"{way} {' '.join(words)}, {len(data)} bytes: {got!r:.400}, not {wanted!r:.400}" for way, got in found if got != wanted]
+
+
 def over_texts(program, command):
-    """What differs between the program and calls.c, over the sample, nothing, and damaged copies."""
+    """The same over the sample, nothing, and damaged copies."""
     rng, sample, wrong = random.Random(SEED), SAMPLE.read_bytes(), []
-
-    def call(kind, way, skip, data):
-        ours = [kind, *(DATE if kind == "rnx2crx" else ()), *(["-s"] if skip == "1" and kind != "check" else ())]
-        wanted, got = answer([program], ours, data), answer(command, [kind, way, skip], data)
-        wrong.extend([] if got == wanted else [f"{kind} {way} {skip}, {len(data)} bytes: {got!r:.400}, not {wanted!r:.400}"])
-        return wanted[0]
-
     for text in (sample, b"", *(damaged(rng, sample) for _ in range(DAMAGED))):
-        for way in ("whole", "pieces"):
-            call("check", way, "0", text)
-            for skip in "01":
-                compact = call("rnx2crx", way, skip, text)
-                call("crx2rnx", way, skip, compact)
-                call("crx2rnx", way, skip, damaged(rng, compact) if compact else b"")
+        wrong += differing(program, command, ["check"], text)
+        for skip in ([], ["-s"]):
+            wrong += differing(program, command, [*DATED, *skip], text)
+            compact = answer([program], [*DATED, *skip], text)[0]
+            for given in (compact, damaged(rng, compact) if compact else b""):
+                wrong += differing(program, command, ["crx2rnx", *skip], given)
     return wrong[:20]
 
 
 def check_promises(machine, words, library, folder):
     """The promises of the header, by tests/library/promises.c, which counts memory as glibc does."""
     target = folder / "promises"
-    wrong = compiled(machine, library, TOP / "tests/library/promises.c", target, [library / "librnxcmp.a", "-static", COUNTED])
-    if wrong:
-        return wrong
-    run = subprocess.run([str(word) for word in (*words, target)], capture_output=True, text=True, timeout=SECONDS)
-    return [] if run.returncode == 0 else [f"promises.c: status {run.returncode}", *run.stdout.splitlines()[-20:], *run.stderr.splitlines()[-5:]]
+    linked = [library / "librnxcmp.a", "-static", COUNTED]
+    return compiled(machine, library, TOP / "tests/library/promises.c", target, linked) or wrong_run([*words, target])
 
 
 def check_names(machine, library):
     """The archive, and what programs are linked with for the shared library, have the header's names and no others."""
-    wanted = set(re.findall(r"^ *(rnxcmp_[a-z_]*);$", (TOP / "library/symbols.map").read_text(), re.M))
+    header = re.sub(r"/\*.*?\*/", "", (TOP / "include/rnxcmp.h").read_text(), flags=re.S)
+    wanted = set(re.findall(r"\b(rnxcmp_\w+)\(", header))
     tool = machine.compiler.removesuffix("gcc").removesuffix("musl-") + "nm"
     shared = ["librnxcmp.dll.a"] if machine.is_windows else ["--dynamic", machine.shared]
     wrong = []
@@ -85,9 +81,8 @@ def check_names(machine, library):
     return wrong
 
 
-def check_library(machine, words, program):
-    """What is wrong with the library of a machine."""
-    library = machine.built / "library"
+def check_library(machine, library, words, program):
+    """What is wrong with a library of a machine."""
     wrong = check_names(machine, library)
     with tempfile.TemporaryDirectory() as name:
         folder = Path(name)
@@ -97,6 +92,6 @@ def check_library(machine, words, program):
             wrong += check_promises(machine, words, library, folder)
         for way, linked in linked_ways(machine, library):
             target = folder / (way + ".exe" if machine.is_windows else way)
-            lines = compiled(machine, library, HERE / "calls.c", target, linked) or over_texts(program, [*finds_shared(machine, words), target])
+            lines = compiled(machine, library, CALLS, target, linked) or over_texts(program, [*finds_shared(machine, words), target])
             wrong += [f"{way}: {line}" for line in lines]
     return wrong

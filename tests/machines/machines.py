@@ -11,7 +11,7 @@ from pathlib import Path
 import prove
 from runner import TOP
 
-MADE = TOP / "out/machines"  # by packaging/machines.mk
+MADE = Path(os.environ.get("MACHINES") or TOP / "out/machines")  # by packaging/machines.mk
 STACK = 128 * 1024  # bytes of stack that each run has, where the emulator can limit them
 SECONDS = 1800  # in which a machine's program and library are to be made
 

@@ -13,9 +13,8 @@ import re
 import shutil
 import subprocess
 import sys
-from pathlib import Path
 
-from libraries import answer, compiled
+from libraries import CALLS, answer, compiled
 from machines import MACHINES, emulator
 from runner import SAMPLE, TOP, VERSION
 
@@ -265,10 +264,10 @@ def check_calls(machine, words, place, folder, program):
     target = place / "rnxcmp" / ("calls.exe" if machine.is_windows else "calls")  # beside the library, where Windows looks for it
     headers = next(folder.glob("rnxcmp-*-linux-x86_64/include"))
     linked = [place / "rnxcmp" / machine.shared, f"-Wl,-rpath,{place / 'rnxcmp'}"][: 1 if machine.is_windows else 2]
-    wrong = compiled(machine, headers, TOP / "tests/machines/calls.c", target, linked)
+    wrong = compiled(machine, headers, CALLS, target, linked)
     if wrong:
         return wrong
-    wanted, got = answer([program], ["check"], SAMPLE.read_bytes()), answer([*words, target], ["check", "whole", "0"], SAMPLE.read_bytes())
+    wanted, got = answer([program], ["check"], SAMPLE.read_bytes()), answer([*words, target], ["whole", "check"], SAMPLE.read_bytes())
     return [] if got == wanted else [f"calls: {got!r}, not {wanted!r}"]
 
 

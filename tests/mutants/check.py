@@ -8,8 +8,8 @@ import resource
 import subprocess
 import sys
 import tempfile
+import unittest
 from contextlib import redirect_stdout
-from importlib import util
 from pathlib import Path
 
 FOLDER = sys.argv[1]
@@ -17,6 +17,7 @@ PROGRAM, COPY, MADE = (Path(word).resolve() for word in sys.argv[2:5])
 FILE = Path(sys.argv[5])
 sys.dont_write_bytecode = True
 NOT_KNOWN = 3  # the status if a check didn't end in time or lacks something, and no other has seen anything
+SECONDS = 300  # in which a test is to end
 OF_A_PROCESSOR = 15  # seconds in which each program over the library is to end, however busy the machine is: one that doesn't never ends
 ABOUT = {  # words in the names of the checks that are about a file
     "_explain.py": ("the command", "never raises", "far lines", "one too", "CR", "cut"),
@@ -29,7 +30,7 @@ ABOUT = {  # words in the names of the checks that are about a file
     "_packed.py": ("packs", "archives"),
     "files.py": ("lists", "signals", "choices", "cut files", "lines", "refusals"),
 }
-OF_LANGUAGE = {".py": ("calls from Python",), ".f90": ("sizes", "calls and handles from Fortran")}
+OF_LANGUAGE = {".py": ("test_python",), ".f90": ("test_library.Library.test_fortran", "test_library.Library.test_sizes")}
 # The files that are looked at by each check, beside all, without a bug.
 SCRIPTS = ("quoted.sh", "install.sh", "uninstall.sh", "machine.sh", "dist.sh")
 PACKED = ("dist.sh", "deb.sh", "parts.py", "zipped.py", "install_library.sh", "install_pages.sh", "machine.sh", "build_windows.sh")
@@ -43,14 +44,6 @@ class NotBuilt(Exception):
 
 class Lacks(Exception):
     """The machine lacks something, which isn't seeing a bug either."""
-
-
-def module_of(folder):
-    """The checks of a folder of tests, as a module of their own."""
-    spec = util.spec_from_file_location(f"{folder}_checks", COPY / f"tests/{folder}/checks.py")
-    module = util.module_from_spec(spec)
-    spec.loader.exec_module(module)
-    return module
 
 
 def of_explain(work):
@@ -73,19 +66,31 @@ def of_files(work):
     return [check for module in (table, promises, options, matrix, faults, signals) for check in module.checks(texts)]
 
 
-def of_library(work):
-    """Builds the library of the copy over the proved archive; the checks of single promises."""
-    import quick
-    import servers
+def tests_in(*names):
+    """The tests of modules or classes as checks, each of which runs in a process of its own."""
+    from runner import flat
 
+    for test in flat(unittest.defaultTestLoader.loadTestsFromNames(names)):
+        yield test.id(), lambda name=test.id(): found_by(name)
+
+
+def found_by(name):
+    """What is wrong in a test: the last line that says so, or none."""
+    own = {**os.environ, "PYTHONPATH": os.pathsep.join(str(COPY / "tests" / folder) for folder in ("", FOLDER, "machines"))}
+    run = subprocess.run([sys.executable, "-m", "unittest", "-q", name], env=own, capture_output=True, text=True, errors="replace", timeout=SECONDS)
+    lines = run.stderr.splitlines() or [f"status {run.returncode}"]
+    return [] if run.returncode == 0 else [next((line for line in reversed(lines) if ": " in line), lines[-1])]
+
+
+def of_library(work):
+    """Builds the library of the copy over the proved archive."""
     os.environ["PYTHONDONTWRITEBYTECODE"] = "1"
-    servers.SANITIZERS, quick.SECONDS = [], 300
+    os.environ["PROVED"] = str(MADE / "crates/rnxcmp_c/out/librnxcmp_c.a")
     resource.setrlimit(resource.RLIMIT_CPU, (OF_A_PROCESSOR, resource.getrlimit(resource.RLIMIT_CPU)[1]))
-    proved, library = MADE / "crates/rnxcmp_c/out/librnxcmp_c.a", COPY / "out/library"
-    run = subprocess.run([COPY / "library/build.sh", proved, library], capture_output=True, text=True)
+    run = subprocess.run([COPY / "library/build.sh", os.environ["PROVED"], COPY / "out/library"], capture_output=True, text=True)
     if run.returncode:
         raise NotBuilt(run.stderr)
-    return quick.checks(quick.Built(PROGRAM, COPY, library, proved, work))
+    return tests_in("test_library.Library", "test_python")
 
 
 def made_twice(release, work):
@@ -96,28 +101,27 @@ def made_twice(release, work):
         if wrong:
             return wrong
     wrong = [f"{path.name} differs" for path in sorted(one.iterdir()) if path.read_bytes() != (two / path.name).read_bytes()]
-    wrong = wrong or release.check_archive(one, work / "archive") or release.check_package(one, work / "package")
-    return wrong or release.check_found(next((work / "archive").iterdir()), work / "usr")
+    if wrong:
+        return wrong
+    prefix = release.unpacked(one, work / "archive")
+    return release.check_archive(prefix) or release.check_package(one, work / "package") or release.check_found(prefix, work / "usr")
 
 
 def of_release(work):
     """The scripts of the copy make a release of what is proved for all machines, and the checks that are about the file look at it."""
     sys.path[:0] = [str(COPY / "tests/release"), str(COPY / "tests/machines")]
     import machines
-    import names
-    import retargeting
+    import test_release as release
 
-    release, of_machines = module_of("release"), module_of("machines")
     release.PROVED, release.MACHINES = MADE / "crates/rnxcmp_c/out/librnxcmp_c.a", MADE / "out/machines"
     lacking = {it.lacking() for it in machines.MACHINES} - {""}
     if lacking or not (MADE / "out/machines/windows/made").exists():
         raise Lacks(f"not here: {', '.join(sorted(lacking)) or 'what make dist makes for all machines'}")
     about = [not FILE.name or FILE.name in some for some in (SCRIPTS, ("retarget.py",), PACKED)]
     if about[0]:
-        yield "names that scripts print", names.check_quoted
-        yield "names as a shell reads them", names.check_names
+        yield from tests_in("test_names")
     if about[1]:
-        yield "modules for Windows", retargeting.check_retargeting
+        yield from tests_in("test_retargeting")
     if about[2]:
         yield "made twice", lambda: made_twice(release, work)
     for machine in machines.MACHINES:
@@ -128,8 +132,8 @@ def of_release(work):
                 run = subprocess.run([COPY / "packaging/machine.sh", machine.name, *objects, place / machine.name / "built"], capture_output=True, text=True)
                 if run.returncode:
                     raise NotBuilt(run.stderr)
-            machines.MADE = place
-            yield from ((f"{machine.name}, {title}", check) for title, check in of_machines.of_machine(machine, PROGRAM) if not title.startswith("cases"))
+            os.environ["MACHINES"] = str(place)
+            yield from (it for it in tests_in(f"test_machines.{machine.name}") if "cases" not in it[0])
 
 
 def is_other(check):

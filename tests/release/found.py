@@ -7,9 +7,8 @@ import os
 import shutil
 import subprocess
 import sys
-from pathlib import Path
 
-from runner import SAMPLE
+from runner import SAMPLE, wrong_run
 
 SECONDS = 600  # in which each step is to end, on a busy machine too
 # errors of lintian that are known: the program is to run without the system's C library
@@ -22,12 +21,6 @@ target_link_libraries(shared rnxcmp::rnxcmp)
 add_executable(static compact.cpp)
 target_link_libraries(static rnxcmp::static)
 """
-
-
-def wrong_run(words, **more):
-    """What is wrong with a run that is to end with status 0."""
-    run = subprocess.run([str(word) for word in words], capture_output=True, text=True, timeout=SECONDS, **more)
-    return [] if run.returncode == 0 else [f"{words[0]}: status {run.returncode}, {run.stdout[-300:]!r}, {run.stderr[-500:]!r}"]
 
 
 def check_sums(root, doc=None):

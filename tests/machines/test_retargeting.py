@@ -1,6 +1,7 @@
 """What packaging/retarget.py makes of small modules of LLVM: the same but for target, probe and names."""
 
 import subprocess
+import unittest
 
 from runner import TOP
 
@@ -26,14 +27,14 @@ ROWS = (
 REFUSED = ("", HEAD.split("\n")[0] + "\n", HEAD + HEAD)  # texts without one target
 
 
-def retargeted(text):
-    return subprocess.run([TOP / "packaging/retarget.py"], input=text, capture_output=True, text=True, timeout=SECONDS)
+class Retargeting(unittest.TestCase):
+    def retargeted(self, text):
+        return subprocess.run([TOP / "packaging/retarget.py"], input=text, capture_output=True, text=True, timeout=SECONDS)
 
+    def test_each_line(self):
+        given, wanted = ("".join(texts) for texts in zip((HEAD, OF_WINDOWS), *ROWS))
+        self.assertEqual(self.retargeted(given).stdout.splitlines(), wanted.splitlines())
 
-def check_retargeting():
-    """What is wrong with the modules that come out."""
-    given, wanted = ("".join(texts) for texts in zip((HEAD, OF_WINDOWS), *ROWS))
-    found = retargeted(given).stdout.splitlines()
-    wrong = [f"{one!r}, not {other!r}" for one, other in zip(found, wanted.splitlines()) if one != other]
-    wrong += [] if len(found) == len(wanted.splitlines()) else [f"{len(found)} lines"]
-    return wrong + [f"not refused: {text!r}" for text in REFUSED if retargeted(text).returncode != 1]
+    def test_texts_without_one_target(self):
+        for text in REFUSED:
+            self.assertEqual(self.retargeted(text).returncode, 1)
