@@ -144,6 +144,7 @@ def is_other(check):
 def main(work):
     late = ""
     os.environ.setdefault("RNXCMP_LIBRARY", str(MADE / "out/library/librnxcmp.so.2"))
+    os.environ["PROGRAM"] = str(PROGRAM)
     sys.path[:0] = [str(COPY / "tests" / FOLDER), str(COPY / "tests")]
     COPY.chmod(0o755)  # some runs are another user's
     try:
