@@ -372,8 +372,9 @@ class Streams(Package):
 
     def test_runs_that_are_dropped(self):
         """Each is closed."""
-        calls, closes = sys.modules["rnxcmp._calls"], []
-        library = calls.LIBRARY
+        from rnxcmp import _calls as calls
+
+        closes, library = [], calls.LIBRARY
         self.addCleanup(setattr, calls, "LIBRARY", library)
         closed = lambda self, *of: (closes.append(1), library.rnxcmp_close(*of))
         calls.LIBRARY = type("Counted", (), {"__getattr__": lambda self, name: getattr(library, name), "rnxcmp_close": closed})()
