@@ -25,7 +25,7 @@ install -m 755 "$program" "$prefix/bin/rnxcmp"
 if [ -f "$library/$shared" ]; then
     package=$prefix/lib/rnxcmp/rnxcmp
     install -d "$package"
-    install -m 644 "$here"/../python/rnxcmp/*.py "$library/$shared" "$package"
+    install -m 644 "$here"/../python/rnxcmp/*.py "$here/../python/rnxcmp/py.typed" "$library/$shared" "$package"
     install -m 755 "$here/bin/rnxcmp-file" "$prefix/bin/rnxcmp-file"
     page rnxcmp-file rnxcmp-file
 else
