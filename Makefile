@@ -86,7 +86,7 @@ cases:
 install:
 	@[ -f out/library/librnxcmp.so.2 ] || $(MAKE) --no-print-directory library || echo "the library isn't built"
 	packaging/install.sh "$(DESTDIR)$(PREFIX)" $(PROGRAM) out/library
-	@[ ! -d "$(DESTDIR)$(PREFIX)/lib/rnxcmp" ] || python3 -m compileall -q "$(DESTDIR)$(PREFIX)/lib/rnxcmp" || echo "rnxcmp-file starts slower: Python compiled nothing"
+	@[ ! -d "$(DESTDIR)$(PREFIX)/lib/rnxcmp" ] || { umask 022 && python3 -m compileall -q "$(DESTDIR)$(PREFIX)/lib/rnxcmp"; } || echo "rnxcmp-file starts slower: Python compiled nothing"
 
 uninstall:
 	packaging/uninstall.sh "$(DESTDIR)$(PREFIX)"
