@@ -57,7 +57,7 @@ _rnxcmp_file() {
         return
     fi
     case $3 in
-        -e | --date | --max-output) return ;;
+        -e | --date | --max-output | -j) return ;;
         --to | --from)
             mapfile -t COMPREPLY < <(compgen -d -- "$2")
             return
