@@ -84,6 +84,13 @@ def need_library():
         raise unittest.SkipTest("there is no library: make library")
 
 
+def kept_folder(test):
+    """A new folder, which is there until a test, or the tests of a class, have run."""
+    kept = tempfile.TemporaryDirectory()
+    (test.addClassCleanup if isinstance(test, type) else test.addCleanup)(kept.cleanup)
+    return Path(kept.name)
+
+
 def with_messages(words, call):
     """Calls a run with these arguments, whose answer ends with messages and status. Under Wine, which loses the messages of one run in some
     thousands, a run that should have said something and didn't is made once more, and noted in the file that WINE_LOST names, whose length

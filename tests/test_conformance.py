@@ -1,108 +1,108 @@
-#!/usr/bin/env python3
-"""conformance/, the suite for other programs: nothing differs over the program itself, each of eight planted bugs is named by its kind, and
-the page has the choices of the runner. PEER='COMPACT;EXPAND' runs it over another program too; out/conformance has the report. As a
-command,
-
-    tests/test_conformance.py BUG PROGRAM ARGUMENT..
-
-runs the program and changes what it answers: a copy of the program with a bug.
-"""
+"""conformance/, the suite for other programs: nothing differs over the program itself, each answer that differs is named by its kind and line,
+and the page has the choices of the runner. PEER='COMPACT;EXPAND' runs it over another program too; out/conformance has the report."""
 
 import json
 import os
 import re
 import subprocess
 import sys
-import tempfile
 import unittest
-from functools import lru_cache
-from pathlib import Path
 from types import SimpleNamespace
+from unittest.mock import patch
 
-from runner import AT_ONCE, PROGRAM, SEED, TESTS, TOP
+from runner import AT_ONCE, PROGRAM, SEED, TESTS, TOP, files_in, kept_folder
+from texts import COMPACT_FIVE, FIVE, H, text
 
 SUITE = TOP / "conformance"
 sys.path.insert(0, str(SUITE))
 import conform  # noqa: E402
+from conform import Difference, Run  # noqa: E402
 
 RANDOM = 80  # random cases
 
-# ---- copies of the program with a bug: BUGS has the kind of difference beside each
+# A file with a clock offset, an event with a record, and two satellites.
+FILE = text(
+    *H,
+    "> 2024 01 01 00 00  0.0000000  0  2      -0.000000000007", "G01  20000000.000 7", "G02        -1.500",
+    "> 2024 01 01 00 00  1.0000000  4  1", "a record".ljust(60) + "COMMENT",
+    "> 2024 01 01 00 00  2.0000000  0  1", "G01  20000100.500",
+).decode()  # fmt: skip
+# What stands in the file, what an expansion writes in its place, and the kinds and lines of the differences.
+WRITTEN = (
+    ("C1C ", "L1C ", [("text", 2)]),
+    (" 0.0000000  0", " 0.0000001  0", [("text", 4)]),
+    ("007\n", "008\n", [("clock", 4)]),
+    ("  0.0000000  0  2      -0.", "  1.0000000  0  2       0.", [("text", 4), ("clock", 4)]),
+    ("007\n", "007 \n", [("text", 4)]),
+    ("20000000.000 7", "20000000.001 7", [("values", 5)]),
+    ("20000000.000 7", "20000000.001", [("values", 5), ("text", 5)]),
+    ("20000000.000 7", "20000000.00047", [("text", 5)]),
+    ("G02        -1.500", "G12        -1.500", [("text", 6)]),
+    ("G02        -1.500", "G02         1.500", [("values", 6)]),
+    ("G02        -1.500", "G02        -1.500   ", [("text", 6)]),
+    ("1.0000000  4  1", "1.5000000  4  1", [("events", 7)]),
+    ("a record", "A record", [("events", 8)]),
+    (f"{'a record':60}COMMENT\n", "", [("events", 8)]),
+    ("G01  20000100.500\n", "", [("text", 10)]),
+    ("100.500\n", "100.500\nG02         1.000\n", [("text", 11)]),
+    ("\n", "\r\n", [("text", 0)]),
+    ("100.500\n", "100.500\n" + "x\n" * 30, [("text", line) for line in range(11, 31)]),
+)
+BAD = {"faults": [[6, 17]], "status": 1}  # of a case that is to be refused
+SKIPPED = {"faults": [[6, 17]], "status": 2}
+THERE = FILE.encode()
+SAID = b"ERROR line 6 code 17: bad field\n"
+# What a case has beside its texts, what a program answers, and what differs: kind, what is wanted, what it got.
+ANSWERS = (
+    ({}, Run(THERE, b"words of another program\n", 0), []),
+    ({}, Run(b"", b"", 0), [("text", "10 lines", "no output")]),
+    ({}, Run(THERE, b"words of another program\n", 1), [("statuses", "status 0", "status 1")]),
+    ({}, Run(b"", b"no\n", 1), [("refusals", "accepted", "refused: no\n, status 1")]),
+    ({}, Run(THERE, SAID, 1), [("refusals", "line and code []", "[[6, 17]]")]),
+    (BAD, Run(THERE, SAID, 1), []),
+    (BAD, Run(THERE, b"words of another program\n", 3), []),
+    (BAD, Run(THERE, SAID, 3), [("statuses", "status 1", "status 3")]),
+    (BAD, Run(THERE, SAID, 0), [("statuses", "status 1", "status 0")]),
+    (BAD, Run(THERE, b"", 0), [("refusals", "refused: line and code [[6, 17]]", "accepted")]),
+    (BAD, Run(THERE, SAID.replace(b"6", b"5"), 1), [("refusals", "line and code [[6, 17]]", "[[5, 17]]")]),
+    (BAD, Run(b"", SAID, 1), [("text", "10 lines", "no output")]),
+    (SKIPPED, Run(THERE, SAID.replace(b"ERROR", b"WARNING"), 2), []),
+    (SKIPPED, Run(THERE, b"", 1), [("statuses", "status 2", "status 1")]),
+    (SKIPPED, Run(THERE, SAID * 2, 2), [("refusals", "line and code [[6, 17]]", "[[6, 17], [6, 17]]")]),
+)
+# Statuses, and how a run ended then.
+ENDED = {0: "", 1: "", 3: "", 125: "", 126: "not run to its end: status 126", 127: "not run to its end: status 127", 128: "", 139: "ended by signal 11",
+         -11: "ended by signal 11", 160: "", 255: "", 0xC0000005: "not run to its end: status 3221225477"}  # fmt: skip
+# What a compaction answers of five epochs, and what differs: it is judged by what its text stands for.
+COMPACTED = (
+    (COMPACT_FIVE, []),
+    (COMPACT_FIVE.replace(b"\n", b"\r\n"), []),
+    (COMPACT_FIVE.replace(b"100500", b"100501"), [("values", 7), ("values", 9), ("values", 11), ("values", 13)]),
+    (COMPACT_FIVE.replace(b"3&2", b"3&-2"), [("values", line) for line in range(5, 14, 2)]),
+    (COMPACT_FIVE.replace(b"3&2", b"x"), [("text", 0)]),
+    (FIVE, [("text", 0)]),
+)
+REPORT = """Conformance of programs for Compact RINEX 3.0
+compact: c
+expand: e
 
+3 cases, 1 differ; 1 more differ in a choice of this profile
+by kind: text 0, values 0, clock 1, events 0, refusals 0, statuses 0, failures 0
 
-def expanding(change):
-    """A bug of `crx2rnx`: a change of its output."""
-    return lambda tool, run: run._replace(output=change(run.output)) if tool == "crx2rnx" else run
+Differences
 
+one, expand: what it shows
+  clock line 4
+    wanted: a
+    got:    b
 
-def compacting(change):
-    """A bug of `rnx2crx`: a change of the lines behind the header of its output."""
+Differences in a choice of this profile, which aren't counted
 
-    def bug(tool, run):
-        if tool != "rnx2crx":
-            return run
-        header, end, rest = run.output.partition(b"END OF HEADER\n")
-        return run._replace(output=header + end + change(rest))
-
-    return bug
-
-
-def negative_values_lose_their_sign(text):
-    return re.sub(rb"(?m)^([A-Z][ \d]\d.*?) -(\d)", rb"\1  \2", text)
-
-
-def last_digit_of_the_clock_is_lost(text):
-    return re.sub(rb"(?m)^(>.{30}[01].{9}.{14})[1-9]$", rb"\g<1>0", text)
-
-
-def records_are_lost(text):
-    """The last record of each event is lost, and counted."""
-    lines, at, made = text.split(b"\n"), 0, []
-    in_header = True
-    while at < len(lines):
-        line = lines[at]
-        made.append(line)
-        at += 1
-        if in_header:
-            in_header = line[60:80].rstrip() != b"END OF HEADER"
-        elif line[:1] == b">" and b"2" <= line[31:32] <= b"6":
-            count = int(line[32:35].strip() or b"0")
-            made += [record[:10] for record in lines[at : at + count]]
-            at += count
-    return b"\n".join(made)
-
-
-def indicators_are_lost(text):
-    return re.sub(rb"(?m)^([A-Z][ \d]\d(?:.{16})*.{14}.)[1-9]$", rb"\1", text)
-
-
-def signs_of_starts_are_lost(text):
-    """Numbers of few digits that begin arcs have no sign, but for those of a line's first code, and of clock offsets."""
-    return re.sub(rb" 3&-(?=\d{1,6}(?: |$))", b" 3&", text, flags=re.M)
-
-
-def repeated_satellites_are_taken(tool, run):
-    return run._replace(messages=b"", status=0) if b"code 14" in run.messages else run
-
-
-def lines_count_from_zero(tool, run):
-    return run._replace(messages=re.sub(rb"line (\d+)", lambda found: b"line %d" % (int(found[1]) - 1), run.messages))
-
-
-def the_status_is_always_zero(tool, run):
-    return run._replace(status=0)
-
-
-BUGS = {
-    "indicators_are_lost": ("text", expanding(indicators_are_lost)),
-    "negative_values_lose_their_sign": ("values", expanding(negative_values_lose_their_sign)),
-    "signs_of_starts_are_lost": ("values", compacting(signs_of_starts_are_lost)),
-    "last_digit_of_the_clock_is_lost": ("clock", expanding(last_digit_of_the_clock_is_lost)),
-    "records_are_lost": ("events", expanding(records_are_lost)),
-    "repeated_satellites_are_taken": ("refusals", repeated_satellites_are_taken),
-    "lines_count_from_zero": ("refusals", lines_count_from_zero),
-    "the_status_is_always_zero": ("statuses", the_status_is_always_zero),
-}
+two, compact (arcs)
+  statuses
+    wanted: c
+    got:    d
+"""
 
 
 # ---- the suite
@@ -127,14 +127,11 @@ def commands(*before):
 class Suite(unittest.TestCase):
     @classmethod
     def setUpClass(cls):
-        kept = tempfile.TemporaryDirectory()
-        cls.addClassCleanup(kept.cleanup)
-        cls.folder = Path(kept.name)
-        cls.cases, cls.random = cls.folder / "cases.json", cls.folder / "random.json"
+        folder = kept_folder(cls)
+        cls.cases, cls.random = folder / "cases.json", folder / "random.json"
         for path, command in ((cls.cases, ["collect.py"]), (cls.random, ["texts.py", "--seed", str(SEED), "--count", str(RANDOM)])):
             path.write_bytes(subprocess.run([sys.executable, TESTS / command[0], *command[1:]], capture_output=True, check=True, timeout=60).stdout)
         cls.collected = json.loads(cls.cases.read_text())
-        cls.ask = staticmethod(lru_cache(None)(lambda words, data, run=conform.run: run([*words], data, 60)))
 
     def test_the_program(self):
         """Nothing differs over the program itself, its own files among the cases."""
@@ -144,42 +141,75 @@ class Suite(unittest.TestCase):
         self.assertGreater(len(self.collected), 90)
 
     def test_odd_names(self):
-        """A name with control characters is printed quoted: of a file that is left out, and of one that differs."""
-        with tempfile.TemporaryDirectory() as folder:
-            (Path(folder) / "no\x1b[31m\nrinex").write_bytes(b"neither\n")
-            (Path(folder) / "odd\x1b[31m\udcff").write_bytes((TOP / "samples/station.rnx").read_bytes())
-            done = conformed("true", "true", "--files", folder)
+        """A name with control characters is printed quoted: of a file that is left out, and of one that differs. Compact text is a case too."""
+        folder = kept_folder(self)
+        (folder / "no\x1b[31m\nrinex").write_bytes(b"neither\n")
+        (folder / "odd\x1b[31m\udcff").write_bytes(FIVE)
+        (folder / "a.crx").write_bytes(COMPACT_FIVE.replace(b"\n", b"\r\n"))
+        (folder / "five").write_bytes(FIVE)
+        done = conformed("true", f"cat '{folder}/five'", "--files", folder)
         self.assertEqual(done.stderr, f"'{folder}/no\\x1b[31m\\nrinex' is left out: neither RINEX nor Compact RINEX\n")
         self.assertIn(f"\n'{folder}/odd\\x1b[31m\\udcff', compact\n", done.stdout)
+        self.assertIn("\n3 cases, 2 differ; 0 more", done.stdout)
 
-    def test_planted_bugs(self):
-        """A bug is named by its kind, and by no other. What the program itself answers to a case is asked once."""
-        words = {"compact": [str(PROGRAM), "rnx2crx"], "expand": [str(PROGRAM), "crx2rnx"]}
-        cases = [*self.collected, *json.loads(self.random.read_text())]
-        run = conform.run
-        self.addCleanup(setattr, conform, "run", run)
-        for bug, (kind, change) in BUGS.items():
-            with self.subTest(bug):
-                conform.run = lambda words, data, _: change(words[1], self.ask((*words,), data))
-                judged = [(case, conform.judged(case, words, 60)) for case in cases]
-                report = conform.report(SimpleNamespace(compact=bug, expand=bug, profile=True), judged)[0]
-                self.assertEqual(kinds_in(report), {kind}, report[:1500])
+    def judged(self, case, answer):
+        """What differs of a case over a program that gives an answer."""
+        with patch.object(conform, "run", lambda *_: answer):
+            return conform.judged(case, {"compact": [], "expand": []}, 60)
 
-    def test_a_planted_bug_by_the_command(self):
-        done = conformed(*commands(sys.executable, __file__, "the_status_is_always_zero"), self.cases, "--profile")
+    def test_texts(self):
+        for old, new, wanted in WRITTEN:
+            with self.subTest(old, new=new):
+                found = self.judged({"do": "expand", "input": "", "expands_to": FILE}, Run(FILE.replace(old, new).encode(), b"", 0))
+                self.assertEqual([(it.kind, it.line) for it in found], wanted)
+
+    def test_answers(self):
+        for more, answer, wanted in ANSWERS:
+            with self.subTest(answer=answer, **more):
+                found = self.judged({"do": "expand", "input": "", "expands_to": FILE, **more}, answer)
+                self.assertEqual([(it.kind, it.wanted, it.got) for it in found], wanted)
+
+    def test_compact_texts(self):
+        for output, wanted in COMPACTED:
+            with self.subTest(output):
+                found = self.judged({"do": "compact", "input": "", "expands_to": FIVE.decode()}, Run(output, b"", 0))
+                self.assertEqual([(it.kind, it.line) for it in found], wanted)
+
+    def test_ends(self):
+        self.assertEqual({status: conform._crash(status) for status in ENDED}, ENDED)
+
+    def test_report(self):
+        cases = ({"name": "one", "do": "expand", "about": "what it shows"}, {"name": "two", "do": "compact", "choices": ["arcs"]}, {"name": "same"})
+        results = [*zip(cases, ([Difference("clock", 4, "a", "b")], [Difference("statuses", 0, "c", "d")], []))]
+        words = SimpleNamespace(compact="c", expand="e", profile=False)
+        self.assertEqual(conform.report(words, results), (REPORT, 1))
+        words.profile = True
+        self.assertRegex(conform.report(words, results)[0], "\n3 cases, 2 differ; 0 more ")
+
+    def test_saved(self):
+        """Of each difference the input, the text that is expected, and the command; the status says whether one counts."""
+        case = {"name": "an odd/name", "do": "expand", "input": "a\xff", "expands_to": "b", "options": ["-u"]}
+        for choices, count in (({}, 1), ({"choices": ["arcs"]}, 0)):
+            folder = kept_folder(self)
+            (folder / "cases.json").write_text(json.dumps([{**case, "name": "same", "expands_to": "a\xff"}, {**case, **choices}]))
+            done = conformed("false", "cat", folder / "cases.json", "--report", folder / "report", "--save", folder / "saved")
+            self.assertEqual((done.returncode, done.stdout, done.stderr), (count, "", ""))
+            self.assertIn(f"\n2 cases, {count} differ; {1 - count} more ", (folder / "report").read_text())
+            self.assertEqual(files_in(folder / "saved"), {f"0001-an_odd_name/{name}": data for name, data in (("input", b"a\xff"), ("expected", b"b"), ("command", b"cat -u < input\n"))})
+
+    def test_status_that_is_always_0(self):
+        done = conformed(*commands("sh", "-c", "'\"$@\"; exit 0'", "sh"), self.cases, "--profile")
         self.assertEqual((done.returncode, kinds_in(done.stdout)), (1, {"statuses"}), done.stdout[:1500] + done.stderr[:500])
 
     def test_commands_that_fail(self):
-        """A command that fails is a difference in each case, also in those that have to be refused; --save writes each."""
+        """A command that fails is a difference in each case, also in those that have to be refused."""
         count = len(self.collected)
         failing = {"sleep 1000": "no end within 0.3 s", "sh -c 'kill -SEGV $$'": "ended by signal 11", "/no/such/command": "not started"}
         for command, failure in failing.items():
-            with self.subTest(command), tempfile.TemporaryDirectory() as folder:
-                done = conformed(command, command, self.cases, "--seconds", "0.3", "--save", folder)
+            with self.subTest(command):
+                done = conformed(command, command, self.cases, "--seconds", "0.3")
                 self.assertIn(f"{count} cases, {count} differ; 0 more", done.stdout)
                 self.assertEqual(done.stdout.count(f"got:    {failure}"), count)
-                saved = [{path.name for path in case.iterdir()} for case in Path(folder).iterdir()]
-                self.assertEqual(saved, [{"input", "expected", "command"}] * count)
 
     def test_seeds(self):
         """The maker makes the same cases of the same seed, and others of another."""
@@ -201,15 +231,3 @@ class Suite(unittest.TestCase):
         (TOP / "out/conformance/report.txt").write_text(done.stdout, encoding="utf-8")
         print("\n".join(done.stdout.splitlines()[:7]))
         self.assertIn(" cases, ", done.stdout, done.stderr)
-
-
-def main():
-    ended = subprocess.run(sys.argv[2:], stdin=sys.stdin, capture_output=True)
-    answer = BUGS[sys.argv[1]][1](sys.argv[3], conform.Run(ended.stdout, ended.stderr, ended.returncode))
-    sys.stdout.buffer.write(answer.output)
-    sys.stderr.buffer.write(answer.messages)
-    sys.exit(answer.status)
-
-
-if __name__ == "__main__":
-    main()

@@ -16,12 +16,11 @@ import re
 import shutil
 import subprocess
 import sys
-import tempfile
 import unittest
 from dataclasses import dataclass
 from pathlib import Path
 
-from runner import PROGRAM, TESTS, TOP
+from runner import PROGRAM, TESTS, TOP, kept_folder
 
 HERE = TESTS / "mutants"
 SECONDS = 900  # in which a check is to end
@@ -72,9 +71,7 @@ class Planted(unittest.TestCase):
 
     @classmethod
     def setUpClass(cls):
-        kept = tempfile.TemporaryDirectory()
-        cls.addClassCleanup(kept.cleanup)
-        cls.copy = Path(kept.name)
+        cls.copy = kept_folder(cls)
         cls.copy.chmod(0o755)
         copy_to(cls.copy)
         cls.clean = None
