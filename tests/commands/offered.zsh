@@ -3,6 +3,7 @@
 zmodload zsh/zpty
 start() {
     PROMPT=
+    unsetopt autolist
     fpath=($FOLDER $fpath)
     autoload -Uz compinit
     compinit -D -u
