@@ -3,9 +3,6 @@
 listed: the faults in the manual page and in the page of formats, the table of `explain` in the page of errors, and the options in the manual
 page and in the page of use. If you change a limit, or add a fault or an option, run `make numbers`; none of these texts needs a hand for it. A
 page says a limit's number only if this script writes it; code and tests cite the limit by its name.
-
-    docs/stated.py           writes them
-    docs/stated.py --check   says which text has another number, and ends with status 1 then
 """
 
 import re
@@ -299,9 +296,6 @@ def wrong_in(file):
 def main():
     wrong = []
     for file in WRITTEN:
-        if "--check" in sys.argv:
-            wrong += wrong_in(file)
-            continue
         text, missing = written(file)
         wrong += missing
         if text != (TOP / file).read_text(encoding="utf-8"):

@@ -1,8 +1,7 @@
 #!/usr/bin/env python3
 """Draws the pictures of the documents: each NAME.txt of this folder becomes NAME.svg.
 
-    docs/pictures/draw.py            draws them
-    docs/pictures/draw.py --check    says which pictures aren't those that would be drawn (exit status 1 if any)
+    docs/pictures/draw.py
 
 A line of a text is a word, names and numbers, and after `|` the texts that are shown; # begins a comment:
 
@@ -21,7 +20,6 @@ A line of a text is a word, names and numbers, and after `|` the texts that are 
 """
 
 import re
-import sys
 from html import escape
 from pathlib import Path
 
@@ -183,17 +181,9 @@ def drawing(path):
 
 
 def main():
-    wrong = []
-    for path in sorted(HERE.glob("*.txt")):
-        drawn, kept = drawing(path), path.with_suffix(".svg")
-        if sys.argv[1:] != ["--check"]:
-            kept.write_text(drawn, encoding="utf-8")
-        elif not kept.exists() or kept.read_text(encoding="utf-8") != drawn:
-            wrong.append(kept.name)
-    if wrong:
-        print(f"docs/pictures/draw.py would draw otherwise: {', '.join(wrong)}")
-    return 1 if wrong else 0
+    for path in HERE.glob("*.txt"):
+        path.with_suffix(".svg").write_text(drawing(path), encoding="utf-8")
 
 
 if __name__ == "__main__":
-    sys.exit(main())
+    main()

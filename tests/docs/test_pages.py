@@ -5,6 +5,7 @@ beside it have. A pattern that finds nothing to look at is a failure too."""
 
 import gzip
 import re
+import shutil
 import subprocess
 import sys
 import tempfile
@@ -14,10 +15,9 @@ from functools import cache
 from html import unescape
 from pathlib import Path
 
-from runner import PACKAGES, PROGRAM, TOP
+from runner import PACKAGES, PROGRAM, TOP, kept_folder
 
-sys.path[:0] = [str(TOP / "docs"), str(TOP / "packaging")]
-import completions  # noqa: E402
+sys.path.insert(0, str(TOP / "docs"))
 import proved  # noqa: E402
 from chapters import CHAPTERS, Book, is_definition, is_ported, top_down  # noqa: E402
 from sources import crates, fault_names, functions_in, public_functions  # noqa: E402
@@ -30,14 +30,29 @@ PAGES = ("README.md", "CONTRIBUTING.md", "tests/README.md", "bench/README.md", "
 
 
 def pictures():
-    """What is wrong with the pictures that their script makes."""
-    run = subprocess.run([TOP / "docs/pictures/draw.py", "--check"], capture_output=True, text=True, timeout=60)
-    return [] if run.returncode == 0 else [(run.stdout + run.stderr).strip()]
+    """The pictures that their script would draw otherwise."""
+    with tempfile.TemporaryDirectory() as folder:
+        drawn, kept = Path(folder) / "docs/pictures", TOP / "docs/pictures"
+        shutil.copytree(kept, drawn, ignore=shutil.ignore_patterns("*.svg"))
+        shutil.copy(TOP / "crates.txt", folder)
+        subprocess.run([drawn / "draw.py"], check=True, timeout=60)
+        names = sorted({path.name for place in (drawn, kept) for path in place.glob("*.svg")})
+        return [name for name in names if not (drawn / name).exists() or (drawn / name).read_bytes() != (kept / name).read_bytes()]
 
 
 @cache
 def book():
     return Book()
+
+
+NO_PROSE = re.compile(r"<(pre|code|style|svg)\b.*?</\1>", re.S)  # of a made page
+
+
+def in_source(item):
+    """Where an item stands, as the page of definitions says it, and the comment above it."""
+    path = item.path.relative_to(TOP)
+    line = item.path.read_text(encoding="utf-8").split("\n").index(item.text.split("\n")[0]) + 1
+    return f"{path}, line {line}\n" + "".join(f"{it}\n" for it in item.comment.split("\n") if it and not it.startswith("#["))
 
 
 def made_pages():
@@ -54,8 +69,18 @@ def made_pages():
         links = set(re.findall(r'href="([\w.]*)#?([^"]*)"', text))
         wrong += [f"{name}: a link to {page or name}#{place}" for page, place in sorted(links) if place not in ["", *places[page or name]]]
         wrong += [f"{name}: {place} is there twice" for place in sorted(set(places[name])) if places[name].count(place) > 1]
-    shown = unescape(re.sub(r"<[^>]*>", "", texts["DEFINITIONS.html"]))
-    wrong += [f"{it.path.name}: {it.name} isn't there" for it in book().shown if f"\n{it.text}\n" not in shown]
+    shown, contracts = (unescape(re.sub(r"<[^>]*>", "", texts[f"{name}.html"])) for name in ("DEFINITIONS", "CONTRACTS"))
+    wrong += [f"{it.path.name}: {it.name} isn't there" for it in book().shown if f"{in_source(it)}{it.text}\n" not in shown]
+    wrong += [f"{it.path.name}: {it.name} isn't there" for it in book().functions.values() if " ".join(it.text.split()) not in " ".join(contracts.split())]
+    wrong += [f"{name}: {it}" for name, text in texts.items() for it in re.findall(r".*(?:\*\*|\]\(|`|<em></em>).*", re.sub(NO_PROSE, "", text))]
+    linked = re.findall(r'href="CONTRACTS\.html#[\w.]*?(\w+)"><code>((?:\w+::)*(\w+))</code></a>', texts["GUARANTEES.html"])
+    names = {it for name, clauses in cited("docs/GUARANTEES.md") for it in (name, *clauses)}
+    wrong += [f"GUARANTEES.html: no link of {it}" for it in sorted(names - {name for place, name, last in linked if place == last})]
+    said = re.findall(r"^It stands on (\d+) definitions, in (\d+) lines(?: \((\d+), in (\d+) lines, that no earlier chapter has\))?", shown, re.M)
+    said = [(found, lines, new or found, of_new or lines) for found, lines, new, of_new in said]
+    rows = re.findall(r"</a></td>" + r"<td>(\d+)</td>" * 4, texts["DEFINITIONS.html"])
+    new = [it for it in book().shown if is_definition(it)]
+    wrong += [] if rows == said and [sum(int(it[at]) for it in said) for at in (2, 3)] == [len(new), sum(len(re.findall(r"^.*\S", it.text, re.M)) for it in new)] else [f"{rows}"]
     there = Counter(shown.split("\n"))
     for path in sorted((TOP / "crates").glob("*/specs/meaning/**/*.antt")):
         equations = re.sub(r"^(?:--|use |pub use |pub mod |module |infix).*\n", "", path.read_text(encoding="utf-8"), flags=re.M).split("\n")
@@ -193,15 +218,10 @@ def calls_shown(page, words):
     return [f"{page}: no source has {name}" for name in sorted(names - words - header)]
 
 
-def modules_named(page):
-    """The modules of a crate's src that the table of its page has no row for, the rows of modules that are gone, and the files of specs and
-    proofs that the page names and no crate has."""
-    text = (TOP / page).read_text(encoding="utf-8") if (TOP / page).exists() else ""
-    there = {path.stem for path in (TOP / page).parent.glob("src/*.rt")} - {"lib", "main"} if "| Module |" in text else set()
-    rows = set(re.findall(r"^\| `(\w+)` \| \S", text, re.M))
-    files = re.findall(r"`((?:src|specs|proofs)/[\w/.*]+)`", text)
-    wrong = [f"{page} has no row of {it}" for it in sorted(there - rows)] + [f"{page}: there is no module {it}" for it in sorted(rows - there)]
-    return wrong + [f"{page}: there is no {it}" for it in files if not any((TOP / "crates").glob(f"*/{it}"))]
+def files_of_crates(page):
+    """The files of a crate that its page names and no crate has."""
+    files = re.findall(r"`((?:src|specs|proofs)/[\w/.*]+)`", (TOP / page).read_text(encoding="utf-8"))
+    return [f"{page}: there is no {it}" for it in files if not any((TOP / "crates").glob(f"*/{it}"))]
 
 
 def targets_named(page):
@@ -295,28 +315,6 @@ def faults_listed():
     return [] if table == {str(number): words for number, words in faults().items()} else ["docs/FORMATS.md has another table"]
 
 
-def options():
-    """The options that a subcommand's help lists and that the page of use, the manual page or the completions don't have with it."""
-    wrong = []
-    bash, fish, zsh = map(completions.made, ("rnxcmp.bash", "rnxcmp.fish", "_rnxcmp"))
-    use = (TOP / "docs/USE.md").read_text(encoding="utf-8")
-    manual = (TOP / "packaging/man/rnxcmp.1").read_text(encoding="utf-8").replace("\\-", "-")
-    for tool in ("rnx2crx", "crx2rnx", "check"):
-        shown = subprocess.run([PROGRAM, tool, "-h"], capture_output=True, text=True, timeout=60).stdout
-        listed = re.findall(r"(?<!\S)--?[a-z][\w-]*(?=,| )", shown.partition("Options:")[2].partition("\n\n")[0])
-        wrong += [] if "--help" in listed else [f"the help of {tool} lists no options"]
-        for option in listed:
-            told = {
-                "docs/USE.md": re.search(rf"^\| [^|]*`{option}\b[^|]*\| (all|[^|]*`{tool}`)", use, re.M),
-                "the manual page": re.search(rf"^\.B.* {option}\b", manual, re.M),
-                "rnxcmp.bash": re.search(rf"^ +{tool}\).*\n.*-W '[^']*{option}\b", bash, re.M),
-                "rnxcmp.fish": re.search(rf"-(s|l) {option.lstrip('-')} ", fish),
-                "_rnxcmp": re.search(rf"_rnxcmp_{tool}\(\) \{{[^}}]*?{option}\b", zsh),
-            }
-            wrong += [f"{where} doesn't have {option} of {tool}" for where, found in told.items() if not found]
-    return wrong
-
-
 def python_names():
     """The names of the Python package that docs/LIBRARY.md doesn't have."""
     package = (TOP / "python/rnxcmp/__init__.py").read_text(encoding="utf-8")
@@ -395,7 +393,7 @@ class Pages(unittest.TestCase):
         self.assert_right(pictures, figures)
 
     def test_what_the_program_makes(self):
-        self.assert_right(example, sizes, damage_drawn, options)
+        self.assert_right(example, sizes, damage_drawn)
 
     def test_lists(self):
         self.assert_right(packages, python_names, promise_shown, faults_listed)
@@ -410,6 +408,9 @@ class Pages(unittest.TestCase):
 
     def test_numbers_typed_by_hand(self):
         self.assert_each(typed_in, PAGES)
+        page = kept_folder(self) / "page"
+        page.write_text("8,192 or 8193 bytes, 400 types, 81920 and 1000000")
+        self.assertEqual(typed_in(page), [f"{page} says {number}, typed by hand: {name}" for number, name in (("8192", "LINE_LIMIT"), ("8193", "LINE_LIMIT"), ("1000000", "EVERY"))])
 
     def test_files(self):
         found = [(page, name) for page in PAGES for name in files_named(page)]
@@ -423,7 +424,7 @@ class Pages(unittest.TestCase):
         self.assertGreater(len(found), 30)
 
     def test_pages_of_crates(self):
-        self.assert_each(modules_named, CRATE_PAGES)
+        self.assert_each(files_of_crates, CRATE_PAGES)
         self.assert_each(calls_shown, CRATE_PAGES, sources())
 
     def test_names(self):
