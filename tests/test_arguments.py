@@ -2,7 +2,6 @@
 typed; each plan is seen by what a run reads, writes, reports and answers, where its output file isn't there and where it is."""
 
 import os
-import re
 import subprocess
 import tempfile
 import unittest
@@ -16,8 +15,7 @@ from texts import FIVE, H, K, epoch, full, text
 
 @dataclass
 class Plan:
-    """What is run: which tool, from where to where, and by which choices. No name stands for standard input and standard output, no date
-    for the moment of the run."""
+    """What is run: which tool, from where to where, and by which choices. No name stands for standard input and standard output."""
 
     tool: str
     source: str = ""
@@ -25,67 +23,44 @@ class Plan:
     every: int = 0
     skip: bool = False
     force: bool = False
-    date: object = None
+    date: str = "D"
 
 
 # Arguments with `|` between them, and what is run.
 PLANS = [
     # Names and hyphens.
-    ("rnx2crx", Plan("rnx2crx")),
-    ("rnx2crx|-", Plan("rnx2crx")),
+    ("rnx2crx|--date|D", Plan("rnx2crx")),
+    ("rnx2crx|-|--date|D", Plan("rnx2crx")),
     ("crx2rnx", Plan("crx2rnx")),
-    ("crx2rnx|-|x.crx", Plan("crx2rnx", "x.crx")),
     ("crx2rnx|x.crx|-", Plan("crx2rnx", "x.crx")),
     ("crx2rnx|abcd0010.24d", Plan("crx2rnx", "abcd0010.24d", "abcd0010.24o")),
     ("check", Plan("check")),
     ("check|-|a.rnx", Plan("check", "a.rnx")),
     ("check|a.txt", Plan("check", "a.txt")),
     ("check|-", Plan("check")),
-    ("rnx2crx|-|a.txt", Plan("rnx2crx", "a.txt")),
-    ("rnx2crx|--|-s.rnx", Plan("rnx2crx", "-s.rnx", "-s.crx")),
-    ("rnx2crx|--|-|a.rnx", Plan("rnx2crx", "a.rnx")),
-    ("rnx2crx|a.rnx|--", Plan("rnx2crx", "a.rnx", "a.crx")),
+    ("rnx2crx|--date|D|--|-s.rnx", Plan("rnx2crx", "-s.rnx", "-s.crx")),
+    ("rnx2crx|--date|D|--|-|a.rnx", Plan("rnx2crx", "a.rnx")),
+    ("rnx2crx|--date|D|a.rnx|--", Plan("rnx2crx", "a.rnx", "a.crx")),
     # Options in any order.
-    ("rnx2crx|-|--date|D", Plan("rnx2crx", date="D")),
-    ("rnx2crx|-e|1|--date|D", Plan("rnx2crx", every=1, date="D")),
-    ("rnx2crx|--date=D|-e1", Plan("rnx2crx", every=1, date="D")),
-    ("rnx2crx|-e|2|a.rnx", Plan("rnx2crx", "a.rnx", "a.crx", every=2)),
-    ("rnx2crx|a.rnx|-s|-f|-e|1000000", Plan("rnx2crx", "a.rnx", "a.crx", every=1000000, skip=True, force=True)),
-    ("rnx2crx|-sf|a.rnx", Plan("rnx2crx", "a.rnx", "a.crx", skip=True, force=True)),
-    ("rnx2crx|-|-s|a.rnx", Plan("rnx2crx", "a.rnx", skip=True)),
+    ("rnx2crx|-e|1|--date|D", Plan("rnx2crx", every=1)),
+    ("rnx2crx|--date=D|-e1", Plan("rnx2crx", every=1)),
+    ("rnx2crx|-e|2|a.rnx|--date|D", Plan("rnx2crx", "a.rnx", "a.crx", every=2)),
+    ("rnx2crx|a.rnx|-s|-f|-e|1000000|--date|D", Plan("rnx2crx", "a.rnx", "a.crx", every=1000000, skip=True, force=True)),
+    ("rnx2crx|-sf|--date|D|a.rnx", Plan("rnx2crx", "a.rnx", "a.crx", skip=True, force=True)),
+    ("rnx2crx|-|--date|D|-s|a.rnx", Plan("rnx2crx", "a.rnx", skip=True)),
     ("crx2rnx|-f|-s|a.crx", Plan("crx2rnx", "a.crx", "a.rnx", skip=True, force=True)),
     ("rnx2crx|--date|", Plan("rnx2crx", date="")),
     ("rnx2crx|--date|12345678901234567890", Plan("rnx2crx", date="12345678901234567890")),
 ]
 
-# Arguments with `|` between them that ask for help, and how its usage begins.
-HELPS = [
-    ("rnx2crx|-h", "Usage: rnxcmp rnx2crx "),
-    ("rnx2crx|--help", "Usage: rnxcmp rnx2crx "),
-    ("crx2rnx|a.crx|-h", "Usage: rnxcmp crx2rnx "),
-    ("check|--help", "Usage: rnxcmp check "),
-    ("-h", "Usage: rnxcmp <COMMAND>"),
-    ("--help", "Usage: rnxcmp <COMMAND>"),
-]
-
-# Arguments with `|` between them that aren't those of the command line; cases/refusals has others, with the whole message.
-NOT_UNDERSTOOD = ["", "rnx2crx|-d", "check|-f", "rnx2crx|-|-|-x"]
-
-# Arguments with `|` between them, and why they are refused: the first reason that fits.
+# Arguments with `|` between them, and why they are refused: the first reason that fits; cases/refusals has those that aren't of the command line.
 REFUSED = [
     ("rnx2crx|-|-|a|b", "- given twice"),
-    ("check|-|-", "- given twice"),
-    ("rnx2crx|a.rnx|b.rnx", "more than one file name"),
-    ("check|a|b", "more than one file name"),
     ("rnx2crx|a|b|--date|123456789012345678901", "more than one file name"),
-    ("rnx2crx|--date|123456789012345678901", "bad date"),
-    ("rnx2crx|--date|abcdefghijklmnopqrstu", "bad date"),
     ("rnx2crx|--date|a\tb", "bad date"),
     ("rnx2crx|--date|ä", "bad date"),
     ("rnx2crx|a.txt|--date|123456789012345678901", "bad date"),
     ("rnx2crx|a.txt", "no output name for a.txt"),
-    ("rnx2crx|a.crx", "no output name for a.crx"),
-    ("crx2rnx|a.Crx", "no output name for a.Crx"),
 ]
 
 # The names of an observation file and of its compact form, each made from the other.
@@ -110,6 +85,9 @@ NOT_RENAMED = {
     "crx2rnx": ["", "crx", ".cRX", "a.rnx", "a.24o", "24d", "a.d"],
 }
 
+# The days after 1970 began on which the 16th of each month is.
+MONTHS = zip((15, 46, 74, 105, 135, 166, 196, 227, 258, 288, 319, 349), "Jan Feb Mar Apr May Jun Jul Aug Sep Oct Nov Dec".split())
+
 # Moments of the clock, in seconds and nanoseconds after 1970 began in UTC, and their dates. Where the clock gives no moment, or one
 # before that, there is no date.
 MOMENTS = [
@@ -118,34 +96,16 @@ MOMENTS = [
     (1_704_067_199, 999_999_999, "31-Dec-23 23:59"),
     (1_704_067_200, 0, "01-Jan-24 00:00"),
     (951_782_400, 0, "29-Feb-00 00:00"),
-    (15 * 86_400, 0, "16-Jan-70 00:00"),
-    (46 * 86_400, 0, "16-Feb-70 00:00"),
-    (74 * 86_400, 0, "16-Mar-70 00:00"),
-    (105 * 86_400, 0, "16-Apr-70 00:00"),
-    (135 * 86_400, 0, "16-May-70 00:00"),
-    (166 * 86_400, 0, "16-Jun-70 00:00"),
-    (196 * 86_400, 0, "16-Jul-70 00:00"),
-    (227 * 86_400, 0, "16-Aug-70 00:00"),
-    (258 * 86_400, 0, "16-Sep-70 00:00"),
-    (288 * 86_400, 0, "16-Oct-70 00:00"),
-    (319 * 86_400, 0, "16-Nov-70 00:00"),
-    (349 * 86_400, 0, "16-Dec-70 00:00"),
+    *((day * 86_400, 0, f"16-{month}-70 00:00") for day, month in MONTHS),
     (2_147_483_647, 0, "19-Jan-38 03:14"),
     (2_147_483_648, 0, "19-Jan-38 03:14"),
-    (2_147_483_700, 0, "19-Jan-38 03:15"),
     (4_102_444_800, 0, "01-Jan-00 00:00"),
     (4_107_542_400, 0, "01-Mar-00 00:00"),
-    (4_133_980_800, 0, "01-Jan-01 00:00"),
     (7_258_118_399, 0, "31-Dec-99 23:59"),
     (253_370_764_800, 0, "01-Jan-99 00:00"),
     (-60, 0, ""),
     (None, 0, ""),
 ]
-
-
-# The second line of a compaction without a date among the arguments, with a blank date; and a pattern for it with any.
-UNDATED = K[1][:40] + " " * 20 + K[1][60:]
-DATED_NOW = re.escape(K[1][:40]) + "[0-3][0-9]-[A-Z][a-z][a-z]-[0-9][0-9] [0-2][0-9]:[0-5][0-9] {5}" + re.escape(K[1][60:])
 
 
 def rinex(name):
@@ -194,7 +154,7 @@ def wanted(plan):
     if plan.tool == "check":
         return report(5 if plan.source else 0), b"", 0
     fault = "line 11 code 18: bad indicator" if plan.tool == "rnx2crx" else "line 17 code 15: bad field"
-    made = compact(name, plan.every, plan.skip, plan.date or "") if plan.tool == "rnx2crx" else without_fourth(name, plan.skip)
+    made = compact(name, plan.every, plan.skip, plan.date) if plan.tool == "rnx2crx" else without_fourth(name, plan.skip)
     return made, text(("WARNING " if plan.skip else "ERROR ") + fault), 2 if plan.skip else 1
 
 
@@ -214,48 +174,23 @@ def run_once(words, given, before, **more):
         return files_in(folder), done.stdout, done.stderr, done.returncode
 
 
-def undated(output):
-    """An output whose date is that of a moment, with a blank date; nothing, if it has no such date."""
-    lines = output.decode().split("\n")
-    return "\n".join([lines[0], UNDATED, *lines[2:]]).encode() if len(lines) > 1 and re.fullmatch(DATED_NOW, lines[1]) else None
-
-
 class Arguments(unittest.TestCase):
     def check_plan(self, line, plan, old):
         made, messages, status = wanted(plan)
         before = {plan.source: input_of(plan.tool, True)} if plan.source else {}
         before |= {plan.target: old} if old else {}
-        output, *answers, files = run(line.split("|"), input_of(plan.tool, False), before)
+        found = run(line.split("|"), input_of(plan.tool, False), before)
         if old and not plan.force:
             want = (b"", text(f"ERROR: file exists: {plan.target}"), 1, before)
         else:
             want = (b"" if plan.target else made, messages, status, {**before, **({plan.target: made} if plan.target else {})})
-            if plan.tool == "rnx2crx" and plan.date is None:
-                if plan.target:
-                    files[plan.target] = undated(files.get(plan.target, b""))
-                else:
-                    output = undated(output)
-        self.assertEqual((output, *answers, files), want)
+        self.assertEqual(found, want)
 
     def test_plans(self):
         for line, plan in PLANS:
             for old in (None, b"old" * 1000) if plan.target else (None,):
                 with self.subTest(line, old=old):
                     self.check_plan(line, plan, old)
-
-    def test_helps(self):
-        for line, usage in HELPS:
-            with self.subTest(line):
-                output, *others = run(line.split("|"))
-                self.assertEqual(others, [b"", 0, {}])
-                self.assertIn(usage, output.decode())
-
-    def test_not_understood(self):
-        for line in NOT_UNDERSTOOD:
-            with self.subTest(line):
-                output, messages, status, files = run(line.split("|"))
-                self.assertEqual((output, status, files), (b"", 1, {}))
-                self.assertRegex(messages, rb"(?s)\Aerror: .*\n\Z")
 
     @unittest.skipIf(os.environ.get("EMULATED"), "the emulator's words are text")
     def test_words_that_are_no_text(self):
