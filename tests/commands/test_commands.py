@@ -356,7 +356,7 @@ class Places(Installed):
         """What is missing to link programs is said of each machine, with the packages that have it."""
         tools = self.folder / "tools"
         self.make_program(tools / "gcc", "exit 1")
-        self.make_program(tools / "musl-gcc", "exit 0")
+        self.make_program(tools / "musl-gcc", '[ "$1" = -static ]')
         for name in ("sh", "mktemp", "rm"):
             (tools / name).symlink_to(shutil.which(name))
         for machines, status, messages in (

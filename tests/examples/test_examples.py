@@ -92,6 +92,8 @@ class Availability(unittest.TestCase):
     def test_columns(self):
         """So many epochs share a column that there are at most 72: three of 146. A satellite of each second one is there in most of a column, or in some."""
         path = kept_folder(self) / "a.rnx"
+        path.write_bytes(text(*H))
+        self.assertEqual(self.shown(path), "")
         lines = (f"{at(second)}  0{2 - second % 2:3}\nG01     1.000" + "\nG02     1.000" * (1 - second % 2) for second in range(146))
         path.write_bytes(text(*H, f"{at(0)}  4  1", " " * 60 + "COMMENT", *lines))
         self.assertEqual(self.shown(path), f"G01 {'*' * 49}\nG02 {'*.' * 24}.\n")
