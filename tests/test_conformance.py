@@ -68,7 +68,7 @@ ANSWERS = (
     (BAD, Run(b"", SAID, 1), [("text", "10 lines", "no output")]),
     (SKIPPED, Run(THERE, SAID.replace(b"ERROR", b"WARNING"), 2), []),
     (SKIPPED, Run(THERE, b"", 1), [("statuses", "status 2", "status 1")]),
-    (SKIPPED, Run(THERE, SAID * 2, 2), [("refusals", "line and code [[6, 17]]", "[[6, 17], [6, 17]]")]),
+    (SKIPPED, Run(THERE, SAID.replace(b"ERROR", b"WARNING") * 2, 2), [("refusals", "line and code [[6, 17]]", "[[6, 17], [6, 17]]")]),
 )
 # Statuses, and how a run ended then.
 ENDED = {0: "", 1: "", 3: "", 125: "", 126: "not run to its end: status 126", 127: "not run to its end: status 127", 128: "", 139: "ended by signal 11",

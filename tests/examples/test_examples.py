@@ -57,7 +57,7 @@ class Parallel(unittest.TestCase):
             "the sample": sample,
             "types that change": events,
             "CR at line ends": events.replace(b"\n", b"\r\n"),
-            "up to a bad line": b"".join([*lines[:-20], b"x" + lines[-20], *lines[-19:]]),
+            "up to a bad line": b"".join([*lines[:-120], b"x" + lines[-120], *lines[-119:]]),
             "a bad line before many": b"".join([*lines[:5], b"x\n" * 100000]),
             "cut off": events[:-40],
             **{f"{count} lines of a header": b"".join(lines[:count]) for count in (5, 4, 1, 0)},
