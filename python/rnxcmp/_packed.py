@@ -2,6 +2,7 @@
 
 from __future__ import annotations
 
+import errno
 import os
 import zlib
 from itertools import chain
@@ -133,8 +134,8 @@ def out_of_archive(file: BinaryIO, start: bytes) -> Iterator[bytes]:
         yield from iter(lambda: opened.read(_PIECE), b"")
     except EOFError:
         raise PackError("the packed text is cut off") from None
-    except (LZMAError, BadZipFile, zlib.error, OSError, NotImplementedError, RuntimeError) as error:
-        if isinstance(error, OSError) and error.errno:
+    except (LZMAError, BadZipFile, zlib.error, OSError, NotImplementedError, RuntimeError, ValueError, IndexError) as error:
+        if isinstance(error, OSError) and error.errno not in (None, errno.EINVAL):  # a place before the beginning, which a damaged zip may name
             raise
         raise PackError(f"the packed text is damaged: {error}") from error
 
