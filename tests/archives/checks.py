@@ -6,6 +6,7 @@ The blocks are run one after another in one folder. A block that names a program
 import gzip
 import os
 import re
+import runpy
 import shutil
 import subprocess
 import sys
@@ -109,6 +110,19 @@ def run_block(heading, block, work, environment):
     return [*wrong, f"output: {run.stdout!r}", f"messages: {run.stderr!r}"] if wrong else []
 
 
+# names of files, and the station and day that the page of an archive has for them
+DAYS = {
+    "abcd0010.24o": ("ABCD", "2024-01-01"), "a/abcd366x.24D.Z": ("ABCD", "2024-12-31"), "abcd001a.80o": ("ABCD", "1980-01-01"), "abcd0010.79o": ("ABCD", "2079-01-01"), "abcd3670.24o": ("ABCD", "None"),
+    "abcd0000.24o": ("ABCD", "None"), "WXYZ00DEU_R_20243660000_01D_30S_MO.crx.gz": ("WXYZ00DEU", "2024-12-31"), "a/notes.txt": ("a", "None"), "abcd0010.24n": (".", "None"),
+}  # fmt: skip
+
+
+def check_days():
+    station_and_day = runpy.run_path(str(TOP / "examples/archive_page.py"))["station_and_day"]
+    found = {name: tuple(map(str, station_and_day(name))) for name in DAYS}
+    return [f"{name}: {found[name]}, not {wanted}" for name, wanted in DAYS.items() if found[name] != wanted]
+
+
 def check_lists(work):
     """The files that a nightly compaction lists as verified: two, with their absolute names."""
     listed = sorted((work / "verified.txt").read_text().split("\0")[:-1])
@@ -206,6 +220,7 @@ def checks(program):
         before = "" if (work / "nightly.sh").exists() else "its recipe, A check every night, wasn't chosen"
         yield "the next nights", lambda: before or check_next_nights(work, environment)
         yield "reasons of the night", lambda: before or check_reasons(work, environment)
+        yield "days of the page", check_days
         yield "RTKLIB", lambda: check_rtklib(work, environment)
 
 

@@ -3,7 +3,6 @@
 import random
 import sys
 import time
-from dataclasses import dataclass, field
 
 from explained import TOP, compacted, named_by, package, sample
 
@@ -12,19 +11,6 @@ import texts as generate  # noqa: E402
 
 SECONDS = 0.5  # of processor that an explanation may take
 NEAR = b"0123456789 .-&>GRECx\t\x00\xc8"
-
-
-@dataclass
-class Counts:
-    """How many files were explained, accepted, and cut but not said to be; the fields that were known and named; and what was wrong."""
-
-    files: int = 0
-    accepted: int = 0
-    unsaid: int = 0
-    known: int = 0
-    fields: int = 0
-    longest: float = 0.0
-    wrong: list = field(default_factory=list)
 
 
 def good_files(program, seed):
@@ -76,45 +62,36 @@ def field_is_known(direction, found, place, data):
     return found.code in (4, 5, 11, 12, 13, 15, 18) and not (found.code == 15 and place[1] == 1)
 
 
-def one(program, direction, data, place, counts, note):
-    """Explains one damaged file, and compares with the program and with the place of the damage."""
+def one(program, direction, data, place):
+    """Explains one damaged file, and compares with the program and with the place of the damage: what is wrong."""
     begun = time.process_time()
     found = package().explain(data, direction=direction)
     seconds = time.process_time() - begun
-    counts.files += 1
-    counts.longest = max(counts.longest, seconds)
+    wrong = [f"it took {seconds:.2f} seconds of processor"] if seconds > SECONDS else []
     said, named = (found.line, found.code) if found and found.code else None, named_by(program, data, direction)
     if said != named:
-        counts.wrong.append(f"{note}: {said} is explained, and the program names {named}")
+        wrong.append(f"{said} is explained, and the program names {named}")
     if named is None:
-        counts.accepted += 1
         is_said = found is not None and found.may_be_cut_off and "the file may be cut off" in str(found)
-        counts.unsaid += not data.endswith(b"\n") and not is_said
-        if is_said and data.endswith(b"\n"):
-            counts.wrong.append(f"{note}: a whole file is said to be cut off")
+        if is_said == data.endswith(b"\n"):
+            wrong.append(f"that it is cut off is said: {is_said}")
     line = (data.split(b"\n") + [b""])[found.line - 1] if found else b""
     if found and found.text not in (line, line[:-1] if line.endswith(b"\r") else line):
-        counts.wrong.append(f"{note}: line {found.line} is {line!r}, not {found.text!r}")
-    if field_is_known(direction, found, place, data):
-        counts.known += 1
-        is_named = found.columns is not None and found.columns[0] <= place[1] <= found.columns[1]
-        counts.fields += is_named
-        if not is_named:
-            counts.wrong.append(f"{note}: {place} is damaged, and {found.columns} {found.field} of line {found.line} code {found.code} is named")
+        wrong.append(f"line {found.line} is {line!r}, not {found.text!r}")
+    if field_is_known(direction, found, place, data) and not (found.columns and found.columns[0] <= place[1] <= found.columns[1]):
+        wrong.append(f"{place} is damaged, and {found.columns} {found.field} of line {found.line} code {found.code} is named")
+    return wrong
 
 
 def run(program, count, cuts, seed):
-    """Explains so many damaged files, and so many that are cut off."""
-    rng, counts, files = random.Random(seed), Counts(), good_files(program, seed)
+    """Explains so many damaged files, and so many that are cut off: what is wrong."""
+    rng, wrong, files = random.Random(seed), [], good_files(program, seed)
     for number in range(count + cuts):
         direction, text = files[rng.randrange(2) if number % 2 else rng.randrange(len(files))]
         data, place = damaged(rng, text) if number < count else (without_line_end(rng, text), None)
         try:
-            one(program, direction, data, place, counts, f"seed {seed} file {number}")
+            found = one(program, direction, data, place)
         except Exception as error:
-            counts.wrong.append(f"seed {seed} file {number}: {error!r}")
-    if counts.longest > SECONDS:
-        counts.wrong.append(f"one took {counts.longest:.2f} seconds of processor")
-    if counts.unsaid:
-        counts.wrong.append(f"{counts.unsaid} of {counts.accepted} accepted files are cut off, and that isn't said")
-    return counts
+            found = [repr(error)]
+        wrong += [f"seed {seed} file {number}: {line}" for line in found]
+    return wrong

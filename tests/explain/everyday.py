@@ -4,6 +4,7 @@ The sample has 31 header lines and 20 epochs: the first epoch, of 7 satellites, 
 compact text two lines are before the header, and an epoch has a clock line: the first is lines 34 to 42, the second lines 43 to 51.
 """
 
+import bz2
 import gzip
 from typing import Callable, NamedTuple, Optional, Tuple
 
@@ -76,7 +77,7 @@ COMPACT = b"3.0                 COMPACT RINEX FORMAT                    CRINEX V
 WEB = b"<!DOCTYPE html>\n<html><head><title>401 Unauthorized</title></head><body>Please log in.</body></html>\n"
 TYPES = b"G    1 C5Q".ljust(60) + b"SYS / # / OBS TYPES\n"
 EVENT = b"> 2024 01 01 00 10  0.0000000  %d%3d\n"
-FIRST = "     3.05           OBSERVATION DATA    M                   RINEX VERSION / TYPE"
+MARKS = "\n       |    %s%s\ncolumns "  # under a line whose beginning isn't shown
 
 
 def first_line(start, kind):
@@ -87,12 +88,15 @@ def first_line(start, kind):
 OF_RINEX = (
     Kind("gzip in gzip", lambda text: gzip.compress(gzip.compress(text, mtime=0), mtime=0), 1, 3, ("likely: this is gzip",), (61, 80)),
     Kind("a damaged bzip2", lambda text: b"BZh91AY&SY" + text[:100], 0, None, ("refused: the packed text is damaged",)),
+    Kind("bzip2 in gzip", lambda text: gzip.compress(bz2.compress(text), mtime=0), 1, 3, ("likely: this is zip, bzip2, xz or zstd", "to do: unpack it"), (61, 80)),
+    Kind("a packed file in gzip", lambda text: gzip.compress(b"\x1f\x9d\x90" + text[:100], mtime=0), 1, 3, ("likely: this is a packed file (.Z)",), (61, 80)),
     Kind("zstd", lambda text: b"\x28\xb5\x2f\xfd" + text[:100], 0, None, ("refused: compression not supported: zstd",)),
     Kind("Compact RINEX", lambda text: COMPACT + text, 1, 3, ("likely: this is Compact RINEX", "to do: expand it"), (61, 80)),
     Kind("a byte order mark", lambda text: b"\xef\xbb\xbf" + text, 1, 3, ("likely: a byte order mark is before the text",), (61, 80)),
     Kind("UTF-16", lambda text: text.decode("ascii").encode("utf-16"), 1, 3, ("likely: this is UTF-16",), (61, 80)),
     Kind("UTF-16 without a mark", lambda text: text.decode("ascii").encode("utf-16-be"), 1, 3, ("likely: this is UTF-16",), (61, 80)),
     Kind("a web page", lambda text: WEB, 1, 3, ("likely: this is a web page",), (61, 80)),
+    Kind("a web page of another form", lambda text: b"\n <HTML>\n" + WEB, 1, 3, ("likely: this is a web page",)),
     Kind("an empty file", lambda text: b"", 1, 3, ("likely: the file is empty",)),
     Kind("bytes 0 at the beginning", lambda text: b"\0" * 80 + text[80:], 1, 3, ("likely: the file begins with bytes 0",), (61, 80)),
     Kind("a lost beginning", without(*range(1, 32)), 1, 3, ("likely: the file's beginning is lost",), (61, 80)),
@@ -117,7 +121,7 @@ OF_RINEX = (
     Kind("a second header", lambda text: text + text, 192, 10, ("a line is too many",), (1, 1)),
     Kind("bytes 0 in a satellite's line", with_nuls(43), 43, 13, (r"43 | ????????",), (1, 3)),
     Kind("bytes 0 in a value", with_text(43, 20, b"\0" * 14), 43, 15, ("observation L1C of G14",), (20, 33)),
-    Kind("a cut inside a value", cut(43, 26), 43, 15, ("likely: the file is cut off here",), (20, 33)),
+    Kind("a cut inside a value", cut(43, 26), 43, 15, ("likely: the file is cut off here", "to do: fetch the file again"), (20, 33)),
     Kind("a cut in an epoch's line", cut(40, 20), 40, 11, ("likely: the file is cut off here", "column 32: flag"), (32, 32)),
     Kind("a cut after a value", cut(191, 33), 191, None, ("cut off, line 191: the last line has no line end",)),
     Kind("a cut after CR", lambda text: text.replace(b"\n", b"\r\n")[:-1], 1, None, ("not standard, line 1: the line ends in CR LF", "also: the last line has no line end"), (81, 81)),
@@ -132,7 +136,7 @@ OF_RINEX = (
     Kind("a count of types of letters", with_text(11, 4, b"  x"), 11, 6, ("likely: a character of columns 1 to 6",), (1, 6)),
     Kind("a types line lost", without(11), 32, 13, ("the header has no types line for this system",), (1, 3)),
     Kind("an epoch twice", lines(lambda found: found[:39] + found[31:])),
-    Kind("text after a satellite's last column", inserted(33, 130, b"    x"), 33, 15, ("text after the last cell\nexpected", "cell\nlikely: a character of this line is lost or too many\nlikely: a line end"), (132, 134)),
+    Kind("text after a satellite's last column", inserted(33, 130, b"    x"), 33, 15, ("text after the last cell\nexpected", "cell\nlikely: a character of this line is lost or too many\nlikely: a line end", MARKS % (97 * " ", 3 * "^")), (132, 134)),
     Kind("text after an epoch's last column", inserted(32, 57, b"  x"), 32, 11, ("text after the clock offset", "likely: a line end is lost\nto do"), (57, 59)),
     Kind("an unknown flag", with_text(32, 32, b"7"), 32, 11, ("column 32: flag",), (32, 32)),
     Kind("a count of letters", with_text(32, 33, b" x7"), 32, 11, ("columns 33 to 35: count",), (33, 35)),
@@ -140,11 +144,12 @@ OF_RINEX = (
     Kind("an unknown system", with_text(33, 1, b"X"), 33, 13, ("likely: the header has no types line for this system",), (1, 3)),
     Kind("an identifier of letters", with_text(33, 2, b"O1"), 33, 13, ("identifier is wrong\nlikely: a line is lost or too many\nto do",), (1, 3)),
     Kind("an indicator that is none", with_text(33, 18, b"&"), 33, 18, ("column 18: loss of lock indicator C1C of G02",), (18, 18)),
-    Kind("two lines in one", lines(lambda found: found.__setitem__(32, found[32][:-1])), 33, 15, ("text after the last cell", "a line end is lost"), (132, 258)),
+    Kind("two lines in one", lines(lambda found: found.__setitem__(32, found[32][:-1])), 33, 15, ("text after the last cell", "a line end is lost", MARKS % (49 * " ", 51 * "^")), (132, 258)),
     Kind("types of an event", before(40, EVENT % (4, 1) + TYPES + EVENT % (0, 1) + b"G07       x1.000\n"), 43, 15, ("observation C5Q of G07",), (4, 17)),
     Kind("CR LF", lambda text: text.replace(b"\n", b"\r\n"), 1, None, ("the line ends in CR LF", "expected: a line that ends in LF alone"), (81, 81)),
     Kind("blanks at the end", inserted(33, 130, b"  "), 33, None, ("blanks are at the line's end",), (130, 131)),
     Kind("no digit before the point", with_text(32, 43, b" "), 32, None, ("the number has no digit before its point",), (42, 56)),
+    Kind("a leading zero", with_text(33, 5, b"0"), 33, None, ("the number has a leading zero",), (4, 17)),
     Kind("minus zero", with_text(32, 42, b"-0.000000000000"), 32, None, ("the number is zero with a sign",), (42, 56)),
 )
 
@@ -178,5 +183,7 @@ OF_COMPACT = (
     Kind("a letter in the clock's code", with_text(35, 4, b"x"), 35, 12, ("clock",), (1, 10)),
     Kind("a byte of 200 in an epoch line", with_text(43, 21, b"\xc8"), 43, 11, ("column 21: byte",), (21, 21)),
     Kind("an epoch's line in an epoch", before(37, b"> 2024 01 01 00 00  0.0000000  0  1      G02\n"), 37, 19, ("likely: a line is lost",)),
+    Kind("a value that is too long", lambda text: text.replace(b"3&23876708878", b"3&99999999999999"), 36, 17, ("a coded value of this cell is damaged",)),
+    Kind("a mark of another byte", lines(lambda found: found.__setitem__(35, found[35][:-1] + b"\xc8\n")), 36, 18, ("a blank of this line is lost or too many",), (106, 106)),
     Kind("bytes 0 in a line", with_nuls(37), 37, 15, ("columns 1 to 105: code",), (1, 105)),
 )

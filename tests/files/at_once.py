@@ -6,14 +6,12 @@ import signal
 import subprocess
 import time
 
-from place import ENVIRONMENT, GOOD, SECONDS, TOOL, Place, marked
+from place import ENVIRONMENT, GOOD, SECONDS, TOOL, Place
 
 
-def call(place, *words, **more):
-    """A run over all files, its messages, and its seconds."""
-    begun = time.monotonic()
-    run = subprocess.run([*TOOL, *words, "--inputs", "names"], cwd=place.work, env=ENVIRONMENT, capture_output=True, text=True, timeout=60 * SECONDS, **more)
-    return run, time.monotonic() - begun
+def call(place, *words):
+    """A run over all files."""
+    return subprocess.run([*TOOL, *words, "--inputs", "names"], cwd=place.work, env=ENVIRONMENT, capture_output=True, text=True, timeout=60 * SECONDS)
 
 
 def killed(place, *words):
@@ -38,30 +36,18 @@ def whole_archive(texts, count):
         place.write("names", b"".join(name.encode() + b"\0" for name in names))
         (place.work / "out").mkdir()
         words = ("rnx2crx", "-q", "--gzip", "--verify", "-j", "4", "--to", "out")
-        run, _ = call(place, "check", "-j", "4")
+        run = call(place, "check", "-j", "4")
         wrong = [] if run.stdout == f"{count} files: {count - len(bad)} valid, 0 of them may be cut off, {len(bad)} errors\n" else [run.stdout]
         made = killed(place, *words, "--verified-to", "first")
-        run, _ = call(place, *words, "--verified-to", "list", "--new")
+        run = call(place, *words, "--verified-to", "list", "--new")
         wrong += [] if re.fullmatch(rf"{count} files: [^\n]* {len(bad)} errors; [^\n]*\n", run.stdout) and "Traceback" not in run.stderr else [run.stdout, run.stderr[-900:]]
         wrong += [] if {line.split(": ")[0] for line in run.stderr.splitlines()} == bad else ["other files are named"]
         outputs = {str(path.relative_to(place.work / "out")).replace("crx.gz", "rnx") for path in place.work.joinpath("out").rglob("*.gz")}
         wrong += [] if outputs == {*names} - bad else ["other outputs"]
         wrong += [] if made < len(place.listed()) + made <= count and set(place.listed()) <= outputs else ["another list"]
-        run, _ = call(place, *words, "--verified-to", "all")
+        run = call(place, *words, "--verified-to", "all")
         return wrong + ([] if set(place.listed("all")) == outputs and len(place.listed("all")) == len(outputs) else ["not all are verified"])
-
-
-def seconds(texts, count):
-    """Prints how long one process and four take."""
-    with Place() as place:
-        for number in range(count):
-            place.write(f"{number}.rnx", marked(GOOD, number))
-        place.write("names", b"".join(b"%d.rnx\0" % number for number in range(count)))
-        took = [call(place, "rnx2crx", "-q", "-j", jobs, "--to", f"out{jobs}")[1] for jobs in ("1", "4")]
-        print(f"    {count} files: {took[0]:.1f} seconds in one process, {took[1]:.1f} in four", flush=True)
-    return []
 
 
 def checks(texts, count):
     yield f"{count} files at once", lambda: whole_archive(texts, count)
-    yield f"seconds of {count} files", lambda: seconds(texts, count)

@@ -6,13 +6,15 @@ import os
 import pty
 import re
 import resource
+import select
 import shutil
 import subprocess
 import sys
 
-from place import ENVIRONMENT, GOOD, PACKAGE, SECONDS, TOOL, TOP, Place, changed_epoch, differs, marked, padded
+from place import ENVIRONMENT, GOOD, PACKAGE, SECONDS, TOOL, TOP, Place, changed_epoch, differs, marked, padded, unpacked
 
 STRANGE = [b"a b", b"it's", b"$(touch x)", b'"q"', b"new\nline", b"tab\t`id`", b"\xff\xfe", "\u00e9t\u00e9".encode(), b"-f", b"a;b&c", b"#a", b"\x1b[2J"]
+STRANGE += [b"\x07\x08\x0b\x0c\r\x7f", b"it's {x}", b"it's a b", b"it's\n\"q\"", b"~a", b"a\n", *(b"a%cb" % mark for mark in b"!*<=>?[\\^|{}~]#")]
 
 
 def started(place, *words, **more):
@@ -86,11 +88,15 @@ def progress(texts):
         for name in ("a.rnx", "b.rnx"):
             place.write(name, GOOD)
         outer, inner = pty.openpty()
-        run = started(place, "rnx2crx", "-q", "a.rnx", "b.rnx", stdout=subprocess.DEVNULL, stderr=inner)
-        said = os.read(outer, 10000)
+        wrong = []
+        for words, lines in ((("a.rnx", "b.rnx"), [b"1 of 2: a.rnx", b"2 of 2: b.rnx"]), (("-j", "2", "a.rnx", "b.rnx"), [b"1 of 2: a.rnx", b"2 of 2: b.rnx"]), (("a.rnx",), [])):
+            run = started(place, "rnx2crx", "-q", *words, stdout=subprocess.DEVNULL, stderr=inner)
+            said = os.read(outer, 10000) if select.select([outer], [], [], 1)[0] else b""  # nothing may have been said
+            found = [line for line in said.split(b"\r\x1b[K") if line]
+            wrong += [] if run.returncode == 0 and found == lines and (not lines or said.endswith(b"\r\x1b[K")) else [f"{words}: {said!r}"]
         os.close(inner)
         os.close(outer)
-        return [] if run.returncode == 0 and b"2 of 2: b.rnx" in said and said.endswith(b"\r\x1b[K") else [f"{said!r}"]
+        return wrong
 
 
 # ---- what it needs
@@ -121,7 +127,7 @@ def little_memory(texts):
     return wrong
 
 
-LATER = "bz2 dataclasses datetime gzip hashlib inspect json lzma multiprocessing pathlib shutil subprocess tempfile typing".split()
+LATER = "rnxcmp._explain rnxcmp._causes bz2 dataclasses datetime gzip hashlib inspect json lzma multiprocessing pathlib shutil subprocess tempfile typing".split()
 
 
 def quick_start(texts):
@@ -138,28 +144,43 @@ def modules_of_the_folder(texts):
         for name in ("json", "argparse", "re", "ctypes"):
             place.write(f"{name}.py", b"import os\nos.write(2, b'of this folder')\n")
         place.write("a.rnx", GOOD)
-        script = f"import sys; sys.path.insert(0, {str(PACKAGE)!r}); sys.argv[0] = 'x'; import runpy; runpy.run_module('rnxcmp.files', run_name='__main__')"
-        run = subprocess.run([sys.executable, "-IB", "-c", script, "rnx2crx", "--json", "a.rnx"], cwd=place.work, env=ENVIRONMENT, capture_output=True, text=True, timeout=SECONDS)
+        script = f"import sys; sys.path.insert(0, {str(PACKAGE)!r}); sys.argv[0] = 'x'; import runpy; runpy.run_module(sys.argv.pop(1), run_name='__main__')"
+        wrong = []
+        for module in ("rnxcmp.files", "rnxcmp"):
+            for name in ("a.rnx", "none.rnx"):
+                words = [sys.executable, "-IB", "-c", script, module, "rnx2crx", "--json", name]
+                run = subprocess.run(words, cwd=place.work, env=ENVIRONMENT, capture_output=True, text=True, timeout=SECONDS)
+                wrong += differs(run, int(name != "a.rnx"), errors=["none.rnx: ERROR: "] if name != "a.rnx" else ())
     page, tool = (TOP / "docs/FILES.md").read_text(), (TOP / "packaging/bin/rnxcmp-file").read_text()
     right = "`python3 -I -m rnxcmp.files`" in page and "-m rnxcmp.files" not in page.replace("-I -m", "") and tool.startswith("#!/usr/bin/env -S python3 -IS\n")
-    return differs(run, 0) + ([] if right else ["it is started otherwise"])
+    return wrong + ([] if right else ["it is started otherwise"])
 
 
 # ---- from Python
 
 FROM_PYTHON = """
-import sys, warnings, rnxcmp
+import sys, warnings, rnxcmp.files
 call, path, more = sys.argv[1], sys.argv[2], eval(sys.argv[3])
 with warnings.catch_warnings(record=True) as caught:
     warnings.simplefilter("always")
     try:
-        print(getattr(rnxcmp, call)(path, **more))
+        print(getattr(rnxcmp.files if path == "a.24o" else rnxcmp, call)(path, **more))
     except Exception as error:
         print(type(error).__name__, error)
     print(len(caught), {w.filename for w in caught})
 """
 NO_NAME = "UnsupportedError no name for the converted file: "
 UNREADABLE = (("none.rnx", "cannot read this file: No such file or directory"), ("folder.rnx", "this is a folder, not a file"), ("pipe.rnx", "this is no regular file"))
+
+
+def is_of(texts, call, content, more, output):
+    """Whether an output is this input's, but for the date in its second line."""
+    text = unpacked(content)
+    if text.startswith(b"navigation") or (call == "decompress_on_disk" and text.startswith(b"     3")):
+        return unpacked(output) == text
+    words = (*(("-s",) if "skip_strange_epochs" in more else ()), *(("-e", f"{more['reinit_every_nth']}") if "reinit_every_nth" in more else ()))
+    wanted = texts.filtered(text, "rnx2crx" if call == "compress_on_disk" else "crx2rnx", *words)
+    return unpacked(output).split(b"\n", 2)[2] == wanted.split(b"\n", 2)[2] and output.startswith(b"\x1f\x8b") == (call == "compress_on_disk" and "compression" not in more)
 
 
 def from_python(texts):
@@ -169,6 +190,9 @@ def from_python(texts):
     for call, name, content, there, more, wanted, output in (
         ("compress_on_disk", "a.24o", GOOD, None, {"verify": True}, "a.24d.gz", "a.24d.gz"),
         ("compress_on_disk", "a.rnx", GOOD, None, {"compression": "none"}, "a.crx", "a.crx"),
+        ("compress_on_disk", "a.rnx", GOOD, None, {"compression": "none", "reinit_every_nth": 2}, "a.crx", "a.crx"),
+        ("compress_on_disk", "a.rnx", GOOD, None, {"compression": "bz2"}, "UnsupportedError compression not supported: bz2", None),
+        ("decompress_on_disk", "a.24n.gz", gzip.compress(b"navigation\n"), None, {}, "a.24n", "a.24n"),
         ("compress_on_disk", "a.24n", b"navigation\n", None, {"verify": True}, "a.24n.gz", "a.24n.gz"),
         ("compress_on_disk", "a.24o", GOOD, other, {}, "FileError file exists, and holds something else", "a.24d.gz"),
         ("compress_on_disk", "a.24n", bytes(300000), gzip.compress(bytes(1 << 18)), {}, "FileError file exists, and holds something else", "a.24n.gz"),
@@ -202,6 +226,7 @@ def from_python(texts):
             run = subprocess.run([sys.executable, "-S", "-c", FROM_PYTHON, call, name, repr(more)], cwd=place.work, env=ENVIRONMENT, capture_output=True, text=True, timeout=SECONDS)
             lines = [] if run.stdout.startswith(wanted) else [f"said: {run.stdout!r}, {run.stderr!r}"]
             lines += [] if content is None or (place.work / name).read_bytes() == content and place.names() == {name, output} - {None} and not place.parts() else [f"files {place.names()}"]
+            lines += [] if not wanted.startswith(f"{output}") or is_of(texts, call, content, more, (place.work / output).read_bytes()) else ["another content"]
             lines += ["the old one was changed"] if there and "force" not in more and (place.work / output).read_bytes() != there else []
             wrong += [f"{call} {name} {more}: {line}" for line in lines]
     return wrong

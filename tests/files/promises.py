@@ -30,7 +30,8 @@ def in_order(calls, steps):
 
 def order_of_calls(texts):
     """The temporary file has its mode and times, is on the disk, and is read from there through the descriptor that wrote it, before it gets its
-    name; then its folder is flushed. So it is with the list, and an output that exists is flushed before it is read from the disk."""
+    name; then its folder is flushed. So it is with the list, and an output that exists is flushed before it is read from the disk. Each folder that
+    --to makes is flushed into the one above it."""
     with Place() as place:
         place.write("a.rnx", GOOD).chmod(0o644)
         run, calls = calls_on(place, ("rnx2crx", "--verified-to", "list", "a.rnx"), "openat,write,fchown,fchmod,utimensat,fsync,fadvise64,read,close,linkat,unlinkat")
@@ -43,25 +44,31 @@ def order_of_calls(texts):
         wrong = ([] if run.returncode == 0 and len(opened) == 2 else [f"{run}, {opened}"]) + in_order(calls, steps)
         run, calls = calls_on(place, ("rnx2crx", "--verify", "a.rnx"), "fsync,fadvise64,read")  # the output that exists now
         output = rf"\(\d+<{re.escape(str(place.work))}/a.crx>"
-        return wrong + in_order(calls, (f"fsync{output}", f"fsync{home}", f"fadvise64{output}, 0, 0, POSIX_FADV_DONTNEED", f"read{output}"))
+        wrong += in_order(calls, (f"fsync{output}", f"fsync{home}", f"fadvise64{output}, 0, 0, POSIX_FADV_DONTNEED", f"read{output}"))
+        run, calls = calls_on(place, ("rnx2crx", "--to", "one/two", "a.rnx"), "mkdir,fsync,linkat")
+        one, two = (rf"fsync\(\d+<{re.escape(str(place.work))}/{name}>\) += 0" for name in ("one", "one/two"))
+        return wrong + in_order(calls, ('mkdir."one"', rf"fsync{home}\) += 0", 'mkdir."one/two"', one, "linkat.* = 0", two))
 
 
 def modes(texts):
     """Mode, times and owner are the input's; if the group can't be given, group and others get what both had."""
     wrong, is_root = [], os.geteuid() == 0 and shutil.which("setpriv")
-    cases = [((), mode, mode & 0o777) for mode in (0o600, 0o640, 0o444, 0o666, 0o4755)]
-    cases += [(ANOTHER_USER, *both) for both in ((0o664, 0o644), (0o604, 0o600), (0o640, 0o600), (0o666, 0o666), (0o755, 0o755))] if is_root else []
-    for through, mode, wanted in cases:
+    cases = [((), mode, mode & 0o777, 12345) for mode in (0o600, 0o640, 0o444, 0o666, 0o4755)]
+    if is_root:
+        cases += [(ANOTHER_USER, *both, 65534) for both in ((0o664, 0o644), (0o604, 0o600), (0o640, 0o600), (0o666, 0o666), (0o755, 0o755))]
+        cases += [(ANOTHER_USER, 0o046, 0o444, 12345), ((*ANOTHER_USER[:3], "--groups=23456"), 0o640, 0o640, 12345)]
+    for through, mode, wanted, owner in cases:
         with Place() as place:
             place.work.chmod(0o777)
             source = place.write("a.rnx", GOOD)
             os.utime(source, ns=(OLD * 10**9 + 123456789, OLD * 10**9 + 987654321))
             if is_root:
-                os.chown(source, 65534 if through else 12345, 23456)
+                os.chown(source, owner, 23456)
             source.chmod(mode)
             lines = differs(place.run("rnx2crx", "a.rnx", through=through), 0, ["made a.crx"])
             one, other = source.stat(), (place.work / "a.crx").stat()
-            lines += [f"another {what}" for what in ("st_uid", "st_mtime_ns", *(() if through else ("st_gid",))) if getattr(one, what) != getattr(other, what)]
+            kept = ["st_mtime_ns"] + ["st_uid"] * (owner == 65534 or not through) + ["st_gid"] * ("--clear-groups" not in through)
+            lines += [f"another {what}" for what in kept if getattr(one, what) != getattr(other, what)]
             wrong += [f"{mode:o}: {line}" for line in lines + ([] if stat.S_IMODE(other.st_mode) == wanted else [f"mode {other.st_mode:o}"])]
     return wrong
 
