@@ -28,7 +28,8 @@ ABOUT = {  # words in the names of the checks that are about a file
     "_names.py": ("names",),
     "_on_disk.py": ("from python",),
     "_packed.py": ("packs", "archives"),
-    "files.py": ("lists", "signals", "choices", "cut files", "lines", "refusals"),
+    "_workers.py": ("processes", "archives"),
+    "files.py": ("lists", "signals", "choices", "processes", "cut files", "lines", "refusals"),
 }
 OF_LANGUAGE = {".py": ("test_python",), ".f90": ("test_library.Library.test_fortran", "test_library.Library.test_sizes")}
 # The files that are looked at by each check, beside all, without a bug.
