@@ -127,7 +127,7 @@ OF_RINEX = (
     Kind("a cut after CR", lambda text: text.replace(b"\n", b"\r\n")[:-1], 1, None, ("not standard, line 1: the line ends in CR LF", "also: the last line has no line end"), (81, 81)),
     Kind("a cut between lines", without(*range(44, 192)), 44, 19, ("likely: the file is cut off here",)),
     Kind("a cut between epochs", without(*range(40, 192))),
-    Kind("a cut in the header", without(*range(20, 192)), 20, 7, ("likely: the file is cut off in its header",)),
+    Kind("a cut in the header", without(*range(20, 192)), 20, 7, ("columns 61 to 80\nlikely: the file is cut off in its header\n",)),
     Kind("no END OF HEADER", without(31), 191, 7, ("the line `END OF HEADER` is lost or damaged",)),
     Kind("a letter in a number", with_text(33, 10, b"O"), 33, 15, ("columns 4 to 17: observation C1C of G02", "number is wrong\nlikely: a character of this line is lost or too many\nto do"), (4, 17)),
     Kind("a digit lost", lines(lambda found: found.__setitem__(32, found[32][:8] + found[32][9:])), 33, 15, ("a character of this line is lost",), (4, 17)),

@@ -192,6 +192,7 @@ def from_python(texts):
         ("compress_on_disk", "a.rnx", GOOD, None, {"compression": "none"}, "a.crx", "a.crx"),
         ("compress_on_disk", "a.rnx", GOOD, None, {"compression": "none", "reinit_every_nth": 2}, "a.crx", "a.crx"),
         ("compress_on_disk", "a.rnx", GOOD, None, {"compression": "bz2"}, "UnsupportedError compression not supported: bz2", None),
+        ("decompress_on_disk", "a.crx", texts.input("crx2rnx", "damaged"), None, {"skip_strange_epochs": True}, "a.rnx\n", "a.rnx"),
         ("decompress_on_disk", "a.24n.gz", gzip.compress(b"navigation\n"), None, {}, "a.24n", "a.24n"),
         ("compress_on_disk", "a.24n", b"navigation\n", None, {"verify": True}, "a.24n.gz", "a.24n.gz"),
         ("compress_on_disk", "a.24o", GOOD, other, {}, "FileError file exists, and holds something else", "a.24d.gz"),
@@ -226,7 +227,7 @@ def from_python(texts):
             run = subprocess.run([sys.executable, "-S", "-c", FROM_PYTHON, call, name, repr(more)], cwd=place.work, env=ENVIRONMENT, capture_output=True, text=True, timeout=SECONDS)
             lines = [] if run.stdout.startswith(wanted) else [f"said: {run.stdout!r}, {run.stderr!r}"]
             lines += [] if content is None or (place.work / name).read_bytes() == content and place.names() == {name, output} - {None} and not place.parts() else [f"files {place.names()}"]
-            lines += [] if not wanted.startswith(f"{output}") or is_of(texts, call, content, more, (place.work / output).read_bytes()) else ["another content"]
+            lines += [] if not wanted.startswith(f"{output}") or output not in place.names() or is_of(texts, call, content, more, (place.work / output).read_bytes()) else ["another content"]
             lines += ["the old one was changed"] if there and "force" not in more and (place.work / output).read_bytes() != there else []
             wrong += [f"{call} {name} {more}: {line}" for line in lines]
     return wrong

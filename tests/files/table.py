@@ -457,7 +457,7 @@ def run_row(files, words, status, out, err, made, listed, replaced, gone, script
         wrong += [f"{name} was changed" for name, state in kept.items() if state_of(place.work / name) != state]
         wrong += [] if files_of(place) == {*files, *made} - {*gone} else [f"files {files_of(place)}"]
         for name, (text, packed) in made.items() if isinstance(made, dict) else ():
-            found = (place.work / name).read_bytes()
+            found = (place.work / name).read_bytes() if (place.work / name).exists() else b""
             wrong += [] if unpacked(found) == text and (found != text) == packed else [f"{name} has another content"]
         wrong += [] if listed is None or place.listed() == listed else [f"listed: {place.listed()}"]
         return [f"{' '.join(words)[:80]} {script[-80:]!r}: {line}" for line in wrong]
