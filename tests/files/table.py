@@ -337,7 +337,9 @@ def outputs_that_come(texts):
         yield row(start, f"rnx2crx {words} a.rnx", status, () if status else "a.crx is there already", said, made, gone=gone, script=AT_THE_FLUSH.format(act, ""))
     yield row(A, "rnx2crx a.rnx", 1, (), "cannot put a.crx into place: Input/output error", script=CLOSE_FAILS)
     script = AFTER_ITS_LINE.format("open('list', 'x').write('another')")
-    yield row(A, "rnx2crx -f a.rnx --verified-to list", 1, "verified exact", "list: ERROR: another file has got its name\n", ("a.crx", "list"), script=script)
+    made = {"a.crx": (texts.plain_compact, False), "list": (b"another", False)}
+    for disk, said in (("", "another file has got its name\n"), (NO_RENAMES, "cannot put list into place: ")):
+        yield row(A, f"rnx2crx -f a.rnx --date '{DATE}' --verified-to list", 1, "verified exact", f"list: ERROR: {said}", made, script=f"{disk}\n{script}")
 
 
 def bytes_that_change_on_the_disk(texts):
