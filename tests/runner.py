@@ -56,6 +56,7 @@ PACKAGES = {
     **{name: name for name in ("pkg-config", "strace", "valgrind", "zsh")},
     **{"binutils": "nm readelf", "gnupg": "gpg", "man-db": "man", "rtklib": "rnx2rtkp", "libc6-dev": "", "openssh-sftp-server": "", "python3-venv": ""},
     **{"musl-tools": "musl-gcc", "gcc-aarch64-linux-gnu": "aarch64-linux-gnu-gcc", "libc6-dev-arm64-cross": "", "qemu-user": "qemu-x86_64 qemu-aarch64"},
+    **{"bindfs": "bindfs", "exfat-fuse": "mount.exfat-fuse", "exfatprogs": "mkfs.exfat", "ntfs-3g": "ntfs-3g mkfs.ntfs"},
     **{"gcc-mingw-w64-x86-64": "x86_64-w64-mingw32-gcc", "wine": "wine wineserver", "wine64": ""},
 }
 

@@ -16,13 +16,14 @@ import time
 from contextlib import ExitStack, contextmanager
 from pathlib import Path
 
-from place import ENVIRONMENT, GOOD, SECONDS, TOOL, Place, differs, marked
+from place import DIRECTIONS, ENVIRONMENT, GOOD, SECONDS, TOOL, Place, Promise, differs, marked
 from promises import LIST
 from signals import BATCH, after_its_end, command_of, lines_up_to_a_moment, prepared
 
 FILES = 200
 SHUTDOWN = 0x8004587D  # EXT4_IOC_SHUTDOWN
 NO_FLUSH = (2).to_bytes(4, sys.byteorder)  # what the journal holds isn't written any more
+REFUSED = "this disk can't name a file without replacing; -f renames over the old file"
 SSHD = """ListenAddress 127.0.0.1
 Port {port}
 HostKey {key}
@@ -63,6 +64,15 @@ def image(folder, *make):
         file.truncate(64 << 20)
     call(*make, path)
     return path
+
+
+@contextmanager
+def loop_device(path):
+    name = subprocess.run(["losetup", "--find", "--show", path], capture_output=True, text=True, check=True).stdout.strip()
+    try:
+        yield name
+    finally:
+        call("losetup", "--detach", name)
 
 
 @contextmanager
@@ -146,13 +156,29 @@ def twice(top, texts, acl=False):
     return wrong
 
 
-def on_plain(disk, texts, acl=False):
-    with disk as top:
-        return twice(top, texts, acl)
-
-
 def loop_ext4(folder):
     return mounted(folder / "top", "mount", "-o", "loop", image(folder, "mkfs.ext4", "-q", "-F"))
+
+
+def bindfs(folder, *more):
+    os.mkdir(folder / "below")
+    return mounted(folder / "top", "bindfs", *more, folder / "below")
+
+
+# the disks on which all goes as on any other: what each needs, and how it is mounted
+PLAIN = {
+    "ext4": (("mkfs.ext4",), loop_ext4),
+    "ext4, inputs with access control lists": (("mkfs.ext4",), loop_ext4),
+    "tmpfs": ((), lambda folder: mounted(folder / "top", "mount", "-t", "tmpfs", "tmpfs")),
+    "ntfs-3g": (("ntfs-3g", "mkfs.ntfs"), lambda folder: mounted(folder / "top", "ntfs-3g", image(folder, "mkfs.ntfs", "-q", "-F", "-f"))),
+    "bindfs": (("bindfs",), bindfs),
+    "bindfs with one mode": (("bindfs",), lambda folder: bindfs(folder, "--perms=0755", "--chmod-ignore", "--chown-ignore")),
+}
+
+
+def on_plain(name, texts, folder):
+    with PLAIN[name][1](folder) as top:
+        return twice(top, texts, "lists" in name)
 
 
 def on_sshfs(texts, folder):
@@ -171,22 +197,56 @@ def on_sshfs(texts, folder):
         return wrong + after(work, texts, "rnx2crx", inputs, ("a0", "b0", "a1", "b1"))
 
 
-KINDS = {  # what is tried on disks
-    "ext4": lambda texts, folder: on_plain(loop_ext4(folder), texts),
-    "ext4, inputs with access control lists": lambda texts, folder: on_plain(loop_ext4(folder), texts, True),
-    "tmpfs": lambda texts, folder: on_plain(mounted(folder / "top", "mount", "-t", "tmpfs", "tmpfs"), texts),
-    "sshfs mounted twice": on_sshfs,
+def from_a_source_that_is_read_only(texts, folder):
+    """Each input is below a folder that can't be written to, and -o names a place elsewhere."""
+    wrong = []
+    for direction in ("rnx2crx", "crx2rnx"):
+        (folder / direction).mkdir()
+        inputs = files_on(folder / direction, texts, direction)
+        with mounted(folder / "top", "mount", "--bind", "-o", "ro", folder / direction) as top, Place() as place:
+            for name in inputs:
+                promise = Promise(texts, direction, place, top / name, f"{name[:-4]}{DIRECTIONS[direction][1]}")
+                for state in ("made", "is there already"):
+                    run = place.run(direction, "--verified-to", f"{name} {state}", "-o", promise.output.name, str(top / name))
+                    wrong += differs(run, 0, [state, "verified exact"]) + promise.broken(run.stdout)
+            wrong += differs(end(start(top, direction, place.work / "list", "--to", place.work / "out", "-j", "4")), 0, told("made"))
+            wrong += [f"left: {place.parts()}"] if place.parts() or len(place.names()) != 3 * FILES + 2 else []
+    return wrong[:6]
+
+
+def on_exfat(texts, folder):
+    """A disk by FUSE that has no call for it: refused with the way out, and right with -f."""
+    with loop_device(image(folder, "mkfs.exfat")) as device, mounted(folder / "top", "mount.exfat-fuse", device) as top:
+        wrong = []
+        for direction in ("rnx2crx", "crx2rnx"):
+            work = top / direction
+            work.mkdir()
+            inputs = files_on(work, texts, direction)
+            run = end(subprocess.Popen([*TOOL, direction, "--verify", "--inputs", "names"], cwd=work, env=ENVIRONMENT, stdout=subprocess.PIPE, stderr=subprocess.PIPE, text=True))
+            wrong += [] if run.returncode == 1 and run.stderr.count(REFUSED) == FILES and set(os.listdir(work)) == {*inputs, "names"} else [f"{run}, {os.listdir(work)}"[-900:]]
+            for listed, state in (("one", "made"), ("two", "replaced")):
+                wrong += differs(end(start(work, direction, listed, "-f")), 0, told(state))
+            wrong += after(work, texts, direction, inputs, ("one", "two"))
+        return wrong
+
+
+KINDS = {  # what is tried on disks, and what each needs
+    **{name: (needed, lambda texts, folder, name=name: on_plain(name, texts, folder)) for name, (needed, _) in PLAIN.items()},
+    "sshfs mounted twice": (("sshfs", "sshd", "ssh-keygen"), on_sshfs),
+    "a read-only source": ((), from_a_source_that_is_read_only),
+    "exfat-fuse": (("mount.exfat-fuse", "mkfs.exfat", "losetup"), on_exfat),
 }
 
 
 def on_disk(name, texts, folder):
     """What is wrong on a disk, or why it was left out."""
-    lacking = [tool for tool in ("sshfs", "sshd", "ssh-keygen") if name.startswith("sshfs") and not shutil.which(tool, path=f"{os.environ['PATH']}:/usr/sbin:/sbin")]
+    needed, check = KINDS[name]
+    lacking = [tool for tool in needed if not shutil.which(tool, path=f"{os.environ['PATH']}:/usr/sbin:/sbin")]
     if lacking:
         return f"there is no {', '.join(lacking)}"
     work = folder / name.replace(" ", "_")
     work.mkdir()
-    return KINDS[name](texts, work)
+    return check(texts, work)
 
 
 # ---- disks that lose power
