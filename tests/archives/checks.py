@@ -31,7 +31,7 @@ WANTED = {
     "An array job of a batch system": ["job 0: status", "job 1: status", "status 123"],
     "RINEX 2 and 4 beside RINEX 3": ["archive/two.24o\n", "some files failed"],
     "A compaction every night": ["the messages say which files aren't verified", "files: 2 made, 0 replaced, 0 there already, 3 errors; verified: 2 exact, 0 normal form"],
-    "A check every night": [
+    "A nightly check of observation files": [
         "archive/bad_MO.rnx: ERROR line",
         "archive/faulty.24o: ERROR line",
         "archive/padded.24o: standard no",
@@ -217,7 +217,7 @@ def checks(program):
             if heading == "Damaged compact files":
                 yield f"{heading}: the rest", lambda: check_rest(work)
         yield from hostile.checks(environment)
-        before = "" if (work / "nightly.sh").exists() else "its recipe, A check every night, wasn't chosen"
+        before = "" if (work / "nightly.sh").exists() else "its recipe, A nightly check of observation files, wasn't chosen"
         yield "the next nights", lambda: before or check_next_nights(work, environment)
         yield "reasons of the night", lambda: before or check_reasons(work, environment)
         yield "days of the page", check_days

@@ -51,7 +51,7 @@ def run_recipe(heading, block, environment, names=(*COMMANDS, *ODD)):
         after = contents_of(archive)
         wrong = [f"a command ran: {path.relative_to(work)}" for path in work.rglob("*") if path.name == RAN]
         wrong += [f"not as it was: {name!r}" for name, content in before.items() if after.get(name) != content]
-        if heading not in ("A check every night", "A page of the archive"):
+        if heading not in ("A nightly check of observation files", "A page of the archive"):
             made = [name for name in after if name.startswith(f"{USUAL}_MO.crx") or name.startswith(f"{USUAL}.24d")]
             wrong += [] if made else [f"nothing is made of {USUAL}"]
         if heading == "make":

@@ -58,7 +58,7 @@ RECIPES = {
     "An array job of a batch system": Recipe(".24o", ".24d.gz", "status [1-9]"),
     "RINEX 2 and 4 beside RINEX 3": Recipe(".24o", ".24d.gz", "some files failed|^archive/"),
     "A compaction every night": Recipe("_MO.rnx", "_MO.crx.gz", "the messages say which files aren't verified"),
-    "A check every night": Recipe(".24o", "", "^archive/"),
+    "A nightly check of observation files": Recipe(".24o", "", "^archive/"),
     "Do the files come back?": Recipe(".24o", ".24d.gz", "the messages say which"),
 }
 

@@ -147,16 +147,33 @@ class Printed(Installed):
         text = " ".join("".join((TOP / page).read_text() for page in ("README.md", "docs/USE.md")).split())
         self.assert_run(sorted(set(re.findall(r"`(rnxcmp [^`]*[>|][^`]*)`", text))), "pages")
 
+    def test_check_of_a_folder(self):
+        """The command of docs/FILES.md prints the lines that the page shows, over files that are good, cut, damaged and of version 1.0."""
+        text = (TOP / "docs/FILES.md").read_text().partition("\n## Check\n")[2].partition("\n## ")[0]
+        command, *shown = re.findall(r"^    (.*)$", text, re.M)
+        compact = subprocess.run([PROGRAM, "rnx2crx"], input=SAMPLE.read_bytes(), capture_output=True, check=True).stdout
+        lines = compact.split(b"\n")
+        damaged = b"\n".join([*lines[:39], b"x" + lines[39], *lines[40:]])
+        texts = {"abcd0010.24d": compact, "abcd0030.24d": damaged, "abcd0040.24d": compact[:-1], "efgh0010.96d": compact.replace(b"3.0 ", b"1.0 ", 1)}
+        (self.folder / "archive").mkdir()
+        for name, content in {**texts, "abcd0020.24d": compact}.items():
+            packed = gzip.compress(content)
+            (self.folder / f"archive/{name}.gz").write_bytes(packed if name in texts else packed[: len(packed) // 2])
+        done = self.run_in(["bash", "-c", command])
+        self.assertEqual((done.returncode, sorted(done.stderr.splitlines()), done.stdout.splitlines()), (1, shown[:-1], shown[-1:]))
+
     def test_python(self):
-        """The first lines of Python that a page shows run."""
+        """The lines of Python that begin with an import run, and print."""
         self.make_files("README")
         own = {**os.environ, "PYTHONPATH": str(self.prefix / "lib/rnxcmp")}
         for page in ("README.md", "docs/LIBRARY.md"):
             with self.subTest(page):
-                block = re.search(r"^    import rnxcmp\n(?:    .*\n)+", (TOP / page).read_text(), re.M)[0]
-                done = self.run_in([sys.executable, "-c", textwrap.dedent(block)], env=own)
-                self.assert_well(done)
-                self.assertTrue(done.stdout)
+                blocks = re.findall(r"^    import rnxcmp\n(?:    .*\n)+", (TOP / page).read_text(), re.M)
+                self.assertTrue(blocks)
+                for block in blocks:
+                    done = self.run_in([sys.executable, "-c", textwrap.dedent(block)], env=own)
+                    self.assert_well(done)
+                    self.assertTrue(done.stdout)
 
     def test_manual(self):
         examples = MANUAL.read_text().partition(".SH EXAMPLES")[2].partition(".SH COMING FROM")[0]

@@ -3,6 +3,7 @@ here, as test_build.py made them. With SLOW=1 also the release in roots of other
 files, of whose units random files are made, in place of the sample."""
 
 import os
+import re
 import shutil
 import subprocess
 import sys
@@ -17,11 +18,16 @@ from runner import PROGRAM, SAMPLE, TESTS, TOP, need, slow
 
 TEXTS = 60  # random files
 LOST = 3  # runs that may lose their messages under Wine, of some thousand
-# A batch file that calls the program by its other names, as users of RNXCMP have them: it goes on after each call.
-BATCH = """@echo off
+# A batch file that runs the loop of docs/USE.md, and calls the program by its other names, as users of RNXCMP have them: it goes on after
+# each call.
+LOOP = re.search(r"^    (for %%f .*)$", (TOP / "docs/USE.md").read_text(), re.M)[1]
+BATCH = f"""@echo off
 RNX2CRX a.24o
 for %%f in (b.24o c.24o) do RNX2CRX -e 2 %%f
 for %%f in (a b c) do CRX2RNX - %%f.24d > %%f.out
+del *.24d
+{LOOP}
+for %%f in (a b c) do if not exist %%f.24d exit /b 9
 """
 
 
@@ -74,7 +80,7 @@ class OfWindows:
     def test_names_in_a_batch_file(self):
         """The program under the names RNX2CRX.exe and CRX2RNX.exe, called by a batch file without `call`, also in a loop."""
         sample = SAMPLE.read_bytes()
-        for known in ("RNX2CRX", "CRX2RNX"):
+        for known in ("rnxcmp", "RNX2CRX", "CRX2RNX"):
             shutil.copy(self.machine.built / self.machine.program, self.folder / f"{known}.exe")
         for letter in "abc":
             (self.folder / f"{letter}.24o").write_bytes(sample)
