@@ -149,7 +149,7 @@ class Printed(Installed):
 
     def test_check_of_a_folder(self):
         """The command of docs/USE.md prints the lines that the page shows, over files that are good, cut, damaged and of version 1.0."""
-        text = (TOP / "docs/USE.md").read_text().partition("\n## Check many, packed or compact files\n")[2].partition("\n## ")[0]
+        text = (TOP / "docs/USE.md").read_text().partition("\n## Check many files\n")[2].partition("\n## ")[0]
         command, *shown = re.findall(r"^    (.*)$", text, re.M)
         compact = subprocess.run([PROGRAM, "rnx2crx"], input=SAMPLE.read_bytes(), capture_output=True, check=True).stdout
         lines = compact.split(b"\n")

@@ -73,6 +73,7 @@ def made_pages():
     wrong += [f"{it.path.name}: {it.name} isn't there" for it in book().shown if f"{in_source(it)}{it.text}\n" not in shown]
     wrong += [f"{it.path.name}: {it.name} isn't there" for it in book().functions.values() if " ".join(it.text.split()) not in " ".join(contracts.split())]
     wrong += [f"{name}: {it}" for name, text in texts.items() for it in re.findall(r".*(?:\*\*|\]\(|`|<em></em>).*", re.sub(NO_PROSE, "", text))]
+    wrong += [f"{name}: {it}" for name, text in texts.items() for it in re.findall(r"<td>.*\\\|.*", text)]
     linked = re.findall(r'href="CONTRACTS\.html#[\w.]*?(\w+)"><code>((?:\w+::)*(\w+))</code></a>', texts["GUARANTEES.html"])
     names = {it for name, clauses in cited("docs/GUARANTEES.md") for it in (name, *clauses)}
     wrong += [f"GUARANTEES.html: no link of {it}" for it in sorted(names - {name for place, name, last in linked if place == last})]

@@ -173,6 +173,10 @@ def far_and_once(program):
             wrong += [] if (found.line if found else 0) == line else [f"{found}, not line {line}"]
             wrong += [] if (sum(counts) <= path.stat().st_size) == once else [f"{sum(counts)} bytes were read of {path.stat().st_size}"]
             wrong += [] if line != 4833 or (found.field, found.columns) == ("observation C1C of G02", (4, 17)) else [f"{found}"]
+    whole = header + epochs * 30
+    end = whole.index(b"\n", 1 << 18)  # of the line across the border of two pieces
+    found = explain(whole[:end] + b" " + whole[end:])
+    wrong += [] if found.field == "end of the line" and found.text.endswith(b" ") else [f"{found}"]
     return wrong
 
 

@@ -107,6 +107,7 @@ OF_RINEX = (
     Kind("CR alone as line ends", lambda text: text.replace(b"\n", b"\r"), 1, 1, ("likely: the lines end in CR alone",)),
     Kind("CR alone in a short file", lambda text: text[:2000].replace(b"\n", b"\r"), 2, 7, ("likely: the lines end in CR alone",)),
     Kind("a count one too great", with_text(32, 33, b"  8"), 40, 19, ("likely: the epoch of line 32 announces 8 satellites and has 7 lines, as gpsrinex",)),
+    Kind("a count one too great after a power failure", with_text(32, 32, b"1  8"), 40, 19, ("the epoch of line 32 announces 8 satellites and has 7 lines",)),
     Kind("a count too great in the last epoch", with_text(184, 33, b"  9"), 192, 19, ("likely: the file is cut off here", "line 184 announces 9 satellites and has 7")),
     Kind("a count one too small", with_text(40, 33, b"  6"), 47, 10, ("likely: the epoch of line 40 announces 6 satellites, and more lines follow",), (1, 1)),
     Kind("a count of records one too great", lambda text: text + EVENT % (6, 2) + b"a record\n", 194, 19, ("likely: the file is cut off here",)),
@@ -150,6 +151,7 @@ OF_RINEX = (
     Kind("blanks at the end", inserted(33, 130, b"  "), 33, None, ("blanks are at the line's end",), (130, 131)),
     Kind("no digit before the point", with_text(32, 43, b" "), 32, None, ("the number has no digit before its point",), (42, 56)),
     Kind("a leading zero", with_text(33, 5, b"0"), 33, None, ("the number has a leading zero",), (4, 17)),
+    Kind("a leading zero after a minus", with_text(33, 4, b"      -012.345"), 33, None, ("the number has a leading zero",), (4, 17)),
     Kind("minus zero", with_text(32, 42, b"-0.000000000000"), 32, None, ("the number is zero with a sign",), (42, 56)),
 )
 

@@ -139,7 +139,7 @@ def quick_start(texts):
 
 
 def modules_of_the_folder(texts):
-    """Started as docs/FILES.md says, it imports nothing that is in the current folder; so does the installed command."""
+    """Started as docs/LIBRARY.md says, it imports nothing that is in the current folder; so does the installed command."""
     with Place() as place:
         for name in ("json", "argparse", "re", "ctypes"):
             place.write(f"{name}.py", b"import os\nos.write(2, b'of this folder')\n")
@@ -151,7 +151,7 @@ def modules_of_the_folder(texts):
                 words = [sys.executable, "-IB", "-c", script, module, "rnx2crx", "--json", name]
                 run = subprocess.run(words, cwd=place.work, env=ENVIRONMENT, capture_output=True, text=True, timeout=SECONDS)
                 wrong += differs(run, int(name != "a.rnx"), errors=["none.rnx: ERROR: "] if name != "a.rnx" else ())
-    page, tool = (TOP / "docs/FILES.md").read_text(), (TOP / "packaging/bin/rnxcmp-file").read_text()
+    page, tool = (TOP / "docs/LIBRARY.md").read_text(), (TOP / "packaging/bin/rnxcmp-file").read_text()
     right = "`python3 -I -m rnxcmp.files`" in page and "-m rnxcmp.files" not in page.replace("-I -m", "") and tool.startswith("#!/usr/bin/env -S python3 -IS\n")
     return wrong + ([] if right else ["it is started otherwise"])
 

@@ -117,6 +117,7 @@ def lists(texts):
     names = {"a b.rnx": GOOD, "c\nd.rnx": GOOD, "one": b"a b.rnx\0", "two": b"c\nd.rnx\0a b.rnx\0", "none": b""}
     yield row(names, "rnx2crx -q --inputs one --inputs two --verified-to list", 0, "3 files: 2 made, 0 replaced, 1 there already", (), ("a b.crx", "c\nd.crx", "list"), ["a b.rnx", "c\nd.rnx"])
     yield row(names, "rnx2crx --inputs none", 0, "0 files: 0 made")
+    yield row({"\udcff.rnx": GOOD, "one": b"\xff.rnx\0"}, "rnx2crx --verified-to list --inputs one", 0, "verified exact", (), ("\udcff.crx", "list"), ["\udcff.rnx"])
     yield row({f"{LONG}.rnx": GOOD}, f"rnx2crx --verified-to {LONG}list {LONG}.rnx", 0, "verified exact", (), (f"{LONG}.crx", f"{LONG}list"))
     yield row({f"{LONG}.rnx": GOOD}, f"rnx2crx --gzip {LONG}.rnx", 1, (), f"cannot look at {LONG}.crx.gz: File name too long\n")
     yield row({f"{LONG}.rnx": GOOD}, f"rnx2crx --verified-to {LONG}listlist {LONG}.rnx", 1, (), "File name too long\n", (f"{LONG}.crx",))
@@ -169,6 +170,8 @@ def links(texts):
     """An input may be a link; an output that is a link is followed to be compared, and is itself replaced by -f."""
     far = {"far": FOLDER, "far/a.rnx": GOOD, "far/a.crx": texts.plain_compact, "far/b.crx": texts.filtered(marked(GOOD, 5), "rnx2crx"), "soft.rnx": "far/a.rnx"}
     yield row(far, "rnx2crx --verified-to list soft.rnx", 0, "made soft.crx, verified exact", (), ("soft.crx", "list"), ["soft.rnx"])
+    deep = {"far": FOLDER, "far/in": FOLDER, "far/a.rnx": GOOD, "link": "far/in"}
+    yield row(deep, "rnx2crx --verified-to list -o b.crx link/../a.rnx", 0, "made b.crx, verified exact", (), ("b.crx", "list"), ["link/../a.rnx"])
     yield row({**far, "soft.crx": "far/a.crx"}, "rnx2crx --verify soft.rnx", 0, "soft.crx is there already, verified exact")
     yield row({**far, "soft.crx": "nothing"}, "rnx2crx --new soft.rnx", 0, "soft.crx is there already, passed over")
     for target, status in (("far/b.crx", 0), ("far/a.rnx", 1), ("nothing", 0)):
@@ -211,6 +214,8 @@ def archives(texts):
         json = ['"input": "a.crx", "state": "good", ', '"compact": true, "format": "3.05", "epochs": 20, "events": 0,', '"standard": true', '"input": "bad.rnx", "state": "error", ', '"line": 1, "code": 3', '"input": "p.rnx"', '"standard": false']
         yield row(bad, f"check {words} --json a.crx bad.rnx p.rnx", 1, json, said[0])
         yield row(bad, f"check {words} --json c.rnx", 2, ['"state": "cut off"', '"may_be_cut_off": true'], said[1])
+    members = gzip.compress(texts.plain_compact[:40]) + gzip.compress(texts.plain_compact[40:])
+    yield row({"a.crx.gz": members}, "check -q a.crx.gz")
     deep = {"in": FOLDER, "in/d": FOLDER, "in/d/a.rnx": GOOD, "in/b.rnx": marked(GOOD, 2), "in/s.rnx": STRANGE, "in/bad.rnx": b"x\n"}
     made = ("out", "out/d", "out/d/a.crx.gz", "out/b.crx.gz", "list")
     for words in ("", "-j 2", "-j"):

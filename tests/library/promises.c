@@ -128,6 +128,9 @@ static void check_choices(void) {
     options.skip = 256;
     EXPECT(filled(0, strange, &options) == RNXCMP_WARNINGS && holds_text(messages, warning_of_strange) && holds_text(output, before_strange));
     EXPECT(is(RNXCMP_WARNINGS, 0, 0, strlen(before_strange), strlen(warning_of_strange)));
+    rnxcmp_handle handle = RNXCMP_CLOSED;
+    EXPECT(rnxcmp_open_compact(&handle, &options, NULL) == 0 && rnxcmp_feed(&handle, strange, strlen(strange), &used, &answer) == RNXCMP_GOOD);
+    rnxcmp_close(&handle);
     options = dated(DATE);
     options.every = 1;
     EXPECT(filled(0, rinex, &options) == RNXCMP_GOOD && holds_text(output, FIRST_LINES(DATE "     ") HEADER COMPACT_FIRST SECOND_IN_FULL));

@@ -425,6 +425,7 @@ class Files(Package):
                 self.assertEqual((rnxcmp.decompress(path), rnxcmp.decompress(content)), (DATA, DATA))
                 target = rnxcmp.decompress_on_disk(path)
                 self.assertEqual((target.name, target.read_bytes(), path.read_bytes()), (made, DATA, content))
+        self.assertEqual(rnxcmp.decompress(packed_by_compress(b"note\n")), b"note\n")
         for name, made in (("abcd0010.24o", "abcd0010.24d.gz"), ("b.rnx", "b.crx.gz")):
             target = rnxcmp.compress_on_disk(self.folder / name)
             self.assertEqual((target.name, rnxcmp.decompress(target)), (made, DATA))
@@ -470,7 +471,8 @@ class Opened(Package):
         gc.collect()  # an error of an earlier call may keep a file open
         descriptors = len(os.listdir("/proc/self/fd"))
         crlf = DATA.replace(b"\n", b"\r\n", 3)
-        for form, content in (("rnx", DATA), ("crx", COMPACT), ("crlf", crlf), ("note", b"no RINEX\n"), ("empty", b"")):
+        two = DATA.replace(b"\n", b"\r\r\n", 3)
+        for form, content in (("rnx", DATA), ("crx", COMPACT), ("crlf", crlf), ("two CRs", two), ("note", b"no RINEX\n"), ("empty", b"")):
             for ending, pack in (("", bytes), (".gz", gzip.compress), (".Z", packed_by_compress)):
                 with self.subTest(form, ending=ending):
                     path = self.folder / f"{form}{ending}"

@@ -79,6 +79,9 @@ class Installed(Made):
         for words, folder in ((["-I"], self.folder), ([], target)):
             done = subprocess.run([self.python, *words, "-m", "rnxcmp", "--version"], cwd=folder, capture_output=True, text=True, timeout=SECONDS)
             self.assertEqual((done.returncode, done.stdout, done.stderr), (0, f"rnxcmp-file {VERSION}\n", ""))
+        own = {**os.environ, "RNXCMP_LIBRARY": "/none"}
+        done = subprocess.run([self.python, "-m", "rnxcmp", "--version"], env=own, capture_output=True, text=True, timeout=SECONDS)
+        self.assertIn("/none", done.stderr)
 
     def test_example(self):
         assert_example(self, [self.python, TOP / "examples/compact.py"])

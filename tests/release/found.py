@@ -26,7 +26,11 @@ target_link_libraries(static rnxcmp::static)
 def check_sums(root, doc=None):
     """Each file below a folder stands in its list of parts with its sum, and nothing else does."""
     path = (doc or root / "share/doc/rnxcmp") / "parts.spdx.json"
-    listed = {file["fileName"][2:]: file["checksums"][1]["checksumValue"] for file in json.loads(path.read_text())["files"]}
+    parts = json.loads(path.read_text())
+    listed = {file["fileName"][2:]: file["checksums"][1]["checksumValue"] for file in parts["files"]}
+    code = hashlib.sha1("".join(sorted(file["checksums"][0]["checksumValue"] for file in parts["files"])).encode()).hexdigest()
+    if parts["packages"][0]["packageVerificationCode"]["packageVerificationCodeValue"] != code:
+        return ["the list of parts has another verification code"]
     there = [it for it in root.rglob("*") if it.is_file() and not it.is_symlink() and it != path and "DEBIAN" not in it.parts]
     found = {str(it.relative_to(root)): hashlib.sha256(it.read_bytes()).hexdigest() for it in there}
     return [f"the list of parts: {name}" for name in sorted(set(listed) ^ set(found) | {name for name in listed if found.get(name) != listed[name]})][:10]

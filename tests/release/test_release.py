@@ -141,7 +141,7 @@ def check_archive(prefix):
     wrong = check_sums(prefix) + check_unpacked(prefix, ["LICENSE-MIT", "LICENSE-APACHE", *DOCUMENTS, *PAGES])
     suite, program = prefix / "share/doc/rnxcmp/conformance", prefix / "bin/rnxcmp"
     words = ["--compact", f"{program} rnx2crx", "--expand", f"{program} crx2rnx", "--profile", "cases.json"]
-    run = subprocess.run([sys.executable, suite / "conform.py", *words], cwd=suite, capture_output=True, text=True, timeout=SECONDS)
+    run = subprocess.run([suite / "conform.py", *words], cwd=suite, capture_output=True, text=True, timeout=SECONDS)
     return wrong + ([] if run.returncode == 0 and " 0 differ" in run.stdout else [f"the suite: status {run.returncode}, {run.stdout[-300:]}{run.stderr[-300:]}"])
 
 
