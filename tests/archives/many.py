@@ -192,13 +192,13 @@ class Run:
     def __init__(self, block, work, tools, home=None):
         self.said = work.parent / "said"
         self.work = work
-        environment = {**os.environ, "PATH": f"{tools}:{os.environ['PATH']}", "HOME": str(home or work), "LC_ALL": "C.UTF-8"}
+        own = {"PATH": f"{tools}:{os.environ['PATH']}", "HOME": str(home or work), "TMPDIR": str(home or work), "LC_ALL": "C.UTF-8"}
         command = ["sh", "-c", block]
         if os.geteuid() == 0 and not home:
             command = ["setpriv", f"--reuid={NOBODY}", f"--regid={NOBODY}", "--clear-groups", *command]
         with self.said.open("wb") as said:
             streams = {"stdout": said, "stderr": subprocess.STDOUT, "stdin": subprocess.DEVNULL}
-            self.process = subprocess.Popen(command, cwd=work, env=environment, start_new_session=True, **streams)
+            self.process = subprocess.Popen(command, cwd=work, env={**os.environ, **own}, start_new_session=True, **streams)
 
     def members(self):
         """The processes of its session."""
